@@ -57,7 +57,7 @@ fresh; printf 'echo "1 passed, 0 failed"\necho more\n' >tests/test_s.sh; gate 't
 fresh; echo ':' >tests/test_s.sh; gate 'silent test' 1 '9 passed, 1 failed'
 fresh; echo 'echo "0 passed, 0 failed"' >tests/test_s.sh; gate 'no test run' 1 '9 passed, 1 failed'
 fresh; printf 'printf "1 passed, 0 failed"\necho late >&2\n' >tests/test_s.sh; gate 'no line end, and a late word on standard error' 0 '10 passed, 0 failed'
-fresh; echo 'int main(void) { int unused; return 0; }' >tests/test_c.c; gate 'a warning of cc' 1 '7 passed, 1 failed'
+fresh; sed -i 's/{ puts/{ int unused; puts/' tests/test_c.c; gate 'a warning of cc' 1 '7 passed, 1 failed'
 fresh; rm tests/test_*; gate 'no host test' 0 '4 passed, 0 failed'
 fresh; echo '3 passed, 1 failed' >>stub/ci; echo 1 >stub/ci.status; gate 'an unproved crate' 1 '3 passed, 1 failed'; said 'host tests are not run'
 fresh; echo '3 passed, 1 failed' >>stub/ci; echo 1 >stub/ci.status; rm target/must-fail/one/a/.log; gate 'an edit not tried since its crate is unproved' 1 '3 passed, 1 failed'
