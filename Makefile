@@ -8,7 +8,7 @@ test:
 demo:
 	@grep -q '^listing:' crates.txt || { echo "demo: crates.txt lists no crate 'listing', the program that prints a sheet" >&2; exit 1; }
 	@mkdir -p build
-	@rt check listing >build/demo.log 2>&1 </dev/null || { cat build/demo.log; echo "demo: the program 'listing' could not be proved and built" >&2; exit 1; }
+	@rt check listing >build/demo.log 2>&1 </dev/null || { cat build/demo.log >&2; echo "demo: 'rt check listing' fails, as shown above" >&2; exit 1; }
 	@target/bin/listing <examples/example.sheet
 
 bench:
