@@ -1,0 +1,58 @@
+-- Sheets that are accepted, so that the rules are no empty ones: the paper's example, and two stripes of different layers, coders,
+-- resolutions and heights.
+-- Assumes nothing.
+use Prim.Native.Nat.{ℕ, _+_}
+use mathlib.Core.Path.{_≡_, refl}
+use mathlib.Core.List.{List, [], _∷_, _++_}
+use Rattle.sheet_rules.specs.declared.Record.{Record}
+use Rattle.sheet_rules.specs.declared.Verdict.{Verdict}
+use Rattle.sheet_rules.specs.declared.Verdict.the-variants.{Good, Bad}
+use Rattle.sheet_rules.specs.Record.{recordAt, encode, recordsFrom, records}
+use Rattle.sheet_rules.specs.Judge.{keeps, after, after1, after2, after3, stepOf, endOf, onStep, walk, judge, judgeOf}
+use Rattle.octets.specs.Octets.{be16At, be32At}
+
+-- 01, "A listing": a four by two page, only its mask coded
+pub example : List ℕ
+example =
+    0x00 ∷ 0x00 ∷ 0x01 ∷ 0x00 ∷ 0x00 ∷ 0x00 ∷ 0x00 ∷ 0x00 ∷ 0x00 ∷ 0x00 ∷ 0x00 ∷ 0x00 ∷ 0x00 ∷ 0xC8
+    ∷ 0xFF ∷ 0x80 ∷ 0x60 ∷ 0x00 ∷ 0x00 ∷ 0x00 ∷ 0x00 ∷ 0x00 ∷ 0x00 ∷ 0x00 ∷ 0x00 ∷ 0x00 ∷ 0x00 ∷ 0x00
+    ∷ 0x00 ∷ 0x00 ∷ 0x02 ∷ 0x04 ∷ 0x00 ∷ 0x00 ∷ 0x00 ∷ 0x00 ∷ 0x00 ∷ 0x04 ∷ 0x00 ∷ 0x02 ∷ 0x00 ∷ 0xC8
+    ∷ 0x00 ∷ 0x00 ∷ 0x00 ∷ 0x00 ∷ 0x00 ∷ 0x00 ∷ 0x00 ∷ 0x3C ∷ 0x00 ∷ 0x00 ∷ 0x00 ∷ 0x05 ∷ 0x00 ∷ 0x00
+    ∷ 0x00 ∷ 0x00 ∷ 0x03 ∷ 0x00 ∷ 0x00 ∷ 0x00 ∷ 0x00 ∷ 0x00 ∷ 0x00 ∷ 0x00 ∷ 0x00 ∷ 0x00 ∷ 0x00 ∷ 0xC8
+    ∷ 0x00 ∷ 0x80 ∷ 0x60 ∷ 0x00 ∷ 0x00 ∷ 0x00 ∷ 0x00 ∷ 0x00 ∷ 0x00 ∷ 0x00 ∷ 0x00 ∷ 0x00 ∷ 0x00 ∷ 0x00 ∷ []
+
+pub example-accepted : judgeOf example ≡ Good 3 1
+unfolding judgeOf judge walk onStep stepOf keeps after after1 after2 after3 endOf records recordsFrom recordAt be16At be32At example
+example-accepted = refl
+
+-- a record of the two stripes: layer, coder, offsets, size, resolution, coded data
+layer : ℕ → ℕ → ℕ → ℕ → ℕ → ℕ → ℕ → ℕ → ℕ → ℕ → Record
+layer s l c x y w h res from n =
+    record {
+      stripe = s;
+      layer = l;
+      coder = c;
+      x = x;
+      y = y;
+      width = w;
+      height = h;
+      res = res;
+      base0 = 0;
+      base1 = 0;
+      base2 = 0;
+      octet17 = 0;
+      start = from;
+      len = n;
+      octets26 = 0;
+    }
+
+pub stripes : List Record
+unfolding layer
+stripes =
+    layer 0 1 1 3 5 40 70 200 100 50 ∷ layer 0 2 8 0 0 300 400 400 150 60 ∷ layer 0 3 0 0 0 0 0 400 0 0
+    ∷ layer 1 1 0 0 0 0 0 400 0 0 ∷ layer 1 2 0 0 0 300 7 400 0 0 ∷ layer 1 3 1 9 9 8 8 100 210 30
+    ∷ layer 1 4 1 2 2 10 10 400 240 5 ∷ layer 1 5 1 2 2 5 5 200 245 9 ∷ []
+
+pub stripes-accepted : judge stripes 0 ≡ Good 8 2
+unfolding judge walk onStep stepOf keeps after after1 after2 after3 endOf stripes
+stripes-accepted = refl

@@ -1,0 +1,14 @@
+pub mod Says
+pub mod New
+pub mod Among
+pub mod Agrees
+pub mod Forward
+pub mod Backward
+pub mod Fold
+pub mod Judged
+pub mod Rows
+pub mod Cut
+pub mod Alone
+pub mod Theorems
+pub mod Table
+pub mod Examples

@@ -1,0 +1,130 @@
+-- What is proved of the rules of the sheet. The statements are for the reader; how each is shown stands in the files beside this one.
+-- Assumes nothing.
+use Prim.Native.Nat.{ℕ, _+_, _-_, _*_, _/_, _%_, _≤_, _<_, min}
+use native.Mathlib.Omega.{arith}
+use native.Mathlib.Nat.{min-eq-left}
+use mathlib.Core.Path.{_≡_, refl, sym, ap, ap₂, subst, subst₂, _∙_}
+use mathlib.Core.Logic.{_↔_, _⊎_, inl, inr, _≢_, ⊎-elim}
+use mathlib.Core.Bool.{Bool, true, false, cond}
+use mathlib.Core.List.{List, [], _∷_, _++_}
+use lib.ListN.{length, take, length-take}
+use lib.Seq.{length-take-le}
+use lib.Dec.{eqb}
+use borrow.Author.Tests.{eq-eqb, ne-eqb}
+use Rattle.sheet_rules.specs.declared.Record.{Record}
+use Rattle.sheet_rules.specs.declared.State.{State}
+use Rattle.sheet_rules.specs.declared.Step.{Step}
+use Rattle.sheet_rules.specs.declared.Step.the-variants.{Next, Stop}
+use Rattle.sheet_rules.specs.declared.Verdict.{Verdict}
+use Rattle.sheet_rules.specs.declared.Verdict.the-variants.{Good, Bad}
+use Rattle.sheet_rules.specs.declared.Stripe.{Stripe}
+use Rattle.sheet_rules.specs.declared.FoundStripe.{FoundStripe}
+use Rattle.sheet_rules.specs.declared.FoundStripe.the-variants.{Row, NoStripe}
+use Rattle.sheet_rules.specs.Record.{recordSize, recordsFrom, records, rest, nth, heightIn, sumOf}
+use Rattle.sheet_rules.specs.Judge.{begin, run, walk, judge, judgeOf}
+use Rattle.sheet_rules.specs.Sentences.{Closing, Unbroken, Complete, Sheet, stripeCount, Breaks, StopsBadly, Fault, GoodSheet, BadSheetAt}
+use Rattle.sheet_rules.specs.Stripe.{rowOf, few, foundRow, findStripe}
+use Rattle.sheet_rules.proofs.Agrees.{Agrees}
+use Rattle.sheet_rules.proofs.Fold.{begun-unbroken, begun-holds, unbroken-begun, walk-stop}
+use Rattle.sheet_rules.proofs.Judged.{judge-answers, fault-once, fault-no-sheet}
+use Rattle.sheet_rules.proofs.Rows.{LayerCount, Rows, rows-begin, rows-more, first-next, top-next, first-none, top-none, first-mono}
+use Rattle.sheet_rules.proofs.Among.{nth-among}
+use Rattle.sheet_rules.proofs.Cut.{length-records, records-split, records-take}
+
+good-bad : {A : Type 0} {n m i : ℕ} → Good n m ≡ Bad i → A
+good-bad e = absurd (let z : _≡_ {A = ℕ} 0 1 = cc in omega arith)
+
+-- ---- the judge answers good exactly if the sentences hold, with the counts of records and stripes
+
+pub sheet-accepted : (s : List ℕ) (n m : ℕ) → judgeOf s ≡ Good n m ↔ GoodSheet s n m
+unfolding judgeOf
+sheet-accepted s n m = (
+  judge-answers (records s) (rest s) (λ v. v ≡ Good n m → GoodSheet s n m)
+      (λ k z e. record { sheet = k; whole = z; count = cc; stripes = cc })
+      (λ i f e. good-bad (sym e)),
+  λ g.
+      judge-answers (records s) (rest s) (λ v. v ≡ Good n m)
+      (λ k z. ap₂ Good (sym (g .count)) (sym (g .stripes)))
+      (λ i f. absurd (fault-no-sheet (records s) (rest s) i f (g .sheet) (g .whole))),
+)
+
+-- ---- and otherwise the record at fault: the first that, with those before it, breaks a rule, or the one that was due
+
+pub sheet-refused : (s : List ℕ) (i : ℕ) → judgeOf s ≡ Bad i ↔ BadSheetAt s i
+unfolding judgeOf
+sheet-refused s i = (
+  judge-answers (records s) (rest s) (λ v. v ≡ Bad i → BadSheetAt s i)
+      (λ k z e. good-bad e)
+      (λ j f e. let z : j ≡ i = cc in subst (BadSheetAt s) z f),
+  λ f.
+      judge-answers (records s) (rest s) (λ v. v ≡ Bad i)
+      (λ k z. absurd (fault-no-sheet (records s) (rest s) i f k z))
+      (λ j d. ap Bad (fault-once (records s) (rest s) j i d f)),
+)
+
+-- ---- at most 64 stripes and 960 records, and nothing but whole records
+
+pub unbroken-few : (rs : List Record) → Unbroken rs → length rs ≤ 960
+unbroken-few rs u =
+    let b = unbroken-begun rs u in
+    let g = begun-unbroken rs (b .0) (b .1) .1 in
+    let k = g .bound in
+    let c = g .count in
+    omega arith
+
+pub sheet-few : (s : List ℕ) (n m : ℕ) → judgeOf s ≡ Good n m
+    → (n ≤ 960) × (1 ≤ m) × (m ≤ 64) × (length s ≡ n * recordSize)
+unfolding records
+sheet-few s n m e =
+    let g = sheet-accepted s n m .0 e in
+    let u = g .sheet .unbroken in
+    let f = unbroken-few (records s) u in
+    let l = length-records s (length s / recordSize) 0 in
+    let c = g .sheet .complete .count in
+    let k = u .few (nth (records s) (length (records s) - 1)) (nth-among (records s) (length (records s) - 1) (omega arith)) in
+    let w = g .whole in
+    let h = g .count in
+    let st = g .stripes in
+    (omega arith, omega arith, omega arith, omega arith)
+
+-- a record at fault is one of the first 960, or the one due behind them
+pub refused-few : (s : List ℕ) (i : ℕ) → judgeOf s ≡ Bad i → (i ≤ 960) × (i ≤ length s / recordSize)
+unfolding records
+refused-few s i e = go (sheet-refused s i .0 e)
+  where
+    go : Fault (records s) (rest s) i → (i ≤ 960) × (i ≤ length s / recordSize)
+    go (inl b) =
+        let f = unbroken-few (take i (records s)) (b .before) in
+        let w = b .within in
+        let t = length-take-le i (records s) (omega arith) in
+        let l = length-records s (length s / recordSize) 0 in
+        (omega arith, omega arith)
+    go (inr b) =
+        let f = unbroken-few (records s) (b .before) in
+        let l = length-records s (length s / recordSize) 0 in
+        let d = b .due in
+        (omega arith, omega arith)
+
+-- ---- the judge of the first 26,908 octets is the judge of all where there are more
+
+judge-front : (ps qs : List Record) (part part′ : ℕ) → 960 < length ps → judge (ps ++ qs) part ≡ judge ps part′
+unfolding judge
+judge-front ps qs part part′ h = go (run begin ps) refl
+  where
+    go : (x : Step) → run begin ps ≡ x → walk begin 0 (ps ++ qs) part ≡ walk begin 0 ps part′
+    go (Next t) e = let f = unbroken-few ps (begun-unbroken ps t e .0) in absurd (omega arith)
+    go Stop e = walk-stop begin 0 ps qs part part′ e
+
+pub sheet-cut : (s : List ℕ) → 26908 ≤ length s → judgeOf (take 26908 s) ≡ judgeOf s
+unfolding judgeOf records
+sheet-cut s h =
+    let l = length-take-le 26908 s h in
+    let a : length (take 26908 s) / recordSize ≡ 961 = omega arith in
+    let m : ℕ = length s / recordSize - 961 in
+    let b : length s / recordSize ≡ 961 + m = omega arith in
+    let c = length-records s 961 0 in
+    ap (λ (k : ℕ). judge (recordsFrom (take 26908 s) k 0) (rest (take 26908 s))) a
+    ∙ ap (λ (x : List Record). judge x (rest (take 26908 s))) (records-take 26908 s 961 (omega arith))
+    ∙ sym (judge-front (recordsFrom s 961 0) (recordsFrom s m (0 + 961)) (rest s) (rest (take 26908 s)) (omega arith))
+    ∙ ap (λ (x : List Record). judge x (rest s)) (sym (records-split s 961 m 0))
+    ∙ ap (λ (k : ℕ). judge (recordsFrom s k 0) (rest s)) (sym b)

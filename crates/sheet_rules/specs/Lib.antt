@@ -1,0 +1,4 @@
+pub mod Record
+pub mod Judge
+pub mod Sentences
+pub mod Stripe

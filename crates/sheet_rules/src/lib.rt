@@ -1,0 +1,76 @@
+// The types of the sheet and of its judge. The rules stand in specs/, the theorems about them in proofs/Theorems.antt.
+
+// How many octets a record has.
+pub const RECORD_SIZE: usize = 28;
+
+// A record: the paper's table, field by field.
+pub struct Record {
+    pub stripe: u16,
+    pub layer: u8,
+    pub coder: u8,
+    // from the stripe's corner, in main mask pixels
+    pub x: u16,
+    pub y: u16,
+    // in the layer's own samples
+    pub width: u16,
+    pub height: u16,
+    pub res: u16,
+    pub base0: u8,
+    pub base1: u8,
+    pub base2: u8,
+    pub octet17: u8,
+    // of the coded data
+    pub start: u32,
+    pub len: u32,
+    pub octets26: u16,
+}
+
+// What of the records passed the next one is judged by.
+pub struct State {
+    // of the last record; layer 0 before the first
+    pub stripe: u16,
+    pub layer: u8,
+    // of this stripe's layers 1 and 2, as far as they were passed
+    pub coded1: bool,
+    pub coded2: bool,
+    pub res1: u16,
+    // of the last layer 2
+    pub main: u16,
+    pub width: u16,
+    // how much of the page's height is left
+    pub left: u16,
+}
+
+// What one record does to the state.
+pub enum Step {
+    Next(State),
+    Stop,
+}
+
+// What a sheet is judged to be: good with its counts, or the record at fault.
+pub enum Verdict {
+    Good { records: usize, stripes: usize },
+    Bad { record: usize },
+}
+
+// A row of the stripe table.
+pub struct Stripe {
+    // its first record and how many it has
+    pub first: u32,
+    pub layers: u32,
+    // its first line in the page and how many lines it has
+    pub top: u32,
+    pub height: u32,
+}
+
+// A stripe that was looked for: its row.
+pub enum FoundStripe {
+    Row(Stripe),
+    NoStripe,
+}
+
+// A layer that was looked for: the number of its record.
+pub enum FoundLayer {
+    At(usize),
+    NoLayer,
+}
