@@ -1,0 +1,18 @@
+use borrow.Author.Needs.{needs}
+use Rattle.record_tests.proofs.data_ok.Statement.{statement}
+use Rattle.record_tests.proofs.data_ok.Tie as tie
+
+is-coded-requires : tie.Need-is-coded-requires
+is-coded-requires c κs = search needs
+
+coded-ok-requires : tie.Need-coded-ok-requires
+coded-ok-requires c κs = search needs
+
+uncoded-ok-requires : tie.Need-uncoded-ok-requires
+uncoded-ok-requires c κs = search needs
+
+returns : tie.Need-returns
+returns c = cc
+
+pub data-ok-spec : {M : Type 1} → statement M
+data-ok-spec = tie.close (tie.spec is-coded-requires coded-ok-requires uncoded-ok-requires returns)

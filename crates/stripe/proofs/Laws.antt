@@ -1,0 +1,112 @@
+-- One law for each way out of the functions that find a stripe and a layer: its premises are what is known there.
+-- Assumes nothing.
+use mathlib.Core.Path.{_≡_, refl, sym, ap, ap₂, _∙_}
+use Prim.Native.Nat.{ℕ, _+_, _-_, _*_, _/_, _≤_, _<_, min}
+use native.Mathlib.Omega.{arith}
+use mathlib.Core.Bool.{Bool, true, false, _&&_, cond}
+use mathlib.Core.List.{List, []}
+use lib.ListN.{length}
+use lib.Dec.{eqb, ltb, leb}
+use borrow.Author.Tests.{eq-eqb, ne-eqb, le-leb, lt-leb}
+use borrow.Author.Needs.{needs}
+use Rattle.sheet_rules.specs.declared.Record.{Record}
+use Rattle.sheet_rules.specs.declared.Stripe.{Stripe}
+use Rattle.sheet_rules.specs.declared.FoundStripe.{FoundStripe}
+use Rattle.sheet_rules.specs.declared.FoundStripe.the-variants.{Row, NoStripe}
+use Rattle.sheet_rules.specs.declared.FoundLayer.{FoundLayer}
+use Rattle.sheet_rules.specs.declared.FoundLayer.the-variants.{At, NoLayer}
+use Rattle.sheet_rules.specs.Record.{recordSize, recordAt, recordsFrom, only, heightIn}
+use Rattle.sheet_rules.specs.Stripe.{rowOf, withRecord, few, foundRow, findStripe, findLayer}
+use Rattle.sheet_rules.proofs.Cut.{records-one-more}
+use Rattle.sheet_rules.proofs.Table.{row-none, row-more}
+
+-- ---- a layer of a stripe
+
+module _ (row : Stripe) (l : ℕ) where
+  pub layer-zero : l ≡ 0 → NoLayer ≡ findLayer row l
+  unfolding findLayer
+  layer-zero e = simp (lt-leb 1 l (omega arith))
+
+  pub layer-past : row .layers < l → NoLayer ≡ findLayer row l
+  unfolding findLayer
+  layer-past h = simp (lt-leb l (row .layers) h, and-no (leb 1 l))
+    where
+      and-no : (b : Bool) → b && false ≡ false
+      and-no true = refl
+      and-no false = refl
+
+  pub layer-at : (l ≡ 0 → ⊥) → l ≤ row .layers → At (row .first + (l - 1)) ≡ findLayer row l
+  unfolding findLayer
+  layer-at d h = simp (le-leb 1 l (omega arith), le-leb l (row .layers) h)
+
+-- ---- a row that has records, and one that has none
+
+module _ (row : Stripe) where
+  pub row-missing : row .layers ≡ 0 → NoStripe ≡ foundRow row
+  unfolding foundRow
+  row-missing e = simp (eq-eqb (row .layers) 0 e)
+
+  pub row-there : (row .layers ≡ 0 → ⊥) → Row row ≡ foundRow row
+  unfolding foundRow
+  row-there d = simp (ne-eqb (row .layers) 0 d)
+
+module _ (r : Record) where
+  pub height-two : r .layer ≡ 2 → r .height ≡ heightIn r
+  height-two e = simp (eq-eqb (r .layer) 2 e)
+
+  pub height-else : (r .layer ≡ 2 → ⊥) → 0 ≡ heightIn r
+  height-else d = simp (ne-eqb (r .layer) 2 d)
+
+-- ---- the loop over the records
+
+-- the row of the first i records, each of which adds little
+pub record Counted (s : List ℕ) (k i : ℕ) (row : Stripe) : Type 0 where
+  pub row-is : row ≡ rowOf k (recordsFrom s i 0)
+  pub first : row .first ≤ i
+  pub layers : row .layers ≤ i
+  pub top : row .top ≤ i * 65535
+  pub height : row .height ≤ i * 65535
+
+pub counted-begin : (s : List ℕ) (k : ℕ) → Counted s k 0 (record { first = 0; layers = 0; top = 0; height = 0 })
+unfolding recordsFrom
+counted-begin s k = record { row-is = sym (row-none k); first = omega arith; layers = omega arith; top = omega arith; height = omega arith }
+
+only-most : (b : Bool) (n m : ℕ) → n ≤ m → only b n ≤ m
+only-most true n m h = h
+only-most false n m h = omega arith
+
+pub counted-more : (s : List ℕ) (k i : ℕ) (row t : Stripe) (r : Record) → Counted s k i row → r ≡ recordAt s i → r .height < 65536
+    → t ≡ withRecord k row r → Counted s k (i + 1) t
+unfolding withRecord
+counted-more s k i row t r c e h q =
+    let z : heightIn r ≤ 65535 = only-most (eqb (r .layer) 2) (r .height) 65535 (omega arith) in
+    let a = only-most (ltb (r .stripe) k) 1 1 (omega arith) in
+    let b = only-most (eqb (r .stripe) k) 1 1 (omega arith) in
+    let d = only-most (ltb (r .stripe) k) (heightIn r) 65535 z in
+    let g = only-most (eqb (r .stripe) k) (heightIn r) 65535 z in
+    let f0 = ap (λ (x : Stripe). x .first) q in
+    let f1 = ap (λ (x : Stripe). x .layers) q in
+    let f2 = ap (λ (x : Stripe). x .top) q in
+    let f3 = ap (λ (x : Stripe). x .height) q in
+    let m = c .first in
+    let n = c .layers in
+    let o = c .top in
+    let p = c .height in
+    record {
+      row-is =
+          q ∙ ap₂ (withRecord k) (c .row-is) e
+          ∙ sym (ap (rowOf k) (records-one-more s i) ∙ row-more k (recordsFrom s i 0) (recordAt s i));
+      first = omega arith;
+      layers = omega arith;
+      top = omega arith;
+      height = omega arith;
+    }
+
+pub counted-end : (s : List ℕ) (k n i : ℕ) (row : Stripe) (f : FoundStripe) → n ≡ min (length s / recordSize) 960 → Counted s k i row → i ≤ n → n ≤ i
+    → f ≡ foundRow row → f ≡ findStripe s k
+unfolding findStripe few
+counted-end s k n i row f e c h g q =
+    let z : i ≡ min (length s / recordSize) 960 = omega arith in
+    q ∙ ap foundRow (c .row-is) ∙ ap (λ (m : ℕ). foundRow (rowOf k (recordsFrom s m 0))) z
+
+pub ruleset finding = (needs, layer-zero, layer-past, layer-at, row-missing, row-there, height-two, height-else, counted-begin, counted-more, counted-end)
