@@ -1,0 +1,59 @@
+// Reads a sheet from standard input and writes a line a record, or `refused 14 ` and the record at fault.
+//
+// No more than 26,908 octets are read: the judge of so many is the judge of all (`sheet-cut` of `sheet_rules`), so an
+// input of any length, endless too, is answered.
+use libc::STDIN_FILENO;
+use libc::STDOUT_FILENO;
+use sheet_rules::RECORD_SIZE;
+use sheet_rules::Record;
+
+fn main() {
+    let mut buffer = [0u8; 26908];
+    let n = io::read_full(STDIN_FILENO, &mut buffer);
+    list(&buffer[..n]);
+}
+
+fn list(sheet: &[u8]) {
+    let answer = report::reported(sheet::sheet_answer(sheet));
+    if answer.number == 0 {
+        list_records(sheet);
+    } else {
+        io::write_all(STDOUT_FILENO, b"refused ");
+        put_number(answer.number, b" ");
+        put_number(answer.place, b"\n");
+    }
+}
+
+fn list_records(sheet: &[u8]) {
+    let n = sheet.len() / RECORD_SIZE;
+    let mut i: usize = 0;
+    while i < n {
+        if put_line(record::record_at(sheet, i)) {
+            i += 1;
+        } else {
+            return;
+        }
+    }
+}
+
+// Answers whether the line could be written: nobody is told of a reader that went away, and the listing stops.
+fn put_line(r: Record) -> bool {
+    put_number(r.stripe as u32, b" ");
+    put_number(r.layer as u32, b" ");
+    put_number(r.coder as u32, b" ");
+    put_number(r.x as u32, b" ");
+    put_number(r.y as u32, b" ");
+    put_number(r.width as u32, b" ");
+    put_number(r.height as u32, b" ");
+    put_number(r.res as u32, b" ");
+    put_number(r.base0 as u32, b" ");
+    put_number(r.base1 as u32, b" ");
+    put_number(r.base2 as u32, b" ");
+    put_number(r.start, b" ");
+    put_number(r.len, b"\n")
+}
+
+fn put_number(n: u32, behind: &[u8]) -> bool {
+    io::print_decimal(STDOUT_FILENO, n as u64);
+    io::write_all(STDOUT_FILENO, behind)
+}
