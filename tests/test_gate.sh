@@ -65,6 +65,8 @@ fresh; echo 1 >stub/ci.status; gate 'rt ends badly' 1 '4 passed, 1 failed'
 fresh; echo 'rt: broken' >stub/ci; echo 2 >stub/ci.status; gate 'rt without tally' 1 '0 passed, 1 failed'
 fresh; echo 1 >stub/fmt.status; gate 'bad layout' 1 '10 passed, 1 failed'; said 'FAILED rt fmt --check: badly laid out'
 fresh; printf 'note\nx.antt:1:1: error: the module has no `Need-returns-3`\n' >target/must-fail/one/a/.log; gate 'an edit that unfits its proof' 1 '10 passed, 1 failed'; said 'one/a is refused only because'
+fresh; printf 'x.antt:1:1: error: `f-spec`: expected type `tie.Need-returns`, but this has type `tie.Need-add`\n' >target/must-fail/one/a/.log; gate 'an edit that asks one need more' 1 '10 passed, 1 failed'; said 'one/a is refused only because'
+fresh; printf 'x.antt:1:1: error: `f`: `*` is not in scope\n' >target/must-fail/one/a/.log; gate 'an edit with a name that is not known' 1 '10 passed, 1 failed'; said 'one/a is refused only because'
 fresh; printf 'y.antt:1:1: error: has no `Need-b`\n' >>target/must-fail/one/a/.log; gate 'the same as a second error' 0 '10 passed, 0 failed'
 fresh; rm target/must-fail/one/a/.log; gate 'an edit that was not tried' 1 '10 passed, 1 failed'
 fresh; echo 'spirerook : one' >>crates.txt; echo 'int three(void); int three(void) { return 3; }' | cc -c -x c -o o.o - && ar rc stub/archive o.o
