@@ -1,4 +1,5 @@
-/* The listing program of the paper ("A listing"), over the reference. */
+/* The listing program of the paper ("A listing"), over the reference.  Given
+ * any argument, it also names on standard error the rule that was broken. */
 #include "sheet.h"
 
 #include <inttypes.h>
@@ -42,8 +43,9 @@ static void print_record(struct record r)
     }
 }
 
-int main(void)
+int main(int arguments, char **words)
 {
+    (void)words;
     size_t octets;
     uint8_t *sheet = read_all(&octets);
     if (sheet == NULL || ferror(stdin)) {
@@ -59,6 +61,9 @@ int main(void)
     } else {
         /* "or `refused 14 ` and the record's number from 0" */
         printf("refused %u %zu\n", answer.number, answer.place);
+        if (arguments > 1) {
+            fprintf(stderr, "%s\n", answer.rule);
+        }
     }
     free(sheet);
     return EXIT_SUCCESS;

@@ -313,26 +313,41 @@ static bool breaks_choice(const uint8_t *sheet, size_t i)
     return is_coded(layer_1) && is_coded(layer_3) && !is_coded(layer_2);
 }
 
-static bool breaks_a_rule(const uint8_t *sheet, size_t i)
+struct rule {
+    const char *name;
+    bool (*breaks)(const uint8_t *sheet, size_t i);
+};
+
+static const struct rule rules[] = {
+    {"order", breaks_order},
+    {"stripes", breaks_stripes},
+    {"layers", breaks_layers},
+    {"N", breaks_n},
+    {"zeros", breaks_zeros},
+    {"coded", breaks_coded},
+    {"uncoded", breaks_uncoded},
+    {"layer 2", breaks_layer_2},
+    {"same in all stripes", breaks_sameness},
+    {"resolution listed", breaks_listing_of_resolutions},
+    {"resolution matched", breaks_match_of_resolutions},
+    {"base colour", breaks_colour},
+    {"choice", breaks_choice},
+};
+
+/* A rule that records 0 to i break, or null. */
+static const char *broken_rule(const uint8_t *sheet, size_t i)
 {
-    return breaks_order(sheet, i) ||
-           breaks_stripes(sheet, i) ||
-           breaks_layers(sheet, i) ||
-           breaks_n(sheet, i) ||
-           breaks_zeros(sheet, i) ||
-           breaks_coded(sheet, i) ||
-           breaks_uncoded(sheet, i) ||
-           breaks_layer_2(sheet, i) ||
-           breaks_sameness(sheet, i) ||
-           breaks_listing_of_resolutions(sheet, i) ||
-           breaks_match_of_resolutions(sheet, i) ||
-           breaks_colour(sheet, i) ||
-           breaks_choice(sheet, i);
+    for (size_t k = 0; k < sizeof rules / sizeof rules[0]; k++) {
+        if (rules[k].breaks(sheet, i)) {
+            return rules[k].name;
+        }
+    }
+    return NULL;
 }
 
-static struct verdict refused_at(size_t place)
+static struct verdict refused_at(size_t place, const char *rule)
 {
-    struct verdict answer = {BAD_SHEET, place, 0, 0};
+    struct verdict answer = {BAD_SHEET, rule, place, 0, 0};
     return answer;
 }
 
@@ -341,23 +356,24 @@ struct verdict sheet_judge(const uint8_t *sheet, size_t octets)
     size_t whole = octets / RECORD_OCTETS;
     /* "The record is the first that, with those before it, breaks a rule" */
     for (size_t i = 0; i < whole; i++) {
-        if (breaks_a_rule(sheet, i)) {
-            return refused_at(i);
+        const char *rule = broken_rule(sheet, i);
+        if (rule != NULL) {
+            return refused_at(i, rule);
         }
     }
     /* "a part record ... is at the record where the next was due" */
     if (octets % RECORD_OCTETS != 0) {
-        return refused_at(whole);
+        return refused_at(whole, "part record");
     }
     /* "A sheet of no octets is refused": record 0 was due. */
     if (whole == 0) {
-        return refused_at(0);
+        return refused_at(0, "no octets");
     }
     /* "a stripe that stops badly, is at the record where the next was due" */
     uint32_t last_stripe = sheet_record(sheet, whole - 1).stripe;
     if (!is_good_n(records_of_stripe(sheet, whole, last_stripe))) {
-        return refused_at(whole);
+        return refused_at(whole, "stops badly");
     }
-    struct verdict answer = {DONE, 0, whole, (size_t)last_stripe + 1};
+    struct verdict answer = {DONE, NULL, 0, whole, (size_t)last_stripe + 1};
     return answer;
 }

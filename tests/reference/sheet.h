@@ -33,9 +33,12 @@ struct record {
 };
 
 /* The answer to a sheet: DONE with the records and stripes it has, or
- * BAD_SHEET with the number of the record at fault, from 0. */
+ * BAD_SHEET with the number of the record at fault, from 0.  `rule` names the
+ * rule that was broken, so that tests can count which ones they reach; where a
+ * record breaks several, it is one of them. */
 struct verdict {
     unsigned number;
+    const char *rule;
     size_t place;
     size_t records;
     size_t stripes;

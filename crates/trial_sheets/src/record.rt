@@ -115,7 +115,11 @@ pub fn one_record(s: &mut [u8], record: u64, layers: u64, all_coded: bool) {
 
 // The place of a record; 0 for a number that no sheet here has.
 pub fn place(record: u64) -> usize {
-    if record < 2000 { record as usize * 28 } else { 0 }
+    if record < 2000 {
+        record as usize * 28
+    } else {
+        0
+    }
 }
 
 fn layer_of(s: &[u8], record: u64) -> u8 {
