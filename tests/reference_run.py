@@ -9,13 +9,13 @@ WARNINGS = ["-std=c11", "-Wall", "-Wextra", "-Wpedantic", "-Werror"]
 SECONDS = 20
 
 
-def build(name="reference_list", sources=SOURCES, optimise="-O2"):
+def build(name="reference_list", sources=SOURCES, flags=("-O2",)):
     """Builds the listing over the reference into build/ and answers its path."""
     folder = os.path.join(ROOT, "build")
     os.makedirs(folder, exist_ok=True)
     program = os.path.join(folder, name)
     files = [os.path.join(sources, file) for file in ("sheet.c", "list.c")]
-    subprocess.run(["cc", *WARNINGS, optimise, "-I", sources, *files, "-o", program], check=True)
+    subprocess.run(["cc", *WARNINGS, *flags, "-I", sources, *files, "-o", program], check=True)
     return program
 
 

@@ -125,6 +125,23 @@ def change_coded(rng, sheet):
     return sheet
 
 
+def change_resolution(rng, sheet):
+    """Another listed resolution, where only divisors or sameness can break."""
+    if whole_records(sheet):
+        put(sheet, rng.randrange(whole_records(sheet)), "resolution", rng.choice(LISTED))
+    return sheet
+
+
+def next_stripe(sheet):
+    """The records of the last stripe once more, as the stripe behind it."""
+    last = get(sheet, whole_records(sheet) - 1, "stripe")
+    for k in range(whole_records(sheet)):
+        if get(sheet, k, "stripe") == last:
+            sheet = sheet + sheet[k * RECORD:(k + 1) * RECORD]
+            put(sheet, whole_records(sheet) - 1, "stripe", (last + 1) % 65536)
+    return sheet
+
+
 def cut(rng, sheet):
     if rng.random() < 0.5:
         return sheet[:rng.randint(0, len(sheet))]
@@ -151,18 +168,23 @@ def swap(rng, sheet):
 
 
 def extend(rng, sheet):
-    kind = rng.randrange(4)
+    kind = rng.randrange(6)
     if kind == 0:
         return sheet + bytes(rng.randint(1, 60))
     if kind == 1:
         return sheet + bytes(rng.randrange(256) for _ in range(rng.randint(1, 60)))
     if kind == 2:
         return sheet + sheet
-    return sheet + good_sheet(rng)
+    if kind == 3:
+        return sheet + good_sheet(rng)
+    if whole_records(sheet) and len(sheet) % RECORD == 0:
+        return next_stripe(sheet)
+    return sheet
 
 
 CHANGES = [change_octet, change_octet, change_field, change_field, change_field, change_field,
-           step_field, step_field, change_coded, cut, double, drop, swap, extend]
+           step_field, step_field, change_coded, change_coded, change_resolution,
+           change_resolution, cut, double, drop, swap, extend, extend]
 
 
 def damaged(rng, sheet):
