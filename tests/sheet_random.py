@@ -53,7 +53,7 @@ def good_sheet(rng, stripes=None, layers=None):
     """A sheet that keeps every rule."""
     page = (number(rng, 1, 32768), rng.choice(LISTED))
     if stripes is None:
-        stripes = rng.choice([1, 1, 2, 2, 3, 4, 6]) if rng.random() < 0.97 else rng.randint(60, 64)
+        stripes = rng.choice([1, 1, 2, 2, 3, 4, 6]) if rng.random() < 0.97 else rng.choice([63, 64, 64])
     sheet = bytearray()
     for stripe, height in enumerate(heights(rng, stripes)):
         choice = rng.choice(CHOICES)
@@ -104,7 +104,7 @@ def step_field(rng, sheet):
     """One more or one less, where rules of order and sameness break."""
     if whole_records(sheet):
         at = rng.randrange(whole_records(sheet))
-        field = rng.choice(["stripe", "layer", "width", "height", "start", "length"])
+        field = rng.choice(["stripe", "layer", "coder", "coder", "width", "height", "start", "length"])
         size = FIELDS[field][1]
         put(sheet, at, field, (get(sheet, at, field) + rng.choice([-1, 1])) % 256 ** size)
     return sheet
@@ -142,6 +142,15 @@ def next_stripe(sheet):
     return sheet
 
 
+def next_layers(sheet):
+    """The last two records once more, as the two layers above them."""
+    for _ in range(2):
+        sheet = sheet + sheet[-2 * RECORD:-RECORD]
+        layer = get(sheet, whole_records(sheet) - 1, "layer")
+        put(sheet, whole_records(sheet) - 1, "layer", (layer + 2) % 256)
+    return sheet
+
+
 def cut(rng, sheet):
     if rng.random() < 0.5:
         return sheet[:rng.randint(0, len(sheet))]
@@ -170,16 +179,16 @@ def swap(rng, sheet):
 def extend(rng, sheet):
     kind = rng.randrange(6)
     if kind == 0:
-        return sheet + bytes(rng.randint(1, 60))
+        return sheet + bytes(rng.choice([1, 27, 28, rng.randint(1, 60)]))
     if kind == 1:
         return sheet + bytes(rng.randrange(256) for _ in range(rng.randint(1, 60)))
     if kind == 2:
         return sheet + sheet
     if kind == 3:
         return sheet + good_sheet(rng)
-    if whole_records(sheet) and len(sheet) % RECORD == 0:
-        return next_stripe(sheet)
-    return sheet
+    if whole_records(sheet) < 2 or len(sheet) % RECORD != 0:
+        return sheet
+    return next_stripe(sheet) if kind == 4 else next_layers(sheet)
 
 
 CHANGES = [change_octet, change_octet, change_field, change_field, change_field, change_field,
@@ -189,6 +198,8 @@ CHANGES = [change_octet, change_octet, change_field, change_field, change_field,
 
 def damaged(rng, sheet):
     """The sheet after one to three changes; some leave it good."""
+    if whole_records(sheet) > 150 and rng.random() < 0.5:
+        return next_stripe(sheet)
     for _ in range(rng.choice([1, 1, 2, 3])):
         sheet = rng.choice(CHANGES)(rng, sheet)
     return sheet

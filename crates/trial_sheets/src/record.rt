@@ -1,4 +1,4 @@
-// Records in a lent buffer. Every helper tests its places itself, so that no caller owes it anything.
+// Records in a lent buffer. Every function tests its places itself, so that no caller owes it anything.
 
 fn put_octet(s: &mut [u8], record: u64, octet: u64, value: u64) {
     if record < 2000 {
