@@ -25,8 +25,8 @@ pub example-accepted : judgeOf example ≡ Good 3 1
 unfolding judgeOf judge walk onStep stepOf keeps after after1 after2 after3 endOf records recordsFrom recordAt be16At be32At example
 example-accepted = refl
 
--- a record of the two stripes: layer, coder, offsets, size, resolution, coded data
-layer : ℕ → ℕ → ℕ → ℕ → ℕ → ℕ → ℕ → ℕ → ℕ → ℕ → Record
+-- a record of these sheets: stripe, layer, coder, offsets, size, resolution, coded data
+pub layer : ℕ → ℕ → ℕ → ℕ → ℕ → ℕ → ℕ → ℕ → ℕ → ℕ → Record
 layer s l c x y w h res from n =
     record {
       stripe = s;
@@ -56,3 +56,33 @@ stripes =
 pub stripes-accepted : judge stripes 0 ≡ Good 8 2
 unfolding judge walk onStep stepOf keeps after after1 after2 after3 endOf stripes
 stripes-accepted = refl
+
+-- ---- the paper's exceptions, at their places
+
+-- layer 1 under 300 is no fault by itself; it is met at layer 2, whose 400 it does not divide, in stripe 0 and in a later one
+pub resolution-at-2 : judge (layer 0 1 1 0 0 5 5 300 9 9 ∷ layer 0 2 4 0 0 8 8 400 9 9 ∷ layer 0 3 0 0 0 0 0 400 0 0 ∷ []) 0 ≡ Bad 1
+unfolding judge walk onStep stepOf keeps after after1 after2 after3 endOf layer
+resolution-at-2 = refl
+
+pub resolution-at-2-later : judge (layer 0 1 0 0 0 0 0 400 0 0 ∷ layer 0 2 4 0 0 8 8 400 9 9 ∷ layer 0 3 0 0 0 0 0 400 0 0
+    ∷ layer 1 1 1 0 0 5 5 300 9 9 ∷ layer 1 2 4 0 0 8 8 400 9 9 ∷ layer 1 3 0 0 0 0 0 400 0 0 ∷ []) 0 ≡ Bad 4
+unfolding judge walk onStep stepOf keeps after after1 after2 after3 endOf layer
+resolution-at-2-later = refl
+
+-- the choice of coded layers 1 to 3 is met at layer 3: none, and 1 and 3 without 2
+pub choice-at-3 : judge (layer 0 1 0 0 0 0 0 400 0 0 ∷ layer 0 2 0 0 0 8 8 400 0 0 ∷ layer 0 3 0 0 0 0 0 400 0 0 ∷ []) 0 ≡ Bad 2
+unfolding judge walk onStep stepOf keeps after after1 after2 after3 endOf layer
+choice-at-3 = refl
+
+pub mask-at-3 : judge (layer 0 1 1 0 0 5 5 400 9 9 ∷ layer 0 2 0 0 0 8 8 400 0 0 ∷ layer 0 3 1 0 0 5 5 400 9 9 ∷ []) 0 ≡ Bad 2
+unfolding judge walk onStep stepOf keeps after after1 after2 after3 endOf layer
+mask-at-3 = refl
+
+-- a part record, and a stripe that stops at an even layer, are at the record that was due
+pub part-due : judge (layer 0 1 0 0 0 0 0 400 0 0 ∷ layer 0 2 4 0 0 8 8 400 9 9 ∷ layer 0 3 0 0 0 0 0 400 0 0 ∷ []) 27 ≡ Bad 3
+unfolding judge walk onStep stepOf keeps after after1 after2 after3 endOf layer
+part-due = refl
+
+pub even-due : judge (layer 0 1 0 0 0 0 0 400 0 0 ∷ layer 0 2 4 0 0 8 8 400 9 9 ∷ layer 1 1 0 0 0 0 0 400 0 0 ∷ []) 0 ≡ Bad 2
+unfolding judge walk onStep stepOf keeps after after1 after2 after3 endOf layer
+even-due = refl

@@ -1,5 +1,5 @@
 use borrow.Author.Needs.{needs}
-use Rattle.sheet_rules.specs.Record.{encode}
+use Rattle.record.proofs.Laws.{making}
 use Rattle.record.proofs.encoded.Statement.{statement}
 use Rattle.record.proofs.encoded.Tie as tie
 
@@ -70,10 +70,7 @@ cast-t48 : tie.Need-cast-t48
 cast-t48 c = search needs
 
 returns : tie.Need-returns
-unfolding encode
-returns c =
-    let d = c .before .before .before .before .before in
-    simp (c .before .top16 .ensures, d .top322 .ensures, d .before .before .before .before .top32 .ensures)
+returns c = search making
 
 pub encoded-spec : {M : Type 1} → statement M
 encoded-spec =

@@ -1,4 +1,5 @@
 use borrow.Author.Needs.{needs}
+use Rattle.record.proofs.Laws.{making}
 use Rattle.record.proofs.record_from.Statement.{statement}
 use Rattle.record.proofs.record_from.Tie as tie
 
@@ -90,21 +91,7 @@ be16-requires-7 : tie.Need-be16-requires-7
 be16-requires-7 c κs = search needs
 
 returns : tie.Need-returns
-returns c =
-    let d = c .before .before in
-    let e = d .before .before .before .before .before in
-    let f = e .before .before .before .before in
-    simp (
-      c .be167 .ensures,
-      c .before .be322 .ensures,
-      d .be32 .ensures,
-      e .be166 .ensures,
-      e .before .be165 .ensures,
-      e .before .before .be164 .ensures,
-      e .before .before .before .be163 .ensures,
-      f .be162 .ensures,
-      f .before .before .before .be16 .ensures,
-    )
+returns c = search making
 
 pub record-from-spec : {M : Type 1} → statement M
 record-from-spec =
