@@ -1,4 +1,4 @@
-.PHONY: test demo bench clean
+.PHONY: test demo bench faults clean
 .NOTPARALLEL:
 
 test:
@@ -10,6 +10,10 @@ demo:
 	@mkdir -p build
 	@rt check listing >build/demo.log 2>&1 </dev/null || { cat build/demo.log >&2; echo "demo: 'rt check listing' fails, as shown above" >&2; exit 1; }
 	@target/bin/listing <examples/example.sheet
+
+# faults planted in the reference, each of which the table of sheets must find
+faults:
+	@python3 tests/faults_sheet.py
 
 bench:
 	@bash bench/run
