@@ -1,0 +1,109 @@
+-- A JPEG layer by concatenation (01, "Where an image layer ends"), independent of the walk.
+--
+--   Data d          scan data: no FF in it but FF 00 and FF D0 to FF D7
+--   Piece           what stands between FF D8 and FF D9 apart from the frame: a marker that stands alone, a segment with its body, or a scan
+--                   with its header and its data
+--   lengthed c b    FF, a code, a length that counts itself and the body, and the body
+--   resolution ps   the resolution that the first tagged segment gives, 0 where none is
+--   Layer ..        FF D8, pieces without a scan, the frame, pieces with a scan, FF D9
+use Prim.Native.Nat.{ℕ, _+_, _≤_, _<_, _∣_}
+use mathlib.Core.Path.{_≡_}
+use mathlib.Core.Logic.{_⊎_, _≢_}
+use mathlib.Core.Bool.{Bool, true, false, _&&_, cond}
+use mathlib.Core.List.{List, [], _∷_, _++_}
+use lib.ListN.{length}
+use lib.Dec.{eqb, leb}
+use Rattle.octets.specs.Octets.{be16At, octets16, begins}
+use Rattle.sheet_rules.specs.Sentences.{Listed}
+use Rattle.jpeg_rules.specs.declared.Class.{Class}
+use Rattle.jpeg_rules.specs.declared.Class.the-variants.{Alone, Frame, Scan, End, Wrong, Segment}
+use Rattle.jpeg_rules.specs.Marker.{classOf}
+
+-- after FF: 00, or D0 to D7
+abbrev pub DataCode : ℕ → Type 0
+DataCode c = (c ≡ 0x00) ⊎ ((0xD0 ≤ c) × (c ≤ 0xD7))
+
+pub data Data : List ℕ → Type 0 where
+  none : Data []
+  plain : {x : ℕ} {d : List ℕ} → x ≢ 0xFF → Data d → Data (x ∷ d)
+  stuffed : {c : ℕ} {d : List ℕ} → DataCode c → Data d → Data (0xFF ∷ c ∷ d)
+
+pub data Piece : Type 0 where
+  alone : Piece
+  segment : ℕ → List ℕ → Piece
+  scan : List ℕ → List ℕ → Piece
+
+unfoldable pub lengthed : ℕ → List ℕ → List ℕ
+lengthed c body = 0xFF ∷ c ∷ octets16 (length body + 2) ++ body
+
+unfoldable pub octetsOf : Piece → List ℕ
+octetsOf alone = 0xFF ∷ 0x01 ∷ []
+octetsOf (segment c body) = lengthed c body
+octetsOf (scan header scanned) = lengthed 0xDA header ++ scanned
+
+unfoldable pub piecesOf : List Piece → List ℕ
+unfolding octetsOf
+piecesOf [] = []
+piecesOf (p ∷ ps) = octetsOf p ++ piecesOf ps
+
+-- a body whose length can be told in two octets
+abbrev pub Fits : List ℕ → Type 0
+Fits body = length body + 2 < 65536
+
+unfoldable pub Good : Piece → Type 0
+Good alone = Unit {0}
+Good (segment c body) = (classOf c ≡ Segment) × Fits body
+Good (scan header scanned) = Fits header × Data scanned
+
+unfoldable pub isScan : Piece → Bool
+isScan alone = false
+isScan (segment c body) = false
+isScan (scan header scanned) = true
+
+-- 47 33 46 41 58 00
+abbrev pub g3fax : List ℕ
+g3fax = 0x47 ∷ 0x33 ∷ 0x46 ∷ 0x41 ∷ 0x58 ∷ 0x00 ∷ []
+
+-- an FF E1 segment of length 12 or more that begins so
+unfoldable pub tagged : ℕ → List ℕ → Bool
+tagged c body = eqb c 0xE1 && leb 12 (length body + 2) && begins body g3fax
+
+-- two octets behind the tag are not tested, then comes the resolution
+unfoldable pub resolution : List Piece → ℕ
+unfolding tagged
+resolution [] = 0
+resolution (alone ∷ ps) = resolution ps
+resolution (segment c body ∷ ps) = cond (tagged c body) (be16At body 8) (resolution ps)
+resolution (scan header scanned ∷ ps) = resolution ps
+
+-- each of the pieces
+unfoldable pub Each : (Piece → Type 0) → List Piece → Type 0
+Each P [] = Unit {0}
+Each P (p ∷ ps) = P p × Each P ps
+
+-- one of the pieces is a scan
+unfoldable pub Scanned : List Piece → Type 0
+Scanned [] = ⊥
+Scanned (p ∷ ps) = (isScan p ≡ true) ⊎ Scanned ps
+
+pub record Layer (main : ℕ) (l : List ℕ) (width height res : ℕ) : Type 0 where
+  pub before : List Piece
+  pub code : ℕ
+  pub body : List ℕ
+  pub after : List Piece
+  -- FF D8, then markers; exactly one frame comes before the first scan and none after; FF D9
+  pub octets : l ≡ 0xFF ∷ 0xD8 ∷ piecesOf before ++ (lengthed code body ++ (piecesOf after ++ (0xFF ∷ 0xD9 ∷ [])))
+  pub early : Each (λ p. Good p × (isScan p ≡ false)) before
+  pub late : Each Good after
+  -- the frame: its length at least 8, its width and height not 0
+  pub frame : classOf code ≡ Frame
+  pub long : 8 ≤ length body + 2
+  pub fits : Fits body
+  pub high : (height ≡ be16At body 1) × (height ≢ 0)
+  pub wide : (width ≡ be16At body 3) × (width ≢ 0)
+  -- before the frame stands the segment that gives the resolution, which is listed and divides the main one
+  pub tag : res ≡ resolution before
+  pub listed : Listed res
+  pub divides : res ∣ main
+  -- at least one scan is needed
+  pub scanned : Scanned after

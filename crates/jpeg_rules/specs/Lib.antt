@@ -1,0 +1,3 @@
+pub mod Marker
+pub mod Grammar
+pub mod Walk

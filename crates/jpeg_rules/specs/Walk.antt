@@ -1,0 +1,174 @@
+-- The walk over a JPEG layer's markers, from its first octet to behind its FF D9 (01, "Where an image layer ends").
+--
+--   segOf s n least     the segment whose length stands at n
+--   scanOf s i          the next marker behind scan data
+--   frameOf, scanStepOf, segmentOf   a marker of each kind, its code behind which n stands
+--   turnOf s main st    one marker
+--   walkOf s start main the walk
+--
+-- Within a marker: its own rule, then the length's least value, then a body that passes the end, then the body.
+use Prim.Native.Nat.{ℕ, zero, suc, _+_, _-_}
+use mathlib.Core.Bool.{Bool, true, false, _&&_, _||_, not, cond}
+use mathlib.Core.List.{List}
+use lib.ListN.{length, getD}
+use lib.Dec.{ltb, leb, eqb}
+use Rattle.octets.specs.Octets.{be16At, standsAt}
+use Rattle.sheet_rules.specs.Judge.{listed, divides}
+use Rattle.jpeg_rules.specs.declared.Class.{Class}
+use Rattle.jpeg_rules.specs.declared.Class.the-variants.{Alone, Frame, Scan, End, Wrong, Segment}
+use Rattle.jpeg_rules.specs.declared.Marker.{Marker}
+use Rattle.jpeg_rules.specs.declared.Marker.the-variants.{Code, Missing, Cut}
+use Rattle.jpeg_rules.specs.declared.Fault.{Fault}
+use Rattle.jpeg_rules.specs.declared.Fault.the-variants.{Short, BadLength, BadRes, BadLayer}
+use Rattle.jpeg_rules.specs.declared.Seg.{Seg}
+use Rattle.jpeg_rules.specs.declared.Seg.the-variants.{Body, Bad}
+use Rattle.jpeg_rules.specs.declared.Found.{Found}
+use Rattle.jpeg_rules.specs.declared.Found.the-variants.{At, Nothing}
+use Rattle.jpeg_rules.specs.declared.Tag.{Tag}
+use Rattle.jpeg_rules.specs.declared.Tag.the-variants.{Gives, Plain}
+use Rattle.jpeg_rules.specs.declared.Reach.{Reach}
+use Rattle.jpeg_rules.specs.declared.Walk.{Walk}
+use Rattle.jpeg_rules.specs.declared.Walk.the-variants.{Ends, Refused}
+use Rattle.jpeg_rules.specs.declared.Turn.{Turn}
+use Rattle.jpeg_rules.specs.declared.Turn.the-variants.{Go, Stop}
+use Rattle.jpeg_rules.specs.Marker.{within, classOf, markerOf}
+use Rattle.jpeg_rules.specs.Grammar.{g3fax}
+
+-- ---- parts
+
+-- Short where the length does not fit, BadLength where it is below the least, Short at the body's first octet where the body passes the end
+unfoldable pub segOf : List ℕ → ℕ → ℕ → Seg
+segOf s n least =
+    cond (ltb (length s) (n + 2)) (Bad (Short n))
+    (cond (ltb (be16At s n) least) (Bad (BadLength n))
+    (cond (ltb (length s) (n + be16At s n)) (Bad (Short (n + 2)))
+    (Body (n + be16At s n))))
+
+-- FF and a code other than 00 and D0 to D7 end scan data
+unfoldable pub stopsOf : ℕ → ℕ → Bool
+stopsOf a b = eqb a 0xFF && not (eqb b 0x00 || within 0xD0 0xD7 b)
+
+-- the first of the k places from i on at which scan data ends
+unfoldable pub scanFrom : ℕ → List ℕ → ℕ → Found
+unfolding stopsOf
+scanFrom zero s i = Nothing
+scanFrom (suc k) s i = cond (stopsOf (getD s i 0) (getD s (i + 1) 0)) (At i) (scanFrom k s (i + 1))
+
+-- the first from i on that has an octet behind it
+unfoldable pub scanOf : List ℕ → ℕ → Found
+unfolding scanFrom
+scanOf s i = scanFrom (length s - (i + 1)) s i
+
+-- listed, and a divisor of the main one
+abbrev pub resolves : ℕ → ℕ → Bool
+resolves main r = listed r && divides r main
+
+-- the first FF E1 of length 12 or more with the tag gives the resolution
+unfoldable pub tagOf : List ℕ → Reach → ℕ → ℕ → Tag
+tagOf s st c n =
+    cond (eqb c 0xE1 && eqb (st .res) 0 && leb 12 (be16At s n) && standsAt s (n + 2) g3fax) (Gives (be16At s (n + 10))) Plain
+
+-- ---- what is known behind a frame, a scan and another marker
+
+abbrev pub framed : Reach → ℕ → ℕ → ℕ → Reach
+framed st at width height =
+    record { at = at; framed = true; scanned = st .scanned; res = st .res; width = width; height = height }
+
+abbrev pub passed : Reach → ℕ → Reach
+passed st at =
+    record { at = at; framed = true; scanned = true; res = st .res; width = st .width; height = st .height }
+
+abbrev pub moved : Reach → ℕ → ℕ → Reach
+moved st at res =
+    record { at = at; framed = st .framed; scanned = st .scanned; res = res; width = st .width; height = st .height }
+
+-- ---- one marker
+
+abbrev pub refused : Fault → Turn
+refused f = Stop (Refused f)
+
+abbrev pub onBody : Seg → (ℕ → Turn) → Turn
+onBody (Body next) go = go next
+onBody (Bad f) go = refused f
+
+abbrev pub onFound : Found → ℕ → (ℕ → Turn) → Turn
+onFound (At p) from go = go p
+onFound Nothing from go = refused (Short from)
+
+abbrev pub onTag : Tag → Turn → (ℕ → Turn) → Turn
+onTag Plain plain go = plain
+onTag (Gives r) plain go = go r
+
+-- a frame's body: height before width, neither 0
+unfoldable pub frameBodyOf : List ℕ → Reach → ℕ → ℕ → Turn
+frameBodyOf s st n next =
+    cond (eqb (be16At s (n + 3)) 0) (refused (BadLayer (n + 3)))
+    (cond (eqb (be16At s (n + 5)) 0) (refused (BadLayer (n + 5)))
+    (Go (framed st next (be16At s (n + 5)) (be16At s (n + 3)))))
+
+-- the frame: the first, behind the resolution, and at least 8 long
+unfoldable pub frameOf : List ℕ → Reach → ℕ → Turn
+frameOf s st n =
+    cond (st .framed) (refused (BadLayer (st .at)))
+    (cond (eqb (st .res) 0) (refused (BadLayer (st .at)))
+    (onBody (segOf s n 8) (λ (next : ℕ). frameBodyOf s st n next)))
+
+-- a scan: behind the frame; the next marker stands behind its header and its data
+unfoldable pub scanStepOf : List ℕ → Reach → ℕ → Turn
+scanStepOf s st n =
+    cond (st .framed)
+    (onBody (segOf s n 2) (λ (next : ℕ). onFound (scanOf s next) next (λ (p : ℕ). Go (passed st p))))
+    (refused (BadLayer (st .at)))
+
+-- a segment with a length is skipped, but for the resolution that it may give, which is judged where it stands
+unfoldable pub segmentOf : List ℕ → ℕ → Reach → ℕ → ℕ → Turn
+segmentOf s main st c n =
+    onBody (segOf s n 2) (λ (next : ℕ).
+    onTag (tagOf s st c n) (Go (moved st next (st .res))) (λ (r : ℕ).
+    cond (resolves main r) (Go (moved st next r)) (refused (BadRes (n + 10)))))
+
+-- the end: at least one scan came before
+unfoldable pub endOf : Reach → ℕ → Turn
+endOf st n = cond (st .scanned) (Stop (Ends n (st .width) (st .height) (st .res))) (refused (BadLayer (st .at)))
+
+unfoldable pub markOf : List ℕ → ℕ → Reach → ℕ → ℕ → Class → Turn
+unfolding frameOf scanStepOf segmentOf endOf
+markOf s main st c n Alone = Go (moved st n (st .res))
+markOf s main st c n Frame = frameOf s st n
+markOf s main st c n Scan = scanStepOf s st n
+markOf s main st c n End = endOf st n
+markOf s main st c n Wrong = refused (BadLayer (st .at))
+markOf s main st c n Segment = segmentOf s main st c n
+
+abbrev pub onMarker : Marker → ℕ → (ℕ → ℕ → Turn) → Turn
+onMarker (Code c n) at go = go c n
+onMarker Missing at go = refused (BadLayer at)
+onMarker Cut at go = refused (Short at)
+
+unfoldable pub turnOf : List ℕ → ℕ → Reach → Turn
+unfolding markOf
+turnOf s main st = onMarker (markerOf s (st .at)) (st .at) (λ (c n : ℕ). markOf s main st c n (classOf c))
+
+-- ---- the walk
+
+abbrev pub onTurn : Turn → (Reach → Walk) → Walk
+onTurn (Go st) go = go st
+onTurn (Stop w) go = w
+
+-- at most so many markers; each takes two octets or more, so that the length of the list is enough
+unfoldable pub walkFrom : ℕ → List ℕ → ℕ → Reach → Walk
+unfolding turnOf
+walkFrom zero s main st = Refused (Short (st .at))
+walkFrom (suc k) s main st = onTurn (turnOf s main st) (λ (t : Reach). walkFrom k s main t)
+
+abbrev pub begun : ℕ → Reach
+begun at = record { at = at; framed = false; scanned = false; res = 0; width = 0; height = 0 }
+
+-- FF D8, then the markers
+unfoldable pub walkOf : List ℕ → ℕ → ℕ → Walk
+unfolding walkFrom
+walkOf s start main =
+    cond (ltb (length s) (start + 2)) (Refused (Short start))
+    (cond (eqb (getD s start 0) 0xFF && eqb (getD s (start + 1) 0) 0xD8)
+    (walkFrom (length s) s main (begun (start + 2)))
+    (Refused (BadLayer start)))
