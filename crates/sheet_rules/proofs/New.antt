@@ -129,7 +129,7 @@ says-data r =
     says-or (says-and (says-coded r) (says-coded-ok r))
     (says-and (says-not-not (says-eq (r .len) 0)) (says-uncoded-ok r))
 
-says-listed : (n : ℕ) → Says (listed n) (Listed n)
+pub says-listed : (n : ℕ) → Says (listed n) (Listed n)
 says-listed n =
     says-group
     (says-group
@@ -139,7 +139,7 @@ says-listed n =
     (says-or (says-or (says-or (says-or (says-eq n 100) (says-eq n 200)) (says-eq n 300)) (says-eq n 400)) (says-eq n 600))
     (says-eq n 1200)))))
 
-says-divides : (a b : ℕ) → Says (divides a b) ((a ≢ 0) × (a ∣ b))
+pub says-divides : (a b : ℕ) → Says (divides a b) ((a ≢ 0) × (a ∣ b))
 says-divides a b = record { told = told (eqb a 0) refl; shown = λ k. ap (λ (t : Bool). cond t false (eqb (b % a) 0)) (ne-eqb a 0 (k .0)) ∙ eq-eqb (b % a) 0 ((dvd-iff-mod-eq-zero a) .0 (k .1)) }
   where
     told : (t : Bool) → eqb a 0 ≡ t → cond t false (eqb (b % a) 0) ≡ true → (a ≢ 0) × (a ∣ b)

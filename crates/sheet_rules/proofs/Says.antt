@@ -23,6 +23,9 @@ says-lt m n = record { told = ltb-true m n; shown = lt-ltb m n }
 pub says-true : (b : Bool) → Says b (b ≡ true)
 says-true b = record { told = λ e. e; shown = λ e. e }
 
+pub says-false : Says false ⊥
+says-false = record { told = λ e. false≢true e; shown = λ k. absurd k }
+
 pub says-and : {a b : Bool} {P Q : Type 0} → Says a P → Says b Q → Says (a && b) (P × Q)
 says-and {a = true} {b} p q = record { told = λ e. (p .told refl, q .told e); shown = λ k. q .shown (k .1) }
 says-and {a = false} {b} p q = record { told = λ e. absurd (false≢true e); shown = λ k. p .shown (k .0) }

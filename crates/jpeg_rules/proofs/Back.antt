@@ -1,0 +1,436 @@
+-- Where the walk ends, the octets that it went over are a layer of the grammar.
+-- Assumes nothing.
+use Prim.Native.Nat.{ℕ, zero, suc, _+_, _-_, _≤_, _<_, _∣_}
+use native.Mathlib.Omega.{arith}
+use mathlib.Core.Path.{_≡_, refl, sym, ap, subst, _∙_}
+use mathlib.Core.Logic.{_⊎_, inl, inr, _≢_, ⊎-elim, ⊎-map}
+use mathlib.Core.Bool.{Bool, true, false, _&&_, cond, false≢true}
+use mathlib.Core.List.{List, [], _∷_, _++_, append-assoc}
+use lib.ListN.{length, getD, take, drop, length-append, length-drop}
+use lib.Seq.{take-at, length-take-le}
+use lib.Dec.{eqb, leb, ltb}
+use borrow.Author.Tests.{eq-eqb, ne-eqb, eqb-true, ltb-false}
+use Rattle.octets.specs.Octets.{Octets, be16At, octets16, standsAt}
+use Rattle.sheet_rules.specs.Sentences.{Listed}
+use Rattle.sheet_rules.proofs.Says.{Says, says-eq, says-le, says-and, says-true, says-else}
+use Rattle.sheet_rules.proofs.New.{says-listed, says-divides}
+use Rattle.sheet_rules.proofs.Backward.{listed-nonzero}
+use Rattle.jpeg_rules.specs.declared.Class.{Class}
+use Rattle.jpeg_rules.specs.declared.Class.the-variants.{Alone, Frame, Scan, End, Wrong, Segment}
+use Rattle.jpeg_rules.specs.declared.Marker.the-variants.{Code}
+use Rattle.jpeg_rules.specs.declared.Seg.{Seg}
+use Rattle.jpeg_rules.specs.declared.Seg.the-variants.{Body, Bad}
+use Rattle.jpeg_rules.specs.declared.Found.the-variants.{At}
+use Rattle.jpeg_rules.specs.declared.Tag.{Tag}
+use Rattle.jpeg_rules.specs.declared.Tag.the-variants.{Gives, Plain}
+use Rattle.jpeg_rules.specs.declared.Reach.{Reach}
+use Rattle.jpeg_rules.specs.declared.Turn.{Turn}
+use Rattle.jpeg_rules.specs.declared.Turn.the-variants.{Go, Stop}
+use Rattle.jpeg_rules.specs.declared.Walk.{Walk}
+use Rattle.jpeg_rules.specs.declared.Walk.the-variants.{Ends, Refused}
+use Rattle.jpeg_rules.specs.Marker.{classOf, markerOf}
+use Rattle.jpeg_rules.specs.Grammar.{Data, Piece, alone, segment, scan, lengthed, octetsOf, piecesOf, Fits, Good, isScan, g3fax, tagged, resolution, Each, Scanned, Layer}
+use Rattle.jpeg_rules.specs.Walk.{segOf, scanOf, resolves, tagOf, framed, passed, moved, begun, walkFrom, walkOf}
+use Rattle.jpeg_rules.proofs.Leaves.{cond-with, clash, alone-code, scan-code, end-code, marker-back, two-stand, Segmented, seg-back}
+use Rattle.jpeg_rules.proofs.Scans.{scan-data, scan-back}
+use Rattle.jpeg_rules.proofs.Turns.{tag-of, number-is}
+use Rattle.jpeg_rules.proofs.Walks.{Onward, by-alone, by-frame, by-scan, by-plain, by-tag, Ended, turn-told, Walks, stops, goes, walks-from}
+use Rattle.jpeg_rules.proofs.There.{length-lengthed, res-plain, resolves-nonzero, bool-else, tagged-long}
+
+-- ---- a marker with a length, as it stands
+
+pub record Stood (s : List ℕ) (at c least next : ℕ) : Type 0 where
+  pub body : List ℕ
+  pub fits : Fits body
+  pub enough : least ≤ length body + 2
+  pub ends : next ≡ at + 2 + (length body + 2)
+  pub inside : next ≤ length s
+  pub stands : drop at s ≡ lengthed c body ++ drop next s
+
+stood : (s : List ℕ) → Octets s → (at c n least next : ℕ) → 2 ≤ least → markerOf s at ≡ Code c n → segOf s n least ≡ Body next → Stood s at c least next
+unfolding lengthed
+stood s o at c n least next two m g =
+    let k = marker-back s at c n m in
+    let b = seg-back s n least next o two g in
+    let z = b .ends in
+    let y = k .0 in
+    record {
+      body = b .body;
+      fits = b .fits;
+      enough = b .enough;
+      ends = omega arith;
+      inside = b .inside;
+      stands = k .2 ∙ ap (λ (l : List ℕ). 0xFF ∷ c ∷ l) (b .stands ∙ sym (append-assoc (octets16 (length (b .body) + 2)) (b .body) (drop next s)));
+    }
+
+-- ---- behind the frame
+
+pub record Tail (s : List ℕ) (st : Reach) (e w h r : ℕ) : Type 0 where
+  pub after : List Piece
+  pub good : Each Good after
+  pub octets : drop (st .at) s ≡ piecesOf after ++ (0xFF ∷ 0xD9 ∷ drop e s)
+  pub scanned : (st .scanned ≡ true) ⊎ Scanned after
+  pub width : st .width ≡ w
+  pub height : st .height ≡ h
+  pub res : st .res ≡ r
+  pub ends : e ≡ st .at + length (piecesOf after) + 2
+  pub inside : e ≤ length s
+
+-- one piece in front
+tail-more : (s : List ℕ) (st t : Reach) (e w h r : ℕ) (p : Piece) → Good p → drop (st .at) s ≡ octetsOf p ++ drop (t .at) s
+    → t .at ≡ st .at + length (octetsOf p) → ((t .scanned ≡ true) → (st .scanned ≡ true) ⊎ (isScan p ≡ true))
+    → t .width ≡ st .width → t .height ≡ st .height → t .res ≡ st .res → Tail s t e w h r → Tail s st e w h r
+unfolding Each piecesOf Scanned
+tail-more s st t e w h r p g q a sc tw th tr k =
+    let l = length-append (octetsOf p) (piecesOf (k .after)) in
+    let z = k .ends in
+    record {
+      after = p ∷ k .after;
+      good = (g, k .good);
+      octets = q ∙ ap (λ (x : List ℕ). octetsOf p ++ x) (k .octets) ∙ sym (append-assoc (octetsOf p) (piecesOf (k .after)) (0xFF ∷ 0xD9 ∷ drop e s));
+      scanned =
+          ⊎-elim (λ (y : t .scanned ≡ true). ⊎-map (λ (x : st .scanned ≡ true). x) (λ (x : isScan p ≡ true). inl x) (sc y)) (λ (y : Scanned (k .after)). inr (inr y)) (k .scanned);
+      width = sym tw ∙ k .width;
+      height = sym th ∙ k .height;
+      res = sym tr ∙ k .res;
+      ends = omega arith;
+      inside = k .inside;
+    }
+
+tag-gives : (s : List ℕ) (st : Reach) (c n v : ℕ) → tagOf s st c n ≡ Gives v → st .res ≡ 0
+unfolding tagOf
+tag-gives s st c n v =
+    cond-with (λ x. x ≡ Gives v → st .res ≡ 0) (eqb c 0xE1 && eqb (st .res) 0 && leb 12 (be16At s n) && standsAt s (n + 2) g3fax)
+    (λ t e.
+    says-and (says-and (says-and (says-eq c 0xE1) (says-eq (st .res) 0)) (says-le 12 (be16At s n))) (says-true (standsAt s (n + 2) g3fax)) .told t .0 .0 .1)
+    (λ t e. clash cc)
+
+module _ (s : List ℕ) (o : Octets s) (main e w h r : ℕ) where
+  tail-end : (st : Reach) → Ended s main st e w h r → Tail s st e w h r
+  unfolding Each piecesOf
+  tail-end st k =
+      let m = marker-back s (st .at) (k .c) e (k .marker) in
+      let z = m .0 in
+      let y = m .1 in
+      record {
+        after = [];
+        good = tt;
+        octets = m .2 ∙ ap (λ (c : ℕ). 0xFF ∷ c ∷ drop e s) (end-code (k .c) (k .class));
+        scanned = inl (k .scanned);
+        width = k .width;
+        height = k .height;
+        res = k .res;
+        ends = omega arith;
+        inside = omega arith;
+      }
+
+  reach-of : {A : Type 0} {t u : Reach} (f : Reach → A) → t ≡ u → f u ≡ f t
+  reach-of f q = ap f (sym q)
+
+  tail-onward : (st t : Reach) → st .framed ≡ true → st .res ≢ 0 → Onward s main st t
+      → ((t .framed ≡ true) → (t .res ≢ 0) → Tail s t e w h r) → Tail s st e w h r
+  unfolding octetsOf Good isScan
+  tail-onward st t f d (by-alone c n m k q) go =
+      let x = marker-back s (st .at) c n m in
+      let a : t .at ≡ n = reach-of (λ (z : Reach). z .at) q in
+      let z = x .0 in
+      tail-more s st t e w h r alone tt
+      (x .2 ∙ ap (λ (c : ℕ). 0xFF ∷ c ∷ drop n s) (alone-code c k) ∙ ap (λ (j : ℕ). 0xFF ∷ 0x01 ∷ drop j s) (sym a))
+      (omega arith) (λ y. inl (reach-of (λ (z : Reach). z .scanned) (sym q) ∙ y)) (reach-of (λ (z : Reach). z .width) q) (reach-of (λ (z : Reach). z .height) q)
+      (reach-of (λ (z : Reach). z .res) q)
+      (go (reach-of (λ (z : Reach). z .framed) q ∙ f) (λ y. d (sym (reach-of (λ (z : Reach). z .res) q) ∙ y)))
+  tail-onward st t f d (by-frame c n next m k nf nr g nh nw q) go = absurd (false≢true (sym nf ∙ f))
+  tail-onward st t f d (by-scan c n next p m k fr g fo q) go =
+      let x = stood s o (st .at) c n 2 next (omega arith) m g in
+      let y = scan-data s next p fo in
+      let b = scan-back s next p fo in
+      let a : t .at ≡ p = reach-of (λ (z : Reach). z .at) q in
+      let body : List ℕ = x .body in
+      let coded : List ℕ = take (p - next) (drop next s) in
+      let l1 = length-append (lengthed 0xDA body) coded in
+      let l2 = length-lengthed 0xDA body in
+      let l3 : length coded ≡ p - next = length-take-le (p - next) (drop next s) (let u = length-drop next s in let v = b .inside in let i = b .after in omega arith) in
+      let i = b .after in
+      let en = x .ends in
+      tail-more s st t e w h r (scan body coded) (x .fits, y .0)
+      (x .stands ∙ ap (λ (c : ℕ). lengthed c body ++ drop next s) (scan-code c k)
+      ∙ ap (λ (u : List ℕ). lengthed 0xDA body ++ u) (y .1) ∙ sym (append-assoc (lengthed 0xDA body) coded (drop p s))
+      ∙ ap (λ (j : ℕ). (lengthed 0xDA body ++ coded) ++ drop j s) (sym a))
+      (omega arith) (λ u. inr refl) (reach-of (λ (z : Reach). z .width) q) (reach-of (λ (z : Reach). z .height) q) (reach-of (λ (z : Reach). z .res) q)
+      (go (reach-of (λ (z : Reach). z .framed) q) (λ u. d (sym (reach-of (λ (z : Reach). z .res) q) ∙ u)))
+  tail-onward st t f d (by-plain c n next m k g pl q) go =
+      let x = stood s o (st .at) c n 2 next (omega arith) m g in
+      let a : t .at ≡ next = reach-of (λ (z : Reach). z .at) q in
+      let l2 = length-lengthed c (x .body) in
+      let en = x .ends in
+      tail-more s st t e w h r (segment c (x .body)) (k, x .fits)
+      (x .stands ∙ ap (λ (j : ℕ). lengthed c (x .body) ++ drop j s) (sym a))
+      (omega arith) (λ y. inl (reach-of (λ (z : Reach). z .scanned) (sym q) ∙ y)) (reach-of (λ (z : Reach). z .width) q) (reach-of (λ (z : Reach). z .height) q)
+      (reach-of (λ (z : Reach). z .res) q)
+      (go (reach-of (λ (z : Reach). z .framed) q ∙ f) (λ y. d (sym (reach-of (λ (z : Reach). z .res) q) ∙ y)))
+  tail-onward st t f d (by-tag c n next v m k g gv ok q) go = absurd (d (tag-gives s st c n v gv))
+
+  tail-back : {st : Reach} {x : Walk} → Walks s main st x → x ≡ Ends e w h r → st .framed ≡ true → st .res ≢ 0 → Tail s st e w h r
+  tail-back {st} {x} (stops q) z f d = tail-end st (turn-told s main st .1 e w h r (q ∙ ap Stop z))
+  tail-back {st} {x} (goes {t = t} q more) z f d =
+      tail-onward st t f d (turn-told s main st .0 t q) (λ tf td. tail-back more z tf td)
+
+-- ---- before the frame
+
+pub record Head (s : List ℕ) (main : ℕ) (st : Reach) (e w h r : ℕ) : Type 0 where
+  pub before : List Piece
+  pub code : ℕ
+  pub body : List ℕ
+  pub after : List Piece
+  pub octets : drop (st .at) s ≡ piecesOf before ++ (lengthed code body ++ (piecesOf after ++ (0xFF ∷ 0xD9 ∷ drop e s)))
+  pub early : Each (λ p. Good p × (isScan p ≡ false)) before
+  pub late : Each Good after
+  pub frame : classOf code ≡ Frame
+  pub long : 8 ≤ length body + 2
+  pub fits : Fits body
+  pub high : (h ≡ be16At body 1) × (h ≢ 0)
+  pub wide : (w ≡ be16At body 3) × (w ≢ 0)
+  pub scanned : Scanned after
+  pub res : r ≡ cond (eqb (st .res) 0) (resolution before) (st .res)
+  pub found : (st .res ≢ 0) ⊎ (resolves main r ≡ true)
+  pub ends : e ≡ st .at + (length (piecesOf before) + (2 + (length body + 2) + (length (piecesOf after) + 2)))
+  pub inside : e ≤ length s
+
+module _ (s : List ℕ) (o : Octets s) (main e w h r : ℕ) where
+  -- one piece in front
+  head-more : (st t : Reach) (p : Piece) → Good p → isScan p ≡ false → drop (st .at) s ≡ octetsOf p ++ drop (t .at) s
+      → t .at ≡ st .at + length (octetsOf p)
+      → ((ps : List Piece) → cond (eqb (t .res) 0) (resolution ps) (t .res) ≡ cond (eqb (st .res) 0) (resolution (p ∷ ps)) (st .res))
+      → (Head s main t e w h r → (st .res ≢ 0) ⊎ (resolves main r ≡ true))
+      → Head s main t e w h r → Head s main st e w h r
+  unfolding Each piecesOf
+  head-more st t p g ns q a rs fd k =
+      let l = length-append (octetsOf p) (piecesOf (k .before)) in
+      let z = k .ends in
+      record {
+        before = p ∷ k .before;
+        code = k .code;
+        body = k .body;
+        after = k .after;
+        octets =
+            q ∙ ap (λ (x : List ℕ). octetsOf p ++ x) (k .octets)
+            ∙ sym (append-assoc (octetsOf p) (piecesOf (k .before)) (lengthed (k .code) (k .body) ++ (piecesOf (k .after) ++ (0xFF ∷ 0xD9 ∷ drop e s))));
+        early = ((g, ns), k .early);
+        late = k .late;
+        frame = k .frame;
+        long = k .long;
+        fits = k .fits;
+        high = k .high;
+        wide = k .wide;
+        scanned = k .scanned;
+        res = k .res ∙ rs (k .before);
+        found = fd k;
+        ends = omega arith;
+        inside = k .inside;
+      }
+
+  at-of : {t u : Reach} → t ≡ u → u .at ≡ t .at
+  at-of q = ap (λ (z : Reach). z .at) (sym q)
+
+  res-of : {t u : Reach} → t ≡ u → u .res ≡ t .res
+  res-of q = ap (λ (z : Reach). z .res) (sym q)
+
+  -- the frame itself
+  head-frame : (st t : Reach) (c n next : ℕ) → markerOf s (st .at) ≡ Code c n → classOf c ≡ Frame → st .scanned ≡ false → st .res ≢ 0
+      → segOf s n 8 ≡ Body next → be16At s (n + 3) ≢ 0 → be16At s (n + 5) ≢ 0 → framed st next (be16At s (n + 5)) (be16At s (n + 3)) ≡ t
+      → Tail s t e w h r → Head s main st e w h r
+  unfolding Each piecesOf resolution
+  head-frame st t c n next m k ns d g nh nw q y =
+      let x = stood s o (st .at) c n 8 next (omega arith) m g in
+      let a : t .at ≡ next = at-of q in
+      let b : n ≡ st .at + 2 = marker-back s (st .at) c n m .0 in
+      let en = x .enough in
+      let ends = x .ends in
+      let z = y .ends in
+      let h1 : be16At s (n + 3) ≡ be16At (x .body) 1 =
+      number-is s main st c (x .body) (drop next s) (x .stands) 1 (n + 3) (let u : st .at + 2 + 2 + 1 ≡ n + 3 = omega arith in u) (omega arith) in
+      let w1 : be16At s (n + 5) ≡ be16At (x .body) 3 =
+      number-is s main st c (x .body) (drop next s) (x .stands) 3 (n + 5) (let u : st .at + 2 + 2 + 3 ≡ n + 5 = omega arith in u) (omega arith) in
+      let th : h ≡ be16At s (n + 3) = sym (y .height) ∙ ap (λ (v : Reach). v .height) (sym q) in
+      let tw : w ≡ be16At s (n + 5) = sym (y .width) ∙ ap (λ (v : Reach). v .width) (sym q) in
+      let ts : t .scanned ≡ false = ap (λ (v : Reach). v .scanned) (sym q) ∙ ns in
+      let tr : st .res ≡ r = sym (res-of q) ∙ y .res in
+      record {
+        before = [];
+        code = c;
+        body = x .body;
+        after = y .after;
+        octets = x .stands ∙ ap (λ (l : List ℕ). lengthed c (x .body) ++ l) (ap (λ (j : ℕ). drop j s) (sym a) ∙ y .octets);
+        early = tt;
+        late = y .good;
+        frame = k;
+        long = en;
+        fits = x .fits;
+        high = (th ∙ h1, λ v. nh (sym th ∙ v));
+        wide = (tw ∙ w1, λ v. nw (sym tw ∙ v));
+        scanned = ⊎-elim (λ (v : t .scanned ≡ true). absurd (false≢true (sym ts ∙ v))) (λ (v : Scanned (y .after)). v) (y .scanned);
+        res = sym tr ∙ sym (ap (λ (v : Bool). cond v 0 (st .res)) (ne-eqb (st .res) 0 d));
+        found = inl d;
+        ends = omega arith;
+        inside = y .inside;
+      }
+
+  -- a segment that gives no resolution, and one that does
+  plain-test : (st : Reach) (c next : ℕ) (x : Stood s (st .at) c 2 next) → tagOf s st c (st .at + 2) ≡ Plain → eqb (st .res) 0 && tagged c (x .body) ≡ false
+  plain-test st c next x q =
+      ⊎-elim
+      (λ (t : eqb (st .res) 0 && tagged c (x .body) ≡ true).
+      let z : Gives (be16At s (st .at + 2 + 10)) ≡ Plain =
+      sym (tag-of s main st c (x .body) (drop next s) (x .stands) ∙ ap (λ (b : Bool). cond b (Gives (be16At s (st .at + 2 + 10))) Plain) t) ∙ q in
+      clash cc)
+      (λ (t : eqb (st .res) 0 && tagged c (x .body) ≡ false). t)
+      (bool-else s main (eqb (st .res) 0 && tagged c (x .body)))
+
+  gives-test : (st : Reach) (c next v : ℕ) (x : Stood s (st .at) c 2 next) → tagOf s st c (st .at + 2) ≡ Gives v
+      → (eqb (st .res) 0 && tagged c (x .body) ≡ true) × (be16At s (st .at + 2 + 10) ≡ v)
+  gives-test st c next v x q =
+      ⊎-elim
+      (λ (t : eqb (st .res) 0 && tagged c (x .body) ≡ true).
+      let z : Gives (be16At s (st .at + 2 + 10)) ≡ Gives v =
+      sym (tag-of s main st c (x .body) (drop next s) (x .stands) ∙ ap (λ (b : Bool). cond b (Gives (be16At s (st .at + 2 + 10))) Plain) t) ∙ q in
+      (t, cc))
+      (λ (t : eqb (st .res) 0 && tagged c (x .body) ≡ false).
+      let z : Plain ≡ Gives v =
+      sym (tag-of s main st c (x .body) (drop next s) (x .stands) ∙ ap (λ (b : Bool). cond b (Gives (be16At s (st .at + 2 + 10))) Plain) t) ∙ q in
+      clash cc)
+      (bool-else s main (eqb (st .res) 0 && tagged c (x .body)))
+
+  found-same : (st t : Reach) → t .res ≡ st .res → Head s main t e w h r → (st .res ≢ 0) ⊎ (resolves main r ≡ true)
+  found-same st t q k = ⊎-map (λ (d : t .res ≢ 0) z. d (q ∙ z)) (λ (v : resolves main r ≡ true). v) (k .found)
+
+  head-tag : (st t : Reach) (c next v : ℕ) (x : Stood s (st .at) c 2 next) → classOf c ≡ Segment → tagOf s st c (st .at + 2) ≡ Gives v → resolves main v ≡ true
+      → moved st next v ≡ t → Head s main t e w h r → Head s main st e w h r
+  unfolding octetsOf Good isScan resolution
+  head-tag st t c next v x k gv ok q y =
+      let g = gives-test st c next v x gv in
+      let b = says-and (says-eq (st .res) 0) (says-true (tagged c (x .body))) .told (g .0) in
+      let l = tagged-long s main c (x .body) (b .1) in
+      let vb : v ≡ be16At (x .body) 8 =
+      sym (g .1) ∙ number-is s main st c (x .body) (drop next s) (x .stands) 8 (st .at + 2 + 10) (let u : st .at + 2 + 2 + 8 ≡ st .at + 2 + 10 = omega arith in u) (omega arith) in
+      let nz = resolves-nonzero s main v ok in
+      let tr : t .res ≡ v = res-of q in
+      let a : t .at ≡ next = at-of q in
+      let l2 = length-lengthed c (x .body) in
+      let en = x .ends in
+      head-more st t (segment c (x .body)) (k, x .fits) refl (x .stands ∙ ap (λ (j : ℕ). lengthed c (x .body) ++ drop j s) (sym a)) (omega arith)
+      (λ ps.
+      ap (λ (m : ℕ). cond (eqb m 0) (resolution ps) m) tr
+      ∙ ap (λ (z : Bool). cond z (resolution ps) v) (ne-eqb v 0 nz)
+      ∙ vb
+      ∙ sym
+      (ap (λ (z : Bool). cond z (cond (tagged c (x .body)) (be16At (x .body) 8) (resolution ps)) (st .res)) (eq-eqb (st .res) 0 (b .0))
+      ∙ ap (λ (z : Bool). cond z (be16At (x .body) 8) (resolution ps)) (b .1)))
+      (λ z.
+      let rv : r ≡ v = z .res ∙ ap (λ (m : ℕ). cond (eqb m 0) (resolution (z .before)) m) tr ∙ ap (λ (u : Bool). cond u (resolution (z .before)) v) (ne-eqb v 0 nz) in
+      inr (ap (resolves main) rv ∙ ok))
+      y
+
+  head-onward : (st t : Reach) → st .framed ≡ false → st .scanned ≡ false → Onward s main st t
+      → (t .framed ≡ false → t .scanned ≡ false → Head s main t e w h r) → (t .framed ≡ true → t .res ≢ 0 → Tail s t e w h r) → Head s main st e w h r
+  unfolding octetsOf Good isScan resolution
+  head-onward st t f ns (by-alone c n m k q) go frame =
+      let x = marker-back s (st .at) c n m in
+      let a : t .at ≡ n = at-of q in
+      let tr : t .res ≡ st .res = res-of q in
+      let z = x .0 in
+      head-more st t alone tt refl
+      (x .2 ∙ ap (λ (c : ℕ). 0xFF ∷ c ∷ drop n s) (alone-code c k) ∙ ap (λ (j : ℕ). 0xFF ∷ 0x01 ∷ drop j s) (sym a))
+      (omega arith) (λ ps. ap (λ (m : ℕ). cond (eqb m 0) (resolution ps) m) tr) (found-same st t tr)
+      (go (ap (λ (v : Reach). v .framed) (sym q) ∙ f) (ap (λ (v : Reach). v .scanned) (sym q) ∙ ns))
+  head-onward st t f ns (by-frame c n next m k nf nr g nh nw q) go frame =
+      head-frame st t c n next m k ns nr g nh nw q (frame (ap (λ (v : Reach). v .framed) (sym q)) (λ z. nr (sym (res-of q) ∙ z)))
+  head-onward st t f ns (by-scan c n next p m k fr g fo q) go frame = absurd (false≢true (sym f ∙ fr))
+  head-onward st t f ns (by-plain c n next m k g pl q) go frame =
+      let x = stood s o (st .at) c n 2 next (omega arith) m g in
+      let b : n ≡ st .at + 2 = marker-back s (st .at) c n m .0 in
+      let a : t .at ≡ next = at-of q in
+      let tr : t .res ≡ st .res = res-of q in
+      let l2 = length-lengthed c (x .body) in
+      let en = x .ends in
+      let pt = plain-test st c next x (ap (tagOf s st c) (sym b) ∙ pl) in
+      head-more st t (segment c (x .body)) (k, x .fits) refl (x .stands ∙ ap (λ (j : ℕ). lengthed c (x .body) ++ drop j s) (sym a)) (omega arith)
+      (λ ps. ap (λ (m : ℕ). cond (eqb m 0) (resolution ps) m) tr ∙ res-plain s main (st .res) c (x .body) ps pt)
+      (found-same st t tr)
+      (go (ap (λ (v : Reach). v .framed) (sym q) ∙ f) (ap (λ (v : Reach). v .scanned) (sym q) ∙ ns))
+  head-onward st t f ns (by-tag c n next v m k g gv ok q) go frame =
+      let x = stood s o (st .at) c n 2 next (omega arith) m g in
+      let b : n ≡ st .at + 2 = marker-back s (st .at) c n m .0 in
+      head-tag st t c next v x k (ap (tagOf s st c) (sym b) ∙ gv) ok q
+      (go (ap (λ (v : Reach). v .framed) (sym q) ∙ f) (ap (λ (v : Reach). v .scanned) (sym q) ∙ ns))
+
+  head-back : {st : Reach} {x : Walk} → Walks s main st x → x ≡ Ends e w h r → st .framed ≡ false → st .scanned ≡ false → Head s main st e w h r
+  head-back {st} {x} (stops q) z f ns =
+      let k = turn-told s main st .1 e w h r (q ∙ ap Stop z) in absurd (false≢true (sym ns ∙ k .scanned))
+  head-back {st} {x} (goes {t = t} q more) z f ns =
+      head-onward st t f ns (turn-told s main st .0 t q) (λ tf ts. head-back more z tf ts) (λ tf tr. tail-back s o main e w h r more z tf tr)
+
+-- ---- a whole layer
+
+pub record Walked (s : List ℕ) (start main e w h r : ℕ) : Type 0 where
+  pub layer : Layer main (take (e - start) (drop start s)) w h r
+  pub split : drop start s ≡ take (e - start) (drop start s) ++ drop e s
+  pub after : start < e
+  pub inside : e ≤ length s
+
+module _ (s : List ℕ) (o : Octets s) (start main e w h r : ℕ) where
+  walked : start + 2 ≤ length s → getD s start 0 ≡ 0xFF → getD s (start + 1) 0 ≡ 0xD8 → walkFrom (length s) s main (begun (start + 2)) ≡ Ends e w h r
+      → Walked s start main e w h r
+  walked l a b q =
+      let k = head-back s o main e w h r (walks-from s main (length s) (begun (start + 2)) (omega arith)) q refl refl in
+      let lay : List ℕ = 0xFF ∷ 0xD8 ∷ piecesOf (k .before) ++ (lengthed (k .code) (k .body) ++ (piecesOf (k .after) ++ (0xFF ∷ 0xD9 ∷ []))) in
+      let l1 = length-append (piecesOf (k .before)) (lengthed (k .code) (k .body) ++ (piecesOf (k .after) ++ (0xFF ∷ 0xD9 ∷ []))) in
+      let l2 = length-append (lengthed (k .code) (k .body)) (piecesOf (k .after) ++ (0xFF ∷ 0xD9 ∷ [])) in
+      let l3 = length-append (piecesOf (k .after)) (0xFF ∷ 0xD9 ∷ []) in
+      let l4 = length-lengthed (k .code) (k .body) in
+      let en = k .ends in
+      let size : length lay ≡ e - start = omega arith in
+      let split : drop start s ≡ lay ++ drop e s =
+      two-stand s start l ∙ ap (λ (x : ℕ). x ∷ getD s (start + 1) 0 ∷ drop (start + 2) s) a ∙ ap (λ (x : ℕ). 0xFF ∷ x ∷ drop (start + 2) s) b
+      ∙ ap (λ (x : List ℕ). 0xFF ∷ 0xD8 ∷ x) (k .octets) ∙ sym (simp append-assoc) in
+      let cut : take (e - start) (drop start s) ≡ lay = ap (take (e - start)) split ∙ take-at lay (drop e s) (e - start) size in
+      let rr = resolved k in
+      record {
+        layer =
+            record {
+              before = k .before;
+              code = k .code;
+              body = k .body;
+              after = k .after;
+              octets = cut;
+              early = k .early;
+              late = k .late;
+              frame = k .frame;
+              long = k .long;
+              fits = k .fits;
+              high = k .high;
+              wide = k .wide;
+              tag = k .res;
+              listed = rr .0;
+              divides = rr .1;
+              scanned = k .scanned;
+            };
+        split = split ∙ ap (λ (x : List ℕ). x ++ drop e s) (sym cut);
+        after = omega arith;
+        inside = k .inside;
+      }
+    where
+      resolved : Head s main (begun (start + 2)) e w h r → Listed r × (r ∣ main)
+      resolved k =
+          ⊎-elim (λ (d : 0 ≢ 0). absurd (d refl))
+          (λ (v : resolves main r ≡ true). let x = says-and (says-listed r) (says-divides r main) .told v in (x .0, x .1 .1))
+          (k .found)
+
+  pub walk-layer : walkOf s start main ≡ Ends e w h r → Walked s start main e w h r
+  unfolding walkOf
+  walk-layer =
+      cond-with (λ x. x ≡ Ends e w h r → Walked s start main e w h r) (ltb (length s) (start + 2)) (λ t q. clash cc) λ l.
+      cond-with (λ x. x ≡ Ends e w h r → Walked s start main e w h r) (eqb (getD s start 0) 0xFF && eqb (getD s (start + 1) 0) 0xD8)
+      (λ t q.
+      let k = says-and (says-eq (getD s start 0) 0xFF) (says-eq (getD s (start + 1) 0) 0xD8) .told t in
+      walked (ltb-false (length s) (start + 2) l) (k .0) (k .1) q)
+      (λ t q. clash cc)

@@ -1,0 +1,221 @@
+-- The leaves of the walk: a choice by cases, the codes of each class, and what a marker, a segment and scan data say of the octets.
+-- Assumes nothing.
+use Prim.Native.Nat.{ℕ, zero, suc, _+_, _-_, _*_, _≤_, _<_}
+use native.Mathlib.Omega.{arith}
+use mathlib.Core.Path.{_≡_, refl, sym, ap, subst, _∙_}
+use mathlib.Core.Logic.{_⊎_, inl, inr, _≢_, ⊎-elim}
+use mathlib.Core.Bool.{Bool, true, false, _&&_, _||_, not, cond, false≢true}
+use mathlib.Core.List.{List, [], _∷_, _++_}
+use lib.ListN.{length, getD, take, drop, length-append, length-drop, length-take, take-append-drop}
+use lib.Seq.{drop-cons, getD-drop, drop-drop, take-at, length-take-le}
+use lib.Dec.{eqb, leb, ltb}
+use native.Mathlib.Numerals.{add-one}
+use borrow.Author.Tests.{eq-eqb, ne-eqb, eqb-true, eqb-false, le-leb, lt-leb, leb-true, leb-false, lt-ltb, le-ltb, ltb-true, ltb-false}
+use Rattle.octets.specs.Octets.{Octets, be16At, octets16}
+use Rattle.octets.proofs.Laws.{be16-there, be16-stands, be16-bound, drop-next, drop-octet, length-octets16}
+use Rattle.sheet_rules.proofs.Says.{Says, says-eq, says-le, says-and, says-or, says-not, says-else, says-false}
+use Rattle.jpeg_rules.specs.declared.Class.{Class}
+use Rattle.jpeg_rules.specs.declared.Class.the-variants.{Alone, Frame, Scan, End, Wrong, Segment}
+use Rattle.jpeg_rules.specs.declared.Marker.{Marker}
+use Rattle.jpeg_rules.specs.declared.Marker.the-variants.{Code, Missing, Cut}
+use Rattle.jpeg_rules.specs.declared.Fault.{Fault}
+use Rattle.jpeg_rules.specs.declared.Fault.the-variants.{Short, BadLength, BadRes, BadLayer}
+use Rattle.jpeg_rules.specs.declared.Seg.{Seg}
+use Rattle.jpeg_rules.specs.declared.Seg.the-variants.{Body, Bad}
+use Rattle.jpeg_rules.specs.declared.Found.{Found}
+use Rattle.jpeg_rules.specs.declared.Found.the-variants.{At, Nothing}
+use Rattle.jpeg_rules.specs.Marker.{within, among, classOf, markerOf}
+use Rattle.jpeg_rules.specs.Grammar.{DataCode, Data, none, plain, stuffed, lengthed, Fits}
+use Rattle.jpeg_rules.specs.Walk.{segOf, stopsOf, scanFrom, scanOf}
+
+pub cond-with : {A : Type 0} (P : A → Type 0) (b : Bool) {x y : A} → (b ≡ true → P x) → (b ≡ false → P y) → P (cond b x y)
+cond-with P true f g = f refl
+cond-with P false f g = g refl
+
+pub clash : {A : Type 0} → _≡_ {A = ℕ} 0 1 → A
+clash e = absurd (omega arith)
+
+-- ---- the codes of each class
+
+module _ (c : ℕ) (P : Class → Type 0)
+    (alone : c ≡ 0x01 → P Alone) (frame : (0xC0 ≤ c) × (c ≤ 0xCF) → P Frame) (scan : c ≡ 0xDA → P Scan) (end : c ≡ 0xD9 → P End)
+    (wrong : P Wrong) (segment : ((0xC0 ≤ c) × (c ≤ 0xCF)) ⊎ (0xD8 < c) → P Segment) where
+  in-range : (lo hi : ℕ) → within lo hi c ≡ true → (lo ≤ c) × (c ≤ hi)
+  in-range lo hi e = says-and (says-le lo c) (says-le c hi) .told e
+
+  pub class-cases : P (classOf c)
+  unfolding classOf
+  class-cases =
+      cond-with P (eqb c 0x01) (λ e. alone (eqb-true c 0x01 e)) λ n1.
+      cond-with P (among (0xC4 ∷ 0xC8 ∷ 0xCC ∷ []) c) (λ e. segment (inl (listed e))) λ n2.
+      cond-with P (within 0xC0 0xCF c) (λ e. frame (in-range 0xC0 0xCF e)) λ n3.
+      cond-with P (eqb c 0xDA) (λ e. scan (eqb-true c 0xDA e)) λ n4.
+      cond-with P (eqb c 0xD9) (λ e. end (eqb-true c 0xD9 e)) λ n5.
+      cond-with P (among (0x00 ∷ 0xFF ∷ []) c) (λ e. wrong) λ n6.
+      cond-with P (leb c 0xBF) (λ e. wrong) λ n7.
+      cond-with P (within 0xD0 0xD8 c) (λ e. wrong) λ n8.
+      segment (above (leb-false c 0xBF n7) n3 n8)
+    where
+      listed : among (0xC4 ∷ 0xC8 ∷ 0xCC ∷ []) c ≡ true → (0xC0 ≤ c) × (c ≤ 0xCF)
+      listed e =
+          ⊎-elim (λ (k : c ≡ 0xC4). (omega arith, omega arith))
+          (⊎-elim (λ (k : c ≡ 0xC8). (omega arith, omega arith))
+          (⊎-elim (λ (k : c ≡ 0xCC). (omega arith, omega arith)) (λ (k : ⊥). absurd k)))
+          (says-or (says-eq c 0xC4) (says-or (says-eq c 0xC8) (says-or (says-eq c 0xCC) says-false)) .told e)
+
+      above : 0xBF < c → within 0xC0 0xCF c ≡ false → within 0xD0 0xD8 c ≡ false → ((0xC0 ≤ c) × (c ≤ 0xCF)) ⊎ (0xD8 < c)
+      above l f g =
+          ⊎-elim (λ (h : c ≤ 0xCF). inl (omega arith, h))
+          (λ (h : c ≤ 0xCF → ⊥).
+          ⊎-elim
+          (λ (k : c ≤ 0xD8). absurd (false≢true (sym g ∙ says-and (says-le 0xD0 c) (says-le c 0xD8) .shown (omega arith, k))))
+          (λ (k : c ≤ 0xD8 → ⊥). inr (omega arith))
+          (says-else (says-le c 0xD8)))
+          (says-else (says-le c 0xCF))
+
+-- the marker that stands alone, a scan's and the end's have one code each
+pub alone-code : (c : ℕ) → classOf c ≡ Alone → c ≡ 0x01
+alone-code c =
+    class-cases c (λ x. x ≡ Alone → c ≡ 0x01) (λ h e. h) (λ h e. clash cc) (λ h e. clash cc) (λ h e. clash cc) (λ e. clash cc) (λ h e. clash cc)
+
+pub scan-code : (c : ℕ) → classOf c ≡ Scan → c ≡ 0xDA
+scan-code c =
+    class-cases c (λ x. x ≡ Scan → c ≡ 0xDA) (λ h e. clash cc) (λ h e. clash cc) (λ h e. h) (λ h e. clash cc) (λ e. clash cc) (λ h e. clash cc)
+
+pub end-code : (c : ℕ) → classOf c ≡ End → c ≡ 0xD9
+end-code c =
+    class-cases c (λ x. x ≡ End → c ≡ 0xD9) (λ h e. clash cc) (λ h e. clash cc) (λ h e. clash cc) (λ h e. h) (λ e. clash cc) (λ h e. clash cc)
+
+pub says-data : (c : ℕ) → Says (eqb c 0x00 || within 0xD0 0xD7 c) (DataCode c)
+says-data c = says-or (says-eq c 0x00) (says-and (says-le 0xD0 c) (says-le c 0xD7))
+
+-- FF and a code of a marker that may stand in a layer ends scan data
+pub says-stop : (a b : ℕ) → Says (stopsOf a b) ((a ≡ 0xFF) × (DataCode b → ⊥))
+unfolding stopsOf
+says-stop a b = says-and (says-eq a 0xFF) (says-not (says-data b))
+
+pub code-stops : (c : ℕ) → classOf c ≢ Wrong → stopsOf 0xFF c ≡ true
+code-stops c =
+    class-cases c (λ x. x ≢ Wrong → stopsOf 0xFF c ≡ true)
+    (λ h e. stop (λ k. ⊎-elim (λ (z : c ≡ 0x00). omega arith) (λ (z : (0xD0 ≤ c) × (c ≤ 0xD7)). omega arith) k))
+    (λ h e. stop (λ k. ⊎-elim (λ (z : c ≡ 0x00). omega arith) (λ (z : (0xD0 ≤ c) × (c ≤ 0xD7)). omega arith) k))
+    (λ h e. stop (λ k. ⊎-elim (λ (z : c ≡ 0x00). omega arith) (λ (z : (0xD0 ≤ c) × (c ≤ 0xD7)). omega arith) k))
+    (λ h e. stop (λ k. ⊎-elim (λ (z : c ≡ 0x00). omega arith) (λ (z : (0xD0 ≤ c) × (c ≤ 0xD7)). omega arith) k))
+    (λ e. absurd (e refl))
+    (λ h e.
+    stop
+    (λ k.
+    ⊎-elim
+    (λ (z : c ≡ 0x00). ⊎-elim (λ (y : (0xC0 ≤ c) × (c ≤ 0xCF)). omega arith) (λ (y : 0xD8 < c). omega arith) h)
+    (λ (z : (0xD0 ≤ c) × (c ≤ 0xD7)). ⊎-elim (λ (y : (0xC0 ≤ c) × (c ≤ 0xCF)). omega arith) (λ (y : 0xD8 < c). omega arith) h)
+    k))
+  where
+    stop : ((c ≡ 0x00) ⊎ ((0xD0 ≤ c) × (c ≤ 0xD7)) → ⊥) → stopsOf 0xFF c ≡ true
+    stop k = says-stop 0xFF c .shown (refl, k)
+
+-- ---- octets that stand at a place
+
+module _ (s : List ℕ) (at : ℕ) where
+  pub one-there : (a : ℕ) (r : List ℕ) → drop at s ≡ a ∷ r → (at + 1 ≤ length s) × (getD s at 0 ≡ a) × (drop (at + 1) s ≡ r)
+  one-there a r e =
+      let l : length s - at ≡ suc (length r) = sym (length-drop at s) ∙ ap length e in
+      let d = drop-octet s at (omega arith) in
+      (omega arith, cc, cc)
+
+module _ (s : List ℕ) (at : ℕ) where
+  pub two-there : (a b : ℕ) (r : List ℕ) → drop at s ≡ a ∷ b ∷ r
+      → (at + 2 ≤ length s) × (getD s at 0 ≡ a) × (getD s (at + 1) 0 ≡ b) × (drop (at + 2) s ≡ r)
+  two-there a b r e =
+      let f = one-there s at a (b ∷ r) e in
+      let g = one-there s (at + 1) b r (f .2) in
+      let z : at + 1 + 1 ≡ at + 2 = omega arith in
+      (let h = g .0 in omega arith, f .1, g .1, ap (λ (k : ℕ). drop k s) (sym z) ∙ g .2)
+
+  pub two-stand : at + 2 ≤ length s → drop at s ≡ getD s at 0 ∷ getD s (at + 1) 0 ∷ drop (at + 2) s
+  two-stand h =
+      let z : at + 1 + 1 ≡ at + 2 = omega arith in
+      drop-octet s at (omega arith)
+      ∙ ap (λ (l : List ℕ). getD s at 0 ∷ l) (drop-octet s (at + 1) (omega arith) ∙ ap (λ (k : ℕ). getD s (at + 1) 0 ∷ drop k s) z)
+
+  -- ---- a marker
+
+  pub marker-there : (c : ℕ) (r : List ℕ) → drop at s ≡ 0xFF ∷ c ∷ r → markerOf s at ≡ Code c (at + 2)
+  unfolding markerOf
+  marker-there c r e =
+      let t = two-there 0xFF c r e in
+      simp (le-ltb (length s) (at + 2) (t .0), eq-eqb (getD s at 0) 0xFF (t .1), t .2)
+
+  pub marker-back : (c n : ℕ) → markerOf s at ≡ Code c n → (n ≡ at + 2) × (at + 2 ≤ length s) × (drop at s ≡ 0xFF ∷ c ∷ drop n s)
+  unfolding markerOf
+  marker-back c n =
+      cond-with (λ x. x ≡ Code c n → (n ≡ at + 2) × (at + 2 ≤ length s) × (drop at s ≡ 0xFF ∷ c ∷ drop n s)) (ltb (length s) (at + 2))
+      (λ l e. clash cc)
+      (λ l.
+      cond-with (λ x. x ≡ Code c n → (n ≡ at + 2) × (at + 2 ≤ length s) × (drop at s ≡ 0xFF ∷ c ∷ drop n s)) (eqb (getD s at 0) 0xFF)
+      (λ f e.
+      let h = ltb-false (length s) (at + 2) l in
+      let g = eqb-true (getD s at 0) 0xFF f in
+      let a : getD s (at + 1) 0 ≡ c = cc in
+      let b : at + 2 ≡ n = cc in
+      let d = two-stand h in
+      (sym b, h, cc))
+      (λ f e. clash cc))
+
+-- ---- a segment by its length
+
+module _ (s : List ℕ) (n : ℕ) where
+  pub seg-there : (least : ℕ) (body r : List ℕ) → drop n s ≡ octets16 (length body + 2) ++ (body ++ r) → least ≤ length body + 2
+      → (segOf s n least ≡ Body (n + (length body + 2))) × (drop (n + 2) s ≡ body ++ r) × (drop (n + (length body + 2)) s ≡ r) × (n + (length body + 2) ≤ length s)
+  unfolding segOf
+  seg-there least body r e h =
+      let w : be16At s n ≡ length body + 2 = be16-there s (body ++ r) n (length body + 2) e in
+      let l2 = length-octets16 (length body + 2) in
+      let d : drop (n + 2) s ≡ body ++ r = ap (λ (k : ℕ). drop (n + k) s) (sym l2) ∙ drop-next s (octets16 (length body + 2)) (body ++ r) n e in
+      let z : n + 2 + length body ≡ n + (length body + 2) = omega arith in
+      let f : drop (n + (length body + 2)) s ≡ r = ap (λ (k : ℕ). drop k s) (sym z) ∙ drop-next s body r (n + 2) d in
+      let a : length s - n ≡ length (octets16 (length body + 2)) + length (body ++ r) = sym (length-drop n s) ∙ ap length e ∙ length-append (octets16 (length body + 2)) (body ++ r) in
+      let b = length-append body r in
+      let g : n + (length body + 2) ≤ length s = omega arith in
+      (simp (w, le-ltb (length s) (n + 2) (omega arith), le-ltb (length body + 2) least h, le-ltb (length s) (n + (length body + 2)) g), d, f, g)
+
+  pub record Segmented (least next : ℕ) : Type 0 where
+    pub body : List ℕ
+    pub size : length body + 2 ≡ be16At s n
+    pub enough : least ≤ length body + 2
+    pub fits : Fits body
+    pub ends : next ≡ n + (length body + 2)
+    pub inside : next ≤ length s
+    pub start : drop (n + 2) s ≡ body ++ drop next s
+    pub stands : drop n s ≡ octets16 (length body + 2) ++ (body ++ drop next s)
+
+  pub seg-back : (least next : ℕ) → Octets s → 2 ≤ least → segOf s n least ≡ Body next → Segmented least next
+  unfolding segOf
+  seg-back least next o two =
+      cond-with (λ x. x ≡ Body next → Segmented least next) (ltb (length s) (n + 2)) (λ t e. clash cc) λ f1.
+      cond-with (λ x. x ≡ Body next → Segmented least next) (ltb (be16At s n) least) (λ t e. clash cc) λ f2.
+      cond-with (λ x. x ≡ Body next → Segmented least next) (ltb (length s) (n + be16At s n)) (λ t e. clash cc) λ f3 e.
+      let h1 = ltb-false (length s) (n + 2) f1 in
+      let h2 = ltb-false (be16At s n) least f2 in
+      let h3 = ltb-false (length s) (n + be16At s n) f3 in
+      let b : n + be16At s n ≡ next = cc in
+      made (be16At s n) refl h1 h2 h3 (sym b) (be16-stands s n o h1) (be16-bound s n o)
+    where
+      made : (v : ℕ) → v ≡ be16At s n → n + 2 ≤ length s → least ≤ be16At s n → n + be16At s n ≤ length s → next ≡ n + be16At s n
+          → drop n s ≡ octets16 (be16At s n) ++ drop (n + 2) s → be16At s n < 65536 → Segmented least next
+      made v q h1 h2 h3 b st lt =
+          let m : ℕ = be16At s n - 2 in
+          let body : List ℕ = take m (drop (n + 2) s) in
+          let len : length body ≡ m = length-take-le m (drop (n + 2) s) (let d = length-drop (n + 2) s in omega arith) in
+          let sz : length body + 2 ≡ be16At s n = omega arith in
+          let a : drop m (drop (n + 2) s) ≡ drop next s = drop-drop m (n + 2) s ∙ ap (λ (k : ℕ). drop k s) (let y : n + 2 + m ≡ next = omega arith in y) in
+          let go : drop (n + 2) s ≡ body ++ drop next s = sym (take-append-drop m (drop (n + 2) s)) ∙ ap (λ (l : List ℕ). body ++ l) a in
+          record {
+            body = body;
+            size = sz;
+            enough = omega arith;
+            fits = omega arith;
+            ends = omega arith;
+            inside = omega arith;
+            start = go;
+            stands = st ∙ ap (λ (l : List ℕ). octets16 (be16At s n) ++ l) go ∙ ap (λ (k : ℕ). octets16 k ++ (body ++ drop next s)) (sym sz);
+          }

@@ -1,0 +1,78 @@
+-- What is proved of the JPEG walk. The statements are for the reader; how each is shown stands in the files beside this one.
+-- Assumes nothing.
+use Prim.Native.Nat.{ℕ, suc, _+_, _-_, _≤_, _<_}
+use native.Mathlib.Omega.{arith}
+use mathlib.Core.Path.{_≡_, refl, sym, ap, subst, _∙_}
+use mathlib.Core.Logic.{_↔_}
+use mathlib.Core.List.{List, [], _∷_, _++_, append-nil}
+use lib.ListN.{length, take, drop, length-append, length-drop, take-append-drop}
+use lib.Seq.{length-take-le, drop-drop}
+use Rattle.octets.specs.Octets.{Octets}
+use Rattle.jpeg_rules.specs.declared.Walk.{Walk}
+use Rattle.jpeg_rules.specs.declared.Walk.the-variants.{Ends, Refused}
+use Rattle.jpeg_rules.specs.Grammar.{Layer}
+use Rattle.jpeg_rules.specs.Walk.{walkOf}
+use Rattle.jpeg_rules.proofs.There.{layer-walk}
+use Rattle.jpeg_rules.proofs.Back.{Walked, walk-layer}
+
+-- the octets from one place up to another are a layer
+pub record LayerAt (s : List ℕ) (start main e w h r : ℕ) : Type 0 where
+  pub layer : Layer main (take (e - start) (drop start s)) w h r
+  pub after : start ≤ e
+  pub inside : e ≤ length s
+
+cut-at : (s : List ℕ) (start e : ℕ) → start ≤ e → drop start s ≡ take (e - start) (drop start s) ++ drop e s
+cut-at s start e h =
+    let z : start + (e - start) ≡ e = omega arith in
+    sym (ap (λ (l : List ℕ). take (e - start) (drop start s) ++ l) (sym (drop-drop (e - start) start s ∙ ap (λ (k : ℕ). drop k s) z)) ∙ take-append-drop (e - start) (drop start s))
+
+cut-length : (s : List ℕ) (start e : ℕ) → e ≤ length s → length (take (e - start) (drop start s)) ≡ e - start
+cut-length s start e h = length-take-le (e - start) (drop start s) (let l = length-drop start s in omega arith)
+
+-- ---- the walk ends at e exactly if the octets up to e are a layer, with its width, height and resolution
+
+pub walk-exactly : (s : List ℕ) → Octets s → (start main e w h r : ℕ) → walkOf s start main ≡ Ends e w h r ↔ LayerAt s start main e w h r
+walk-exactly s o start main e w h r = (
+  λ q. let k = walk-layer s o start main e w h r q in let a = k .after in record { layer = k .layer; after = omega arith; inside = k .inside },
+  λ k.
+      let a = k .after in
+      let l = cut-length s start e (k .inside) in
+      let z : start + length (take (e - start) (drop start s)) ≡ e = omega arith in
+      layer-walk s start main (take (e - start) (drop start s)) (drop e s) w h r (k .layer) (cut-at s start e a) ∙ ap (λ (n : ℕ). Ends n w h r) z,
+)
+
+-- ---- no layer is a proper prefix of another, and its octets determine its values
+
+layer-at-0 : (l rest : List ℕ) (main w h r : ℕ) → Layer main l w h r → walkOf (l ++ rest) 0 main ≡ Ends (length l) w h r
+layer-at-0 l rest main w h r y = let z : 0 + length l ≡ length l = omega arith in layer-walk (l ++ rest) 0 main l rest w h r y refl ∙ ap (λ (n : ℕ). Ends n w h r) z
+
+pub layer-prefix : (l more : List ℕ) (main w h r w′ h′ r′ : ℕ) → Layer main l w h r → Layer main (l ++ more) w′ h′ r′ → more ≡ []
+layer-prefix l more main w h r w′ h′ r′ x y =
+    let a = layer-at-0 l more main w h r x in
+    let b : walkOf (l ++ more) 0 main ≡ Ends (length (l ++ more)) w′ h′ r′ = ap (λ (z : List ℕ). walkOf z 0 main) (sym (append-nil (l ++ more))) ∙ layer-at-0 (l ++ more) [] main w′ h′ r′ y in
+    let q : length l ≡ length (l ++ more) = cc in
+    let n = length-append l more in
+    none more (omega arith)
+  where
+    none : (m : List ℕ) → length m ≡ 0 → m ≡ []
+    none [] e = refl
+    none (x ∷ m) e = absurd (omega arith)
+
+pub layer-values : (l : List ℕ) (main w h r w′ h′ r′ : ℕ) → Layer main l w h r → Layer main l w′ h′ r′ → (w ≡ w′) × (h ≡ h′) × (r ≡ r′)
+layer-values l main w h r w′ h′ r′ x y =
+    let a = layer-at-0 l [] main w h r x in let b = layer-at-0 l [] main w′ h′ r′ y in (cc, cc, cc)
+
+-- ---- a walk that ends depends on nothing but the octets from its start to its end, and shifts with them
+
+pub walk-shift : (s t : List ℕ) → Octets s → (start at main e w h r : ℕ) → walkOf s start main ≡ Ends e w h r
+    → take (e - start) (drop at t) ≡ take (e - start) (drop start s) → at + (e - start) ≤ length t
+    → walkOf t at main ≡ Ends (at + (e - start)) w h r
+walk-shift s t o start at main e w h r q same fits =
+    let k = walk-layer s o start main e w h r q in
+    let a = k .after in
+    let z : at + (e - start) - at ≡ e - start = omega arith in
+    let l : List ℕ = take (e - start) (drop start s) in
+    let n : length l ≡ e - start = cut-length s start e (k .inside) in
+    let split : drop at t ≡ l ++ drop (at + (e - start)) t =
+    cut-at t at (at + (e - start)) (omega arith) ∙ ap (λ (m : ℕ). take m (drop at t) ++ drop (at + (e - start)) t) z ∙ ap (λ (x : List ℕ). x ++ drop (at + (e - start)) t) same in
+    layer-walk t at main l (drop (at + (e - start)) t) w h r (k .layer) split ∙ ap (λ (m : ℕ). Ends (at + m) w h r) n
