@@ -3,5 +3,7 @@ pub mod Scans
 pub mod Turns
 pub mod Walks
 pub mod There
+pub mod Tail
 pub mod Back
 pub mod Theorems
+pub mod Examples

@@ -1,0 +1,61 @@
+-- Layers that the walk takes, so that the grammar is no empty one, and walks that it refuses, at their places.
+-- Assumes nothing.
+use Prim.Native.Nat.{ℕ}
+use mathlib.Core.Path.{_≡_, refl}
+use mathlib.Core.List.{List, [], _∷_, _++_}
+use Rattle.octets.specs.Octets.{be16At, begins, standsAt}
+use Rattle.jpeg_rules.specs.declared.Fault.the-variants.{Short, BadLength, BadRes, BadLayer}
+use Rattle.jpeg_rules.specs.declared.Walk.{Walk}
+use Rattle.jpeg_rules.specs.declared.Walk.the-variants.{Ends, Refused}
+use Rattle.jpeg_rules.specs.Marker.{classOf, markerOf}
+use Rattle.jpeg_rules.specs.Walk.{segOf, stopsOf, scanFrom, scanOf, tagOf, frameBodyOf, frameOf, scanStepOf, segmentOf, endOf, markOf, turnOf, walkFrom, walkOf}
+
+-- the parts: the resolution's segment, the frame of 8 by 16, a scan with a stuffed FF and a restart marker, and the ends
+pub opening : List ℕ
+opening = 0xFF ∷ 0xD8 ∷ []
+
+pub closing : List ℕ
+closing = 0xFF ∷ 0xD9 ∷ []
+
+-- 200 to the inch
+pub tag200 : List ℕ
+tag200 = 0xFF ∷ 0xE1 ∷ 0x00 ∷ 0x0C ∷ 0x47 ∷ 0x33 ∷ 0x46 ∷ 0x41 ∷ 0x58 ∷ 0x00 ∷ 0x00 ∷ 0x01 ∷ 0x00 ∷ 0xC8 ∷ []
+
+pub tag300 : List ℕ
+tag300 = 0xFF ∷ 0xE1 ∷ 0x00 ∷ 0x0C ∷ 0x47 ∷ 0x33 ∷ 0x46 ∷ 0x41 ∷ 0x58 ∷ 0x00 ∷ 0x00 ∷ 0x01 ∷ 0x01 ∷ 0x2C ∷ []
+
+pub frame : List ℕ
+frame = 0xFF ∷ 0xC0 ∷ 0x00 ∷ 0x08 ∷ 0x08 ∷ 0x00 ∷ 0x10 ∷ 0x00 ∷ 0x08 ∷ 0x01 ∷ []
+
+pub scan : List ℕ
+scan = 0xFF ∷ 0xDA ∷ 0x00 ∷ 0x03 ∷ 0x00 ∷ 0x12 ∷ 0xFF ∷ 0x00 ∷ 0x34 ∷ 0xFF ∷ 0xD0 ∷ 0x56 ∷ []
+
+pub alone : List ℕ
+alone = 0xFF ∷ 0x01 ∷ []
+
+-- two scans, a marker that stands alone, and octets behind the layer, FF D9 FF D9 among them
+pub walk-ends : walkOf (opening ++ tag200 ++ alone ++ frame ++ scan ++ tag300 ++ scan ++ closing ++ closing ++ closing) 0 400 ≡ Ends 68 8 16 200
+unfolding walkOf turnOf markerOf classOf segOf scanOf tagOf frameOf frameBodyOf scanStepOf segmentOf endOf standsAt begins be16At opening closing tag200 tag300 frame scan alone
+walk-ends = refl
+
+-- under 400, 300 is refused where it stands
+pub walk-resolution : walkOf (opening ++ tag300 ++ frame ++ scan ++ closing) 0 400 ≡ Refused (BadRes 14)
+unfolding walkOf turnOf markerOf classOf segOf scanOf tagOf frameOf frameBodyOf scanStepOf segmentOf endOf standsAt begins be16At opening closing tag300 frame scan
+walk-resolution = refl
+
+-- a missing frame, scan and resolution at the marker where each was due; a second frame at its marker
+pub walk-no-frame : walkOf (opening ++ tag200 ++ scan ++ closing) 0 400 ≡ Refused (BadLayer 16)
+unfolding walkOf turnOf markerOf classOf segOf scanOf tagOf frameOf frameBodyOf scanStepOf segmentOf endOf standsAt begins be16At opening closing tag200 scan
+walk-no-frame = refl
+
+pub walk-no-scan : walkOf (opening ++ tag200 ++ frame ++ closing) 0 400 ≡ Refused (BadLayer 26)
+unfolding walkOf turnOf markerOf classOf segOf scanOf tagOf frameOf frameBodyOf scanStepOf segmentOf endOf standsAt begins be16At opening closing tag200 frame
+walk-no-scan = refl
+
+pub walk-no-resolution : walkOf (opening ++ frame ++ tag200 ++ scan ++ closing) 0 400 ≡ Refused (BadLayer 2)
+unfolding walkOf turnOf markerOf classOf segOf scanOf tagOf frameOf frameBodyOf scanStepOf segmentOf endOf standsAt begins be16At opening closing tag200 frame scan
+walk-no-resolution = refl
+
+pub walk-two-frames : walkOf (opening ++ tag200 ++ frame ++ frame ++ scan ++ closing) 0 400 ≡ Refused (BadLayer 26)
+unfolding walkOf turnOf markerOf classOf segOf scanOf tagOf frameOf frameBodyOf scanStepOf segmentOf endOf standsAt begins be16At opening closing tag200 frame scan
+walk-two-frames = refl

@@ -1,0 +1,176 @@
+-- Where the walk ends, the octets behind the frame are pieces of the grammar.
+-- Assumes nothing.
+use Prim.Native.Nat.{ℕ, zero, suc, _+_, _-_, _≤_, _<_, _∣_}
+use native.Mathlib.Omega.{arith}
+use mathlib.Core.Path.{_≡_, refl, sym, ap, subst, _∙_}
+use mathlib.Core.Logic.{_⊎_, inl, inr, _≢_, ⊎-elim, ⊎-map}
+use mathlib.Core.Bool.{Bool, true, false, _&&_, cond, false≢true}
+use mathlib.Core.List.{List, [], _∷_, _++_, append-assoc}
+use lib.ListN.{length, getD, take, drop, length-append, length-drop}
+use lib.Seq.{take-at, length-take-le}
+use lib.Dec.{eqb, leb, ltb}
+use borrow.Author.Tests.{eq-eqb, ne-eqb, eqb-true, ltb-false}
+use Rattle.octets.specs.Octets.{Octets, be16At, octets16, standsAt}
+use Rattle.sheet_rules.specs.Sentences.{Listed}
+use Rattle.sheet_rules.proofs.Says.{Says, says-eq, says-le, says-and, says-true, says-else}
+use Rattle.sheet_rules.proofs.New.{says-listed, says-divides}
+use Rattle.sheet_rules.proofs.Backward.{listed-nonzero}
+use Rattle.jpeg_rules.specs.declared.Class.{Class}
+use Rattle.jpeg_rules.specs.declared.Class.the-variants.{Alone, Frame, Scan, End, Wrong, Segment}
+use Rattle.jpeg_rules.specs.declared.Marker.the-variants.{Code}
+use Rattle.jpeg_rules.specs.declared.Seg.{Seg}
+use Rattle.jpeg_rules.specs.declared.Seg.the-variants.{Body, Bad}
+use Rattle.jpeg_rules.specs.declared.Found.the-variants.{At}
+use Rattle.jpeg_rules.specs.declared.Tag.{Tag}
+use Rattle.jpeg_rules.specs.declared.Tag.the-variants.{Gives, Plain}
+use Rattle.jpeg_rules.specs.declared.Reach.{Reach}
+use Rattle.jpeg_rules.specs.declared.Turn.{Turn}
+use Rattle.jpeg_rules.specs.declared.Turn.the-variants.{Go, Stop}
+use Rattle.jpeg_rules.specs.declared.Walk.{Walk}
+use Rattle.jpeg_rules.specs.declared.Walk.the-variants.{Ends, Refused}
+use Rattle.jpeg_rules.specs.Marker.{classOf, markerOf}
+use Rattle.jpeg_rules.specs.Grammar.{Data, Piece, alone, segment, scan, lengthed, octetsOf, piecesOf, Fits, Good, isScan, g3fax, tagged, resolution, Each, Scanned, Layer}
+use Rattle.jpeg_rules.specs.Walk.{segOf, scanOf, resolves, tagOf, framed, passed, moved, begun, walkFrom, walkOf}
+use Rattle.jpeg_rules.proofs.Leaves.{cond-with, clash, alone-code, scan-code, end-code, marker-back, two-stand, Segmented, seg-back}
+use Rattle.jpeg_rules.proofs.Scans.{scan-data, scan-back}
+use Rattle.jpeg_rules.proofs.Turns.{tag-of, number-is}
+use Rattle.jpeg_rules.proofs.Walks.{Onward, by-alone, by-frame, by-scan, by-plain, by-tag, Ended, turn-told, Walks, stops, goes, walks-from}
+use Rattle.jpeg_rules.proofs.There.{length-lengthed, res-plain, resolves-nonzero, bool-else, tagged-long}
+
+-- ---- a marker with a length, as it stands
+
+pub record Stood (s : List ℕ) (at c least next : ℕ) : Type 0 where
+  pub body : List ℕ
+  pub fits : Fits body
+  pub enough : least ≤ length body + 2
+  pub ends : next ≡ at + 2 + (length body + 2)
+  pub inside : next ≤ length s
+  pub stands : drop at s ≡ lengthed c body ++ drop next s
+
+pub stood : (s : List ℕ) → Octets s → (at c n least next : ℕ) → 2 ≤ least → markerOf s at ≡ Code c n → segOf s n least ≡ Body next → Stood s at c least next
+unfolding lengthed
+stood s o at c n least next two m g =
+    let k = marker-back s at c n m in
+    let b = seg-back s n least next o two g in
+    let z = b .ends in
+    let y = k .0 in
+    record {
+      body = b .body;
+      fits = b .fits;
+      enough = b .enough;
+      ends = omega arith;
+      inside = b .inside;
+      stands = k .2 ∙ ap (λ (l : List ℕ). 0xFF ∷ c ∷ l) (b .stands ∙ sym (append-assoc (octets16 (length (b .body) + 2)) (b .body) (drop next s)));
+    }
+
+-- ---- behind the frame
+
+pub record Tail (s : List ℕ) (st : Reach) (e w h r : ℕ) : Type 0 where
+  pub after : List Piece
+  pub good : Each Good after
+  pub octets : drop (st .at) s ≡ piecesOf after ++ (0xFF ∷ 0xD9 ∷ drop e s)
+  pub scanned : (st .scanned ≡ true) ⊎ Scanned after
+  pub width : st .width ≡ w
+  pub height : st .height ≡ h
+  pub res : st .res ≡ r
+  pub ends : e ≡ st .at + length (piecesOf after) + 2
+  pub inside : e ≤ length s
+
+-- one piece in front
+tail-more : (s : List ℕ) (st t : Reach) (e w h r : ℕ) (p : Piece) → Good p → drop (st .at) s ≡ octetsOf p ++ drop (t .at) s
+    → t .at ≡ st .at + length (octetsOf p) → ((t .scanned ≡ true) → (st .scanned ≡ true) ⊎ (isScan p ≡ true))
+    → t .width ≡ st .width → t .height ≡ st .height → t .res ≡ st .res → Tail s t e w h r → Tail s st e w h r
+unfolding Each piecesOf Scanned
+tail-more s st t e w h r p g q a sc tw th tr k =
+    let l = length-append (octetsOf p) (piecesOf (k .after)) in
+    let z = k .ends in
+    record {
+      after = p ∷ k .after;
+      good = (g, k .good);
+      octets = q ∙ ap (λ (x : List ℕ). octetsOf p ++ x) (k .octets) ∙ sym (append-assoc (octetsOf p) (piecesOf (k .after)) (0xFF ∷ 0xD9 ∷ drop e s));
+      scanned =
+          ⊎-elim (λ (y : t .scanned ≡ true). ⊎-map (λ (x : st .scanned ≡ true). x) (λ (x : isScan p ≡ true). inl x) (sc y)) (λ (y : Scanned (k .after)). inr (inr y)) (k .scanned);
+      width = sym tw ∙ k .width;
+      height = sym th ∙ k .height;
+      res = sym tr ∙ k .res;
+      ends = omega arith;
+      inside = k .inside;
+    }
+
+tag-gives : (s : List ℕ) (st : Reach) (c n v : ℕ) → tagOf s st c n ≡ Gives v → st .res ≡ 0
+unfolding tagOf
+tag-gives s st c n v =
+    cond-with (λ x. x ≡ Gives v → st .res ≡ 0) (eqb c 0xE1 && eqb (st .res) 0 && leb 12 (be16At s n) && standsAt s (n + 2) g3fax)
+    (λ t e.
+    says-and (says-and (says-and (says-eq c 0xE1) (says-eq (st .res) 0)) (says-le 12 (be16At s n))) (says-true (standsAt s (n + 2) g3fax)) .told t .0 .0 .1)
+    (λ t e. clash cc)
+
+module _ (s : List ℕ) (o : Octets s) (main e w h r : ℕ) where
+  tail-end : (st : Reach) → Ended s main st e w h r → Tail s st e w h r
+  unfolding Each piecesOf
+  tail-end st k =
+      let m = marker-back s (st .at) (k .c) e (k .marker) in
+      let z = m .0 in
+      let y = m .1 in
+      record {
+        after = [];
+        good = tt;
+        octets = m .2 ∙ ap (λ (c : ℕ). 0xFF ∷ c ∷ drop e s) (end-code (k .c) (k .class));
+        scanned = inl (k .scanned);
+        width = k .width;
+        height = k .height;
+        res = k .res;
+        ends = omega arith;
+        inside = omega arith;
+      }
+
+  reach-of : {A : Type 0} {t u : Reach} (f : Reach → A) → t ≡ u → f u ≡ f t
+  reach-of f q = ap f (sym q)
+
+  tail-onward : (st t : Reach) → st .framed ≡ true → st .res ≢ 0 → Onward s main st t
+      → ((t .framed ≡ true) → (t .res ≢ 0) → Tail s t e w h r) → Tail s st e w h r
+  unfolding octetsOf Good isScan
+  tail-onward st t f d (by-alone c n m k q) go =
+      let x = marker-back s (st .at) c n m in
+      let a : t .at ≡ n = reach-of (λ (z : Reach). z .at) q in
+      let z = x .0 in
+      tail-more s st t e w h r alone tt
+      (x .2 ∙ ap (λ (c : ℕ). 0xFF ∷ c ∷ drop n s) (alone-code c k) ∙ ap (λ (j : ℕ). 0xFF ∷ 0x01 ∷ drop j s) (sym a))
+      (omega arith) (λ y. inl (reach-of (λ (z : Reach). z .scanned) (sym q) ∙ y)) (reach-of (λ (z : Reach). z .width) q) (reach-of (λ (z : Reach). z .height) q)
+      (reach-of (λ (z : Reach). z .res) q)
+      (go (reach-of (λ (z : Reach). z .framed) q ∙ f) (λ y. d (sym (reach-of (λ (z : Reach). z .res) q) ∙ y)))
+  tail-onward st t f d (by-frame c n next m k nf nr g nh nw q) go = absurd (false≢true (sym nf ∙ f))
+  tail-onward st t f d (by-scan c n next p m k fr g fo q) go =
+      let x = stood s o (st .at) c n 2 next (omega arith) m g in
+      let y = scan-data s next p fo in
+      let b = scan-back s next p fo in
+      let a : t .at ≡ p = reach-of (λ (z : Reach). z .at) q in
+      let body : List ℕ = x .body in
+      let coded : List ℕ = take (p - next) (drop next s) in
+      let l1 = length-append (lengthed 0xDA body) coded in
+      let l2 = length-lengthed 0xDA body in
+      let l3 : length coded ≡ p - next = length-take-le (p - next) (drop next s) (let u = length-drop next s in let v = b .inside in let i = b .after in omega arith) in
+      let i = b .after in
+      let en = x .ends in
+      tail-more s st t e w h r (scan body coded) (x .fits, y .0)
+      (x .stands ∙ ap (λ (c : ℕ). lengthed c body ++ drop next s) (scan-code c k)
+      ∙ ap (λ (u : List ℕ). lengthed 0xDA body ++ u) (y .1) ∙ sym (append-assoc (lengthed 0xDA body) coded (drop p s))
+      ∙ ap (λ (j : ℕ). (lengthed 0xDA body ++ coded) ++ drop j s) (sym a))
+      (omega arith) (λ u. inr refl) (reach-of (λ (z : Reach). z .width) q) (reach-of (λ (z : Reach). z .height) q) (reach-of (λ (z : Reach). z .res) q)
+      (go (reach-of (λ (z : Reach). z .framed) q) (λ u. d (sym (reach-of (λ (z : Reach). z .res) q) ∙ u)))
+  tail-onward st t f d (by-plain c n next m k g pl q) go =
+      let x = stood s o (st .at) c n 2 next (omega arith) m g in
+      let a : t .at ≡ next = reach-of (λ (z : Reach). z .at) q in
+      let l2 = length-lengthed c (x .body) in
+      let en = x .ends in
+      tail-more s st t e w h r (segment c (x .body)) (k, x .fits)
+      (x .stands ∙ ap (λ (j : ℕ). lengthed c (x .body) ++ drop j s) (sym a))
+      (omega arith) (λ y. inl (reach-of (λ (z : Reach). z .scanned) (sym q) ∙ y)) (reach-of (λ (z : Reach). z .width) q) (reach-of (λ (z : Reach). z .height) q)
+      (reach-of (λ (z : Reach). z .res) q)
+      (go (reach-of (λ (z : Reach). z .framed) q ∙ f) (λ y. d (sym (reach-of (λ (z : Reach). z .res) q) ∙ y)))
+  tail-onward st t f d (by-tag c n next v m k g gv ok q) go = absurd (d (tag-gives s st c n v gv))
+
+  pub tail-back : {st : Reach} {x : Walk} → Walks s main st x → x ≡ Ends e w h r → st .framed ≡ true → st .res ≢ 0 → Tail s st e w h r
+  tail-back {st} {x} (stops q) z f d = tail-end st (turn-told s main st .1 e w h r (q ∙ ap Stop z))
+  tail-back {st} {x} (goes {t = t} q more) z f d =
+      tail-onward st t f d (turn-told s main st .0 t q) (λ tf td. tail-back more z tf td)
