@@ -3,11 +3,12 @@
 use mathlib.Core.Path.{_≡_, refl, sym, ap, ap₂, _∙_}
 use Prim.Native.Nat.{ℕ, _+_, _-_, _*_, _/_, _≤_, _<_, min}
 use native.Mathlib.Omega.{arith}
+use native.Mathlib.Nat.{add-zero}
 use mathlib.Core.Bool.{Bool, true, false, _&&_, cond}
 use mathlib.Core.List.{List, []}
 use lib.ListN.{length}
 use lib.Dec.{eqb, ltb, leb}
-use borrow.Author.Tests.{eq-eqb, ne-eqb, le-leb, lt-leb}
+use borrow.Author.Tests.{eq-eqb, ne-eqb, lt-ltb, le-ltb, le-leb, lt-leb}
 use borrow.Author.Needs.{needs}
 use Rattle.sheet_rules.specs.declared.Record.{Record}
 use Rattle.sheet_rules.specs.declared.Stripe.{Stripe}
@@ -56,6 +57,23 @@ module _ (r : Record) where
 
   pub height-else : (r .layer ≡ 2 → ⊥) → 0 ≡ heightIn r
   height-else d = simp (ne-eqb (r .layer) 2 d)
+
+-- ---- one more record: of a stripe before, of the stripe itself, of one behind
+
+module _ (k : ℕ) (row : Stripe) (r : Record) where
+  pub more-before : (h : ℕ) → r .stripe < k → h ≡ heightIn r
+      → record { first = row .first + 1; layers = row .layers; top = row .top + h; height = row .height } ≡ withRecord k row r
+  unfolding withRecord
+  more-before h l e = simp (lt-ltb (r .stripe) k l, ne-eqb (r .stripe) k (λ q. omega (arith, q, l)), e, add-zero (row .layers), add-zero (row .height))
+
+  pub more-in : (h : ℕ) → r .stripe ≡ k → h ≡ heightIn r
+      → record { first = row .first; layers = row .layers + 1; top = row .top; height = row .height + h } ≡ withRecord k row r
+  unfolding withRecord
+  more-in h q e = simp (eq-eqb (r .stripe) k q, le-ltb (r .stripe) k (omega (arith, q)), e, add-zero (row .first), add-zero (row .top))
+
+  pub more-behind : k ≤ r .stripe → (r .stripe ≡ k → ⊥) → row ≡ withRecord k row r
+  unfolding withRecord
+  more-behind l d = simp (le-ltb (r .stripe) k l, ne-eqb (r .stripe) k d, add-zero (row .first), add-zero (row .layers), add-zero (row .top), add-zero (row .height))
 
 -- ---- the loop over the records
 
@@ -109,4 +127,4 @@ counted-end s k n i row f e c h g q =
     let z : i ≡ min (length s / recordSize) 960 = omega arith in
     q ∙ ap foundRow (c .row-is) ∙ ap (λ (m : ℕ). foundRow (rowOf k (recordsFrom s m 0))) z
 
-pub ruleset finding = (needs, layer-zero, layer-past, layer-at, row-missing, row-there, height-two, height-else, counted-begin, counted-more, counted-end)
+pub ruleset finding = (needs, layer-zero, layer-past, layer-at, row-missing, row-there, height-two, height-else, more-before, more-in, more-behind, counted-begin, counted-more, counted-end)

@@ -1,7 +1,7 @@
 // The stripe table: a stripe of a sheet found by its number, and a layer of it.
 ghost use mathlib.Core.Path.{_≡_};
-ghost use Prim.Native.Nat.{_<_, _≤_, min};
-ghost use Rattle.sheet_rules.specs.Record.{only, heightIn};
+ghost use Prim.Native.Nat.{_<_, min};
+ghost use Rattle.sheet_rules.specs.Record.{heightIn};
 ghost use Rattle.sheet_rules.specs.Stripe.{withRecord, foundRow, findStripe, findLayer};
 use sheet_rules::FoundLayer;
 use sheet_rules::FoundStripe;
@@ -12,12 +12,6 @@ use sheet_rules::Stripe;
 // No good sheet has more records, and sums over so many fit.
 const MOST_RECORDS: usize = 960;
 
-pub fn only_if(b: bool, n: u32) -> u32
-    ensures { λ r. ⌜ (r ≡ only b n) × (r ≤ n) ⌝ }
-{
-    if b { n } else { 0 }
-}
-
 // What a record adds to the page's height: that of layer 2.
 pub fn height_in(r: Record) -> u32
     ensures { λ h. ⌜ (h ≡ heightIn r) × (h < 65536) ⌝ }
@@ -25,19 +19,30 @@ pub fn height_in(r: Record) -> u32
     if r.layer == 2 { r.height as u32 } else { 0 }
 }
 
-// A row with one more record counted in. The caller counts few records, so that the sums fit.
+// A row with one more record counted in. The caller counts few records, so that the sums fit. It branches, since a sheet's stripes come in
+// order: sums of which most add 0 take half as long again.
 pub fn with_record(k: usize, row: Stripe, r: Record) -> Stripe
     requires { ⌜ (row .first < 2147483648) × (row .layers < 2147483648) × (row .top < 2147483648) × (row .height < 2147483648) ⌝ }
     ensures { λ t. ⌜ t ≡ withRecord k row r ⌝ }
 {
     let s = r.stripe as usize;
-    let h = height_in(r);
-    Stripe {
-        first: row.first + only_if(s < k, 1),
-        layers: row.layers + only_if(s == k, 1),
-        top: row.top + only_if(s < k, h),
-        height: row.height + only_if(s == k, h),
+    if s < k {
+        return Stripe {
+            first: row.first + 1,
+            layers: row.layers,
+            top: row.top + height_in(r),
+            height: row.height,
+        };
     }
+    if s == k {
+        return Stripe {
+            first: row.first,
+            layers: row.layers + 1,
+            top: row.top,
+            height: row.height + height_in(r),
+        };
+    }
+    row
 }
 
 pub fn least(a: usize, b: usize) -> usize

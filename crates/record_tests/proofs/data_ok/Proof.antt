@@ -1,3 +1,4 @@
+use Rattle.record_tests.proofs.Laws.{testing}
 use borrow.Author.Needs.{needs}
 use Rattle.record_tests.proofs.data_ok.Statement.{statement}
 use Rattle.record_tests.proofs.data_ok.Tie as tie
@@ -8,11 +9,15 @@ is-coded-requires c κs = search needs
 coded-ok-requires : tie.Need-coded-ok-requires
 coded-ok-requires c κs = search needs
 
+returns : tie.Need-returns
+returns c = search testing
+
 uncoded-ok-requires : tie.Need-uncoded-ok-requires
 uncoded-ok-requires c κs = search needs
 
-returns : tie.Need-returns
-returns c = cc
+returns-2 : tie.Need-returns-2
+returns-2 c = search testing
 
 pub data-ok-spec : {M : Type 1} → statement M
-data-ok-spec = tie.close (tie.spec is-coded-requires coded-ok-requires uncoded-ok-requires returns)
+data-ok-spec =
+    tie.close (tie.spec is-coded-requires coded-ok-requires returns uncoded-ok-requires returns-2)

@@ -1,3 +1,4 @@
+use Rattle.record_tests.proofs.Laws.{testing}
 use borrow.Author.Needs.{needs}
 use Rattle.record_tests.proofs.is_placed.Statement.{statement}
 use Rattle.record_tests.proofs.is_placed.Tie as tie
@@ -11,6 +12,9 @@ cast-result-2 c = search needs
 add-result : tie.Need-add-result
 add-result c = search needs
 
+returns : tie.Need-returns
+returns c = search testing
+
 cast-result-3 : tie.Need-cast-result-3
 cast-result-3 c = search needs
 
@@ -23,8 +27,8 @@ add-result-2 c = search needs
 may-close-requires : tie.Need-may-close-requires
 may-close-requires c κs = search needs
 
-returns : tie.Need-returns
-returns c = cc
+returns-2 : tie.Need-returns-2
+returns-2 c = search testing
 
 pub is-placed-spec : {M : Type 1} → statement M
 is-placed-spec =
@@ -33,8 +37,9 @@ is-placed-spec =
     cast-result
     cast-result-2
     add-result
+    returns
     cast-result-3
     cast-result-4
     add-result-2
     may-close-requires
-    returns)
+    returns-2)

@@ -1,0 +1,101 @@
+-- One law for each way out of the tests that branch: its premises are what is known there.
+-- Assumes nothing.
+use mathlib.Core.Path.{_≡_, sym, ap, _∙_}
+use Prim.Native.Nat.{ℕ, _+_, _%_, _<_}
+use native.Mathlib.Omega.{arith}
+use mathlib.Core.Bool.{Bool, true, false, _&&_, _||_, not, and-true, and-false, or-true, or-false}
+use native.Mathlib.Nat.{mod-self, eq-zero-or-pos}
+use mathlib.Core.Logic.{⊎-elim}
+use lib.Dec.{eqb, leb, ltb}
+use borrow.Author.Tests.{eq-eqb, ne-eqb, lt-leb, not-true, not-false}
+use borrow.Author.Needs.{needs}
+use Rattle.sheet_rules.specs.declared.Record.{Record}
+use Rattle.sheet_rules.specs.declared.State.{State}
+use Rattle.sheet_rules.specs.Judge.{zerosOk, closes, placed, coded, codedOk, uncodedOk, dataOk, listed, divides, resOk, baseOk, pageOk, upperOk, layerOk, keeps}
+
+-- ---- the resolution
+
+module _ (c : Bool) (res main : ℕ) where
+  pub res-same : res ≡ main → not (eqb res 0) ≡ resOk c res main
+  res-same e =
+      ⊎-elim (λ (z : res ≡ 0). simp (eq-eqb res 0 z))
+      (λ (p : 0 < res).
+      simp (
+        ne-eqb res 0 (λ z. omega (arith, z, p)),
+        eq-eqb (main % res) 0 (ap (λ (n : ℕ). n % res) (sym e) ∙ mod-self res),
+        eq-eqb res main e,
+        or-true c,
+      ))
+      (eq-zero-or-pos res)
+
+  pub res-coded : (b : Bool) → c ≡ true → b ≡ divides res main → b ≡ resOk c res main
+  res-coded b e k = k ∙ sym (ap (λ (x : Bool). divides res main && (x || eqb res main)) e ∙ and-true (divides res main))
+
+  pub res-other : (res ≡ main → ⊥) → c ≡ false → false ≡ resOk c res main
+  res-other d e = simp (e, ne-eqb res main d, and-false (divides res main))
+
+-- ---- coded or not
+
+module _ (r : Record) (b v : Bool) (k : b ≡ coded r) where
+  pub data-coded : b ≡ true → v ≡ codedOk r → v ≡ dataOk r
+  data-coded e h = simp (sym k ∙ e, or-false (codedOk r)) h
+
+  pub data-uncoded : b ≡ false → v ≡ uncodedOk r → v ≡ dataOk r
+  data-uncoded e h = simp (sym k ∙ e) h
+
+module _ (st : State) (r : Record) where
+  -- ---- the place: in the same stripe, or in the next
+
+  pub placed-same : r .stripe ≡ st .stripe → eqb (r .layer) (st .layer + 1) && leb (r .layer) 15 ≡ placed st r
+  placed-same e =
+      simp (
+        eq-eqb (r .stripe) (st .stripe) e,
+        ne-eqb (r .stripe) (st .stripe + 1) (λ h. omega (arith, h)),
+        or-false (eqb (r .layer) (st .layer + 1) && leb (r .layer) 15),
+      )
+
+  pub placed-next : (b : Bool) → (r .stripe ≡ st .stripe → ⊥) → b ≡ closes (st .layer)
+      → eqb (r .stripe) (st .stripe + 1) && ltb (r .stripe) 64 && eqb (r .layer) 1 && b ≡ placed st r
+  placed-next b d k = simp (ne-eqb (r .stripe) (st .stripe) d, k)
+
+  -- ---- the layer's number
+
+  pub layer-one : r .layer ≡ 1 → true ≡ layerOk st r
+  layer-one e = simp (eq-eqb (r .layer) 1 e)
+
+  pub layer-two : (b : Bool) → (r .layer ≡ 1 → ⊥) → r .layer ≡ 2 → b ≡ pageOk st r → b ≡ layerOk st r
+  layer-two b d e k =
+      simp (ne-eqb (r .layer) 1 d, eq-eqb (r .layer) 2 e, lt-leb 3 (r .layer) (omega (arith, e)), or-false (pageOk st r)) k
+
+  pub layer-more : (b : Bool) → (r .layer ≡ 1 → ⊥) → (r .layer ≡ 2 → ⊥) → b ≡ upperOk st r → leb 3 (r .layer) && b ≡ layerOk st r
+  layer-more b d e k = simp (ne-eqb (r .layer) 1 d, ne-eqb (r .layer) 2 e, k)
+
+  -- ---- the first rule that is broken, or none
+
+  pub breaks-zeros : (b : Bool) → b ≡ zerosOk r → not b ≡ true → false ≡ keeps st r
+  unfolding keeps
+  breaks-zeros b k e = simp (sym k ∙ not-true b e)
+
+  pub breaks-place : (b : Bool) → b ≡ placed st r → not b ≡ true → false ≡ keeps st r
+  unfolding keeps
+  breaks-place b k e = simp (sym k ∙ not-true b e, and-false (zerosOk r))
+
+  pub breaks-data : (b : Bool) → b ≡ dataOk r → not b ≡ true → false ≡ keeps st r
+  unfolding keeps
+  breaks-data b k e = simp (sym k ∙ not-true b e, and-false (zerosOk r && placed st r))
+
+  pub breaks-listed : (b : Bool) → b ≡ listed (r .res) → not b ≡ true → false ≡ keeps st r
+  unfolding keeps
+  breaks-listed b k e = simp (sym k ∙ not-true b e, and-false (zerosOk r && placed st r && dataOk r))
+
+  pub breaks-base : (b : Bool) → b ≡ baseOk r → not b ≡ true → false ≡ keeps st r
+  unfolding keeps
+  breaks-base b k e = simp (sym k ∙ not-true b e, and-false (zerosOk r && placed st r && dataOk r && listed (r .res)))
+
+  pub breaks-none : (z p d l b v : Bool) → z ≡ zerosOk r → not z ≡ false → p ≡ placed st r → not p ≡ false → d ≡ dataOk r → not d ≡ false
+      → l ≡ listed (r .res) → not l ≡ false → b ≡ baseOk r → not b ≡ false → v ≡ layerOk st r → v ≡ keeps st r
+  unfolding keeps
+  breaks-none z p d l b v kz ez kp ep kd ed kl el kb eb k =
+      simp (sym kz ∙ not-false z ez, sym kp ∙ not-false p ep, sym kd ∙ not-false d ed, sym kl ∙ not-false l el, sym kb ∙ not-false b eb) k
+
+pub ruleset testing = (needs, res-same, res-coded, res-other, data-coded, data-uncoded, placed-same, placed-next, layer-one, layer-two, layer-more, breaks-zeros, breaks-place, breaks-data, breaks-listed, breaks-base, breaks-none)
