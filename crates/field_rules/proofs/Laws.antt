@@ -1,0 +1,168 @@
+-- Reading a segment by its table and what its octets are: each from the other, and what either hangs on.
+-- Assumes nothing.
+use Prim.Native.Nat.{ℕ, zero, suc, _+_, _-_, _*_, _≤_, _<_}
+use native.Mathlib.Omega.{arith}
+use native.Mathlib.Nat.{add-zero, add-assoc}
+use mathlib.Core.Path.{_≡_, refl, sym, ap, ap₂, subst, _∙_}
+use mathlib.Core.Logic.{_⊎_, inl, inr, ⊎-elim}
+use mathlib.Core.Bool.{Bool, true, false, cond}
+use mathlib.Core.List.{List, [], _∷_, _++_, append-assoc}
+use lib.ListN.{length, getD, take, drop, length-append, length-drop, length-take}
+use lib.Seq.{getD-take, take-at, length-take-le}
+use lib.Dec.{ltb}
+use borrow.Author.Tests.{le-ltb, ltb-false, ltb-true, lt-ltb}
+use Rattle.answers.specs.declared.Answer.{Answer}
+use Rattle.answers.specs.declared.Answer.the-variants.{Short}
+use Rattle.octets.specs.Octets.{Octets, be16At, be32At, octets16, octets32, standsAt}
+use Rattle.octets.proofs.Laws.{be16-there, be32-there, be16-stands, be32-stands, be16-bound, be32-bound, be16-same, be32-same, drop-next, drop-octet, length-octets16, length-octets32, stands-there, stands-split}
+use Rattle.field_rules.specs.Field.{Res, ok, no, Width, one, two, four, octetCount, widths, numberAt, numbers, Row, mark, val, again, fields, octetsOf, bound, put, Sized}
+use Rattle.field_rules.specs.Stands.{Stands, at-end, marked, valued, held}
+
+cond-with : {A : Type 0} (P : A → Type 0) (b : Bool) {x y : A} → (b ≡ true → P x) → (b ≡ false → P y) → P (cond b x y)
+cond-with P true f g = f refl
+cond-with P false f g = g refl
+
+clash : {A : Type 0} → _≡_ {A = ℕ} 0 1 → A
+clash e = absurd (omega arith)
+
+-- ---- one number
+
+length-octets : (w : Width) (v : ℕ) → length (octetsOf w v) ≡ octetCount w
+length-octets one v = refl
+length-octets two v = length-octets16 v
+length-octets four v = length-octets32 v
+
+number-there : (w : Width) (s r : List ℕ) (at v : ℕ) → drop at s ≡ octetsOf w v ++ r → numberAt w s at ≡ v
+number-there one s r at v e =
+    let l : length s - at ≡ suc (length r) = sym (length-drop at s) ∙ ap length e in
+    let d = drop-octet s at (omega arith) in
+    cc
+number-there two s r at v e = be16-there s r at v e
+number-there four s r at v e = be32-there s r at v e
+
+number-stands : (w : Width) (s : List ℕ) (at : ℕ) → Octets s → at + octetCount w ≤ length s
+    → (drop at s ≡ octetsOf w (numberAt w s at) ++ drop (at + octetCount w) s) × (numberAt w s at < bound w)
+number-stands one s at o h = (drop-octet s at (omega arith), o at)
+number-stands two s at o h = (be16-stands s at o h, be16-bound s at o)
+number-stands four s at o h = (be32-stands s at o h, be32-bound s at o)
+
+-- ---- a list of them
+
+pub length-put : (ws : List Width) (vs : List ℕ) → Sized ws vs → length (put ws vs) ≡ widths ws
+unfolding Sized put widths
+length-put [] [] z = refl
+length-put (w ∷ ws) (v ∷ vs) z =
+    let a = length-append (octetsOf w v) (put ws vs) in let b = length-octets w v in let c = length-put ws vs (z .1) in omega arith
+
+pub numbers-there : (ws : List Width) (vs : List ℕ) → Sized ws vs → (s r : List ℕ) (at : ℕ) → drop at s ≡ put ws vs ++ r → numbers ws s at ≡ vs
+unfolding Sized put numbers
+numbers-there [] [] z s r at e = refl
+numbers-there (w ∷ ws) (v ∷ vs) z s r at e =
+    let q : drop at s ≡ octetsOf w v ++ (put ws vs ++ r) = e ∙ append-assoc (octetsOf w v) (put ws vs) r in
+    let d : drop (at + octetCount w) s ≡ put ws vs ++ r =
+    ap (λ (k : ℕ). drop (at + k) s) (sym (length-octets w v)) ∙ drop-next s (octetsOf w v) (put ws vs ++ r) at q in
+    ap₂ (λ (x : ℕ) (l : List ℕ). x ∷ l) (number-there w s (put ws vs ++ r) at v q) (numbers-there ws vs (z .1) s r (at + octetCount w) d)
+
+pub numbers-stand : (ws : List Width) (s : List ℕ) (at : ℕ) → Octets s → at + widths ws ≤ length s
+    → (drop at s ≡ put ws (numbers ws s at) ++ drop (at + widths ws) s) × Sized ws (numbers ws s at)
+unfolding Sized put numbers widths
+numbers-stand [] s at o h = (ap (λ (k : ℕ). drop k s) (sym (add-zero at)), tt)
+numbers-stand (w ∷ ws) s at o h =
+    let a = number-stands w s at o (omega arith) in
+    let b = numbers-stand ws s (at + octetCount w) o (omega arith) in
+    let z : at + octetCount w + widths ws ≡ at + (octetCount w + widths ws) = omega arith in (
+      a .0
+          ∙ ap (λ (l : List ℕ). octetsOf w (numberAt w s at) ++ l) (b .0 ∙ ap (λ (k : ℕ). put ws (numbers ws s (at + octetCount w)) ++ drop k s) z)
+          ∙ sym (append-assoc (octetsOf w (numberAt w s at)) (put ws (numbers ws s (at + octetCount w))) (drop (at + (octetCount w + widths ws)) s)),
+      (a .1, b .1),
+    )
+
+-- ---- reading what stands there
+
+pub fields-there : {rows : List Row} {before out l : List ℕ} → Stands rows before out l → (s r : List ℕ) (at : ℕ) → at ≤ length s → drop at s ≡ l ++ r
+    → fields rows before s at ≡ ok out (at + length l)
+unfolding fields
+fields-there {before = before} at-end s r at h e = ap (ok before) (sym (add-zero at))
+fields-there (marked {m = m} {out = out} {l = l} more) s r at h e =
+    let q : drop at s ≡ m ++ (l ++ r) = e ∙ append-assoc m l r in
+    let n : length s - at ≡ length m + length (l ++ r) = sym (length-drop at s) ∙ ap length q ∙ length-append m (l ++ r) in
+    let a : at + length m ≤ length s = omega arith in
+    let x = length-append m l in
+    let z : at + length m + length l ≡ at + length (m ++ l) = omega arith in
+    simp (le-ltb (length s) (at + length m) a, stands-there s at m (l ++ r) h q)
+    (fields-there more s r (at + length m) a (drop-next s m (l ++ r) at q) ∙ ap (ok out) z)
+fields-there (valued {ws = ws} {out = out} {l = l} vs sized good more) s r at h e =
+    let q : drop at s ≡ put ws vs ++ (l ++ r) = e ∙ append-assoc (put ws vs) l r in
+    let n : length s - at ≡ length (put ws vs) + length (l ++ r) = sym (length-drop at s) ∙ ap length q ∙ length-append (put ws vs) (l ++ r) in
+    let k = length-put ws vs sized in
+    let a : at + widths ws ≤ length s = omega arith in
+    let x = length-append (put ws vs) l in
+    let z : at + widths ws + length l ≡ at + length (put ws vs ++ l) = omega arith in
+    let d : drop (at + widths ws) s ≡ l ++ r = ap (λ (j : ℕ). drop (at + j) s) (sym k) ∙ drop-next s (put ws vs) (l ++ r) at q in
+    simp (le-ltb (length s) (at + widths ws) a, numbers-there ws vs sized s (l ++ r) at q, good)
+    (fields-there more s r (at + widths ws) a d ∙ ap (ok out) z)
+fields-there (held good more) s r at h e = simp good (fields-there more s r at h e)
+
+-- ---- what was read stands there
+
+pub record Read (rows : List Row) (before out s : List ℕ) (at n : ℕ) : Type 0 where
+  pub octets : List ℕ
+  pub stands : Stands rows before out octets
+  pub split : drop at s ≡ octets ++ drop n s
+  pub ends : n ≡ at + length octets
+  pub inside : n ≤ length s
+
+pub fields-back : (rows : List Row) (before out s : List ℕ) (at n : ℕ) → Octets s → at ≤ length s → fields rows before s at ≡ ok out n
+    → Read rows before out s at n
+unfolding fields
+fields-back [] before out s at n o h = λ e.
+    let a : before ≡ out = cc in
+    let b : at ≡ n = cc in
+    record {
+      octets = [];
+      stands = subst (λ (x : List ℕ). Stands [] before x []) a at-end;
+      split = ap (λ (k : ℕ). drop k s) b;
+      ends = omega arith;
+      inside = omega arith;
+    }
+fields-back (mark m refusal ∷ rows) before out s at n o h =
+    cond-with (λ x. x ≡ ok out n → Read (mark m refusal ∷ rows) before out s at n) (ltb (length s) (at + length m)) (λ t e. clash cc) λ f.
+    cond-with (λ x. x ≡ ok out n → Read (mark m refusal ∷ rows) before out s at n) (standsAt s at m)
+    (λ t e.
+    let g = ltb-false (length s) (at + length m) f in
+    let k = fields-back rows before out s (at + length m) n o g e in
+    let d = stands-split s at m t .1 in
+    let x = length-append m (k .octets) in
+    let z = k .ends in
+    record {
+      octets = m ++ k .octets;
+      stands = marked (k .stands);
+      split = d ∙ ap (λ (l : List ℕ). m ++ l) (k .split) ∙ sym (append-assoc m (k .octets) (drop n s));
+      ends = omega arith;
+      inside = k .inside;
+    })
+    (λ t e. clash cc)
+fields-back (val ws good refusal ∷ rows) before out s at n o h =
+    cond-with (λ x. x ≡ ok out n → Read (val ws good refusal ∷ rows) before out s at n) (ltb (length s) (at + widths ws)) (λ t e. clash cc) λ f.
+    cond-with (λ x. x ≡ ok out n → Read (val ws good refusal ∷ rows) before out s at n) (good before (numbers ws s at))
+    (λ t e.
+    let g = ltb-false (length s) (at + widths ws) f in
+    let k = fields-back rows (before ++ numbers ws s at) out s (at + widths ws) n o g e in
+    let d = numbers-stand ws s at o g in
+    let x = length-append (put ws (numbers ws s at)) (k .octets) in
+    let y = length-put ws (numbers ws s at) (d .1) in
+    let z = k .ends in
+    record {
+      octets = put ws (numbers ws s at) ++ k .octets;
+      stands = valued (numbers ws s at) (d .1) t (k .stands);
+      split = d .0 ∙ ap (λ (l : List ℕ). put ws (numbers ws s at) ++ l) (k .split) ∙ sym (append-assoc (put ws (numbers ws s at)) (k .octets) (drop n s));
+      ends = omega arith;
+      inside = k .inside;
+    })
+    (λ t e. clash cc)
+fields-back (again back good refusal ∷ rows) before out s at n o h =
+    cond-with (λ x. x ≡ ok out n → Read (again back good refusal ∷ rows) before out s at n) (good before)
+    (λ t e.
+    let k = fields-back rows before out s at n o h e in
+    record { octets = k .octets; stands = held t (k .stands); split = k .split; ends = k .ends; inside = k .inside })
+    (λ t e. clash cc)
