@@ -96,15 +96,22 @@ module _ (a b : ℕ) where
 
 pub ruleset judging = (needs, judge-plain, judge-stuffed, judge-below, judge-above, judge-restart)
 
+-- ---- stops
+
+number-one : (b : Bool) → eqb (number b) 1 ≡ b
+number-one true = refl
+number-one false = refl
+
+pub stops-one : (a b : ℕ) {p : ℕ} → p ≡ number (stopsOf a b) → eqb p 1 ≡ stopsOf a b
+stops-one a b e = rw e (number-one (stopsOf a b))
+
+pub ruleset stopping = (needs, stops-one)
+
 -- ---- the scan, one pair on: what is found from i on is found there, or from i + 1 on
 
 judged-no : (b : Bool) → 0 ≡ number b → b ≡ false
 judged-no true h = absurd (omega arith)
 judged-no false h = refl
-
-judged-yes : (b : Bool) → (0 ≡ number b → ⊥) → b ≡ true
-judged-yes true h = refl
-judged-yes false h = absurd (h refl)
 
 module _ (s : List ℕ) (i : ℕ) where
   scan-none : length s ≤ i + 1 → scanOf s i ≡ Nothing
@@ -168,12 +175,12 @@ module _ (s : List ℕ) (from : ℕ) where
     pub look-none : last ≤ i → Nothing ≡ scanOf s from
     look-none h = sym (c .same ∙ scan-none s i (omega (arith, c .end)))
 
-    module _ (l : i < last) {p : ℕ} (e : p ≡ number (stopsOf (getD s i 0) (getD s (i + 1) 0))) where
-      pub look-here : (p ≡ 0 → ⊥) → At i ≡ scanOf s from
-      look-here n = sym (c .same ∙ scan-here s i (omega (arith, c .end)) (judged-yes _ (λ z. n (e ∙ sym z))))
+    module _ (l : i < last) {b : Bool} (e : b ≡ stopsOf (getD s i 0) (getD s (i + 1) 0)) where
+      pub look-here : b ≡ true → At i ≡ scanOf s from
+      look-here y = sym (c .same ∙ scan-here s i (omega (arith, c .end)) (sym e ∙ y))
 
-      pub look-on : p ≡ 0 → Looking s from last (i + 1)
-      look-on z = record { end = c .end; same = c .same ∙ scan-on s i (omega (arith, c .end)) (judged-no _ (sym z ∙ e)) }
+      pub look-on : b ≡ false → Looking s from last (i + 1)
+      look-on y = record { end = c .end; same = c .same ∙ scan-on s i (omega (arith, c .end)) (sym e ∙ y) }
 
 pub ruleset looking = (look-empty, look-begun, look-none, look-here, look-on)
 

@@ -83,6 +83,12 @@ fn worst(s: &[u8], i: usize) -> u8
     m
 }
 
+fn stops(a: u8, b: u8) -> bool
+    ensures { λ r. ⌜ r ≡ stopsOf a b ⌝ }
+{
+    judge(a, b) == 1
+}
+
 // Octet by octet, for the block that has a marker and for the last octets. The last octet has none behind it and is no marker.
 fn near(s: &[u8], from: usize) -> Found
     ensures { λ r. ⌜ r ≡ scanOf (now (s .entry)) from ⌝ }
@@ -93,7 +99,7 @@ fn near(s: &[u8], from: usize) -> Found
     let last = s.len() - 1;
     let mut i = from;
     while i < last {
-        if judge(s[i], s[i + 1]) != 0 {
+        if stops(s[i], s[i + 1]) {
             return Found::At(i);
         }
         i += 1;

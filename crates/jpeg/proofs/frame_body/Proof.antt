@@ -1,6 +1,5 @@
 use Rattle.jpeg.proofs.Laws.{frame-body-laws}
 use borrow.Author.Needs.{needs}
-use borrow.Author.Needs.{needs}
 use Rattle.jpeg.proofs.frame_body.Statement.{statement}
 use Rattle.jpeg.proofs.frame_body.Tie as tie
 

@@ -1,6 +1,5 @@
 use Rattle.jpeg.proofs.Laws.{frame-laws}
 use borrow.Author.Needs.{needs}
-use borrow.Author.Needs.{needs}
 use Rattle.jpeg.proofs.frame_step.Statement.{statement}
 use Rattle.jpeg.proofs.frame_step.Tie as tie
 

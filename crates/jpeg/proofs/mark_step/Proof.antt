@@ -1,6 +1,5 @@
 use Rattle.jpeg.proofs.Laws.{mark-laws}
 use borrow.Author.Needs.{needs}
-use borrow.Author.Needs.{needs}
 use Rattle.jpeg.proofs.mark_step.Statement.{statement}
 use Rattle.jpeg.proofs.mark_step.Tie as tie
 

@@ -1,6 +1,5 @@
 use Rattle.jpeg.proofs.Laws.{scan-laws}
 use borrow.Author.Needs.{needs}
-use borrow.Author.Needs.{needs}
 use Rattle.jpeg.proofs.scan_step.Statement.{statement}
 use Rattle.jpeg.proofs.scan_step.Tie as tie
 

@@ -1,6 +1,5 @@
 use Rattle.jpeg.proofs.Laws.{seg-laws}
 use borrow.Author.Needs.{needs}
-use borrow.Author.Needs.{needs}
 use Rattle.jpeg.proofs.seg_at.Statement.{statement}
 use Rattle.jpeg.proofs.seg_at.Tie as tie
 

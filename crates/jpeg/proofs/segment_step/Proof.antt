@@ -1,6 +1,5 @@
 use Rattle.jpeg.proofs.Laws.{segment-laws}
 use borrow.Author.Needs.{needs}
-use borrow.Author.Needs.{needs}
 use Rattle.jpeg.proofs.segment_step.Statement.{statement}
 use Rattle.jpeg.proofs.segment_step.Tie as tie
 

@@ -1,6 +1,5 @@
 use Rattle.jpeg.proofs.Laws.{tag-laws}
 use borrow.Author.Needs.{needs}
-use borrow.Author.Needs.{needs}
 use Rattle.jpeg.proofs.tag_of.Statement.{statement}
 use Rattle.jpeg.proofs.tag_of.Tie as tie
 

@@ -1,6 +1,5 @@
 use Rattle.jpeg.proofs.Laws.{turn-laws}
 use borrow.Author.Needs.{needs}
-use borrow.Author.Needs.{needs}
 use Rattle.jpeg.proofs.turn_at.Statement.{statement}
 use Rattle.jpeg.proofs.turn_at.Tie as tie
 

@@ -1,6 +1,5 @@
 use Rattle.scan.proofs.Laws.{marking}
 use borrow.Author.Needs.{needs}
-use borrow.Author.Needs.{needs}
 use Rattle.scan.proofs.marker_at.Statement.{statement}
 use Rattle.scan.proofs.marker_at.Tie as tie
 

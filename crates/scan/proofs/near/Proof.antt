@@ -1,4 +1,4 @@
-use Rattle.scan.proofs.Laws.{Looking, looking, look-here, look-on}
+use Rattle.scan.proofs.Laws.{Looking, looking}
 use borrow.Author.Needs.{needs}
 use Prim.Native.Nat.{_-_}
 use Rattle.scan.proofs.near.Statement.{statement}
@@ -19,20 +19,20 @@ sub-last c = search needs
 loop-holds : tie.Need-loop-holds Inv-loop μ-loop
 loop-holds c = search looking
 
-shared-slice-read-judge : tie.Need-shared-slice-read-judge Inv-loop μ-loop
-shared-slice-read-judge c = search needs
+shared-slice-read-stops : tie.Need-shared-slice-read-stops Inv-loop μ-loop
+shared-slice-read-stops c = search needs
 
-add-judge : tie.Need-add-judge Inv-loop μ-loop
-add-judge c = search needs
+add-stops : tie.Need-add-stops Inv-loop μ-loop
+add-stops c = search needs
 
-shared-slice-read-judge-2 : tie.Need-shared-slice-read-judge-2 Inv-loop μ-loop
-shared-slice-read-judge-2 c = search needs
+shared-slice-read-stops-2 : tie.Need-shared-slice-read-stops-2 Inv-loop μ-loop
+shared-slice-read-stops-2 c = search needs
 
-judge-requires : tie.Need-judge-requires Inv-loop μ-loop
-judge-requires c κs = search needs
+stops-requires : tie.Need-stops-requires Inv-loop μ-loop
+stops-requires c κs = search needs
 
 returns-2 : tie.Need-returns-2 Inv-loop μ-loop
-returns-2 c = look-here _ _ (c .before .before .before .before .before .loop .inv) (c .before .before .before .before .loop-test .taken) (c .before .judge .ensures) (c .if2 .taken)
+returns-2 c = search looking
 
 add-i : tie.Need-add-i Inv-loop μ-loop
 add-i c = search needs
@@ -41,7 +41,7 @@ loop-less : tie.Need-loop-less Inv-loop μ-loop
 loop-less c = search needs
 
 loop-again : tie.Need-loop-again Inv-loop μ-loop
-loop-again c = look-on _ _ (c .before .before .before .before .before .loop .inv) (c .before .before .before .before .loop-test .taken) (c .before .judge .ensures) (c .if2 .left)
+loop-again c = search looking
 
 returns-3 : tie.Need-returns-3 Inv-loop μ-loop
 returns-3 c = search looking
@@ -55,10 +55,10 @@ near-spec =
     returns
     sub-last
     loop-holds
-    shared-slice-read-judge
-    add-judge
-    shared-slice-read-judge-2
-    judge-requires
+    shared-slice-read-stops
+    add-stops
+    shared-slice-read-stops-2
+    stops-requires
     returns-2
     add-i
     loop-less
