@@ -12,7 +12,6 @@ use borrow.Author.Tests.{ltb-false}
 use Rattle.octets.specs.Octets.{be16At}
 use Rattle.jpeg_rules.specs.declared.Class.{Class}
 use Rattle.jpeg_rules.specs.declared.Class.the-variants.{Alone, Frame, Scan, End, Wrong, Segment}
-use Rattle.jpeg_rules.specs.declared.Fault.{Fault}
 use Rattle.jpeg_rules.specs.declared.Fault.the-variants.{BadRes}
 use Rattle.jpeg_rules.specs.declared.Found.{Found}
 use Rattle.jpeg_rules.specs.declared.Found.the-variants.{At, Nothing}

@@ -6,7 +6,6 @@ use mathlib.Core.List.{List}
 use mathlib.Core.Path.{_≡_, sym, _∙_}
 use native.Mathlib.Omega.{arith}
 use lib.ListN.{length, getD}
-use borrow.Author.Needs.{needs}
 use borrow.Author.Tests.{eq-eqb, ne-eqb, le-leb, lt-leb, lt-ltb, le-ltb}
 use Rattle.octets.specs.Octets.{be16At, standsAt}
 use Rattle.jpeg_rules.specs.declared.Class.{Class}
@@ -30,7 +29,7 @@ use Rattle.jpeg_rules.specs.Grammar.{g3fax}
 use Rattle.jpeg_rules.specs.Marker.{classOf, markerOf}
 use Rattle.jpeg_rules.specs.Walk.{segOf, scanOf, resolves, tagOf, framed, passed, moved, refused, frameBodyOf, frameOf, scanStepOf, segmentOf, endOf, markOf, turnOf, walkFrom, begun, walkOf}
 use Rattle.jpeg.specs.Room.{Room}
-use Rattle.jpeg.proofs.Ahead.{Ahead, ahead, behind, room}
+use Rattle.jpeg.proofs.Ahead.{ahead, behind, room}
 
 -- ---- seg_at
 module _ (s : List ℕ) (n least : ℕ) where

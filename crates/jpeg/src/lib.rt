@@ -199,7 +199,7 @@ pub fn turn_at(s: &[u8], main: u16, st: Reach) -> Turn
     }
 }
 
-// T.81 B.2.1: the start of image comes first; the layer's data has no other limit than its own end.
+// T.81 B.2.1: the start of image comes first. Each turn passes two octets at least, so that the loop ends.
 pub fn walk_layer(s: &[u8], start: usize, main: u16) -> Walk
     ensures { λ r. ⌜ r ≡ walkOf (now (s .entry)) start main ⌝ }
 {

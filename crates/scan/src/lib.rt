@@ -62,14 +62,14 @@ fn judge(a: u8, b: u8) -> u8
     0
 }
 
-// On numbers and without a branch: a flag that is set would keep the compiler from taking sixteen at a time.
+// The largest of numbers is taken of sixteen at a time; a flag that is set would be tested octet by octet.
 fn larger(a: u8, b: u8) -> u8
     ensures { λ r. ⌜ (a ≤ r) × (b ≤ r) ⌝ }
 {
     if a < b { b } else { a }
 }
 
-// All 32 pairs from i on are judged, whatever is found: a fixed count and no way out are what makes it fast.
+// All 32 pairs from i on are judged, whatever is found: a fixed count without another way out is what makes it fast.
 fn worst(s: &[u8], i: usize) -> u8
     requires { ⌜ i + 32 < length (now s) ⌝ }
     ensures { λ r. ⌜ (r ≡ 0 → scanOf (now (s .entry)) i ≡ scanOf (now (s .entry)) (i + 32)) ⌝ }
