@@ -1,0 +1,3 @@
+pub mod Ahead
+pub mod Fuel
+pub mod Laws
