@@ -12,6 +12,7 @@ use lib.Dec.{ltb}
 use borrow.Author.Tests.{le-ltb, ltb-false}
 use Rattle.answers.specs.declared.Answer.{Answer}
 use Rattle.answers.specs.declared.Answer.the-variants.{Short}
+use Rattle.cases.proofs.Cases.{bool-else}
 use Rattle.octets.specs.Octets.{be16At, be32At, standsAt}
 use Rattle.octets.proofs.Laws.{be16-append, be32-append, stands-append}
 use Rattle.field_rules.specs.Field.{Res, ok, no, Width, one, two, four, octetCount, widths, numberAt, numbers, Row, mark, val, again, fields, reach}
@@ -72,10 +73,6 @@ pub record Hangs (rows : List Row) (before s : List ℕ) (at : ℕ) : Type 0 whe
   pub ahead : at ≤ reach rows before s at
   pub inside : reach rows before s at ≤ length s
   pub same : (t : List ℕ) → Agree (reach rows before s at) s t → fields rows before t at ≡ fields rows before s at
-
-bool-else : (b : Bool) → (b ≡ true) ⊎ (b ≡ false)
-bool-else true = inl refl
-bool-else false = inr refl
 
 pub fields-hang : (rows : List Row) (before s : List ℕ) (at : ℕ) → at ≤ length s → Whole (fields rows before s at) → Hangs rows before s at
 unfolding fields reach Whole

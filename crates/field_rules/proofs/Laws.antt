@@ -13,17 +13,11 @@ use lib.Dec.{ltb}
 use borrow.Author.Tests.{le-ltb, ltb-false, ltb-true, lt-ltb}
 use Rattle.answers.specs.declared.Answer.{Answer}
 use Rattle.answers.specs.declared.Answer.the-variants.{Short}
+use Rattle.cases.proofs.Cases.{cond-with, clash}
 use Rattle.octets.specs.Octets.{Octets, be16At, be32At, octets16, octets32, standsAt}
 use Rattle.octets.proofs.Laws.{be16-there, be32-there, be16-stands, be32-stands, be16-bound, be32-bound, be16-same, be32-same, drop-next, drop-octet, length-octets16, length-octets32, stands-there, stands-split}
 use Rattle.field_rules.specs.Field.{Res, ok, no, Width, one, two, four, octetCount, widths, numberAt, numbers, Row, mark, val, again, fields, octetsOf, bound, put, Sized}
 use Rattle.field_rules.specs.Stands.{Stands, at-end, marked, valued, held}
-
-cond-with : {A : Type 0} (P : A → Type 0) (b : Bool) {x y : A} → (b ≡ true → P x) → (b ≡ false → P y) → P (cond b x y)
-cond-with P true f g = f refl
-cond-with P false f g = g refl
-
-clash : {A : Type 0} → _≡_ {A = ℕ} 0 1 → A
-clash e = absurd (omega arith)
 
 -- ---- one number
 

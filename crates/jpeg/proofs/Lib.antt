@@ -1,3 +1,2 @@
 pub mod Ahead
-pub mod Fuel
 pub mod Laws

@@ -12,7 +12,7 @@ use lib.Dec.{eqb, leb, ltb}
 use borrow.Author.Tests.{eq-eqb, ne-eqb, eqb-true, ltb-false}
 use Rattle.octets.specs.Octets.{Octets, be16At, octets16, standsAt}
 use Rattle.sheet_rules.specs.Sentences.{Listed}
-use Rattle.sheet_rules.proofs.Says.{Says, says-eq, says-le, says-and, says-true, says-else}
+use Rattle.cases.proofs.Says.{Says, says-eq, says-le, says-and, says-true, says-else}
 use Rattle.sheet_rules.proofs.New.{says-listed, says-divides}
 use Rattle.sheet_rules.proofs.Backward.{listed-nonzero}
 use Rattle.jpeg_rules.specs.declared.Class.{Class}
@@ -31,12 +31,13 @@ use Rattle.jpeg_rules.specs.declared.Walk.the-variants.{Ends, Refused}
 use Rattle.jpeg_rules.specs.Marker.{classOf, markerOf}
 use Rattle.jpeg_rules.specs.Grammar.{Data, Piece, alone, segment, scan, lengthed, octetsOf, piecesOf, Fits, Good, isScan, g3fax, tagged, resolution, Each, Scanned, Layer}
 use Rattle.jpeg_rules.specs.Walk.{segOf, scanOf, resolves, tagOf, framed, passed, moved, begun, walkFrom, walkOf}
-use Rattle.jpeg_rules.proofs.Leaves.{cond-with, clash, alone-code, scan-code, end-code, marker-back, two-stand, Segmented, seg-back}
+use Rattle.cases.proofs.Cases.{cond-with, clash, bool-else}
+use Rattle.jpeg_rules.proofs.Leaves.{alone-code, scan-code, end-code, marker-back, two-stand, Segmented, seg-back}
 use Rattle.jpeg_rules.proofs.Scans.{scan-data, scan-back}
 use Rattle.jpeg_rules.proofs.Turns.{tag-of, number-is}
 use Rattle.jpeg_rules.proofs.Walks.{Onward, by-alone, by-frame, by-scan, by-plain, by-tag, Ended, turn-told, Walks, stops, goes, walks-from}
 use Rattle.jpeg_rules.proofs.Tail.{Stood, stood, Tail, tail-back}
-use Rattle.jpeg_rules.proofs.There.{length-lengthed, res-plain, resolves-nonzero, bool-else, tagged-long}
+use Rattle.jpeg_rules.proofs.There.{length-lengthed, res-plain, resolves-nonzero, tagged-long}
 
 -- ---- before the frame
 
@@ -147,7 +148,7 @@ module _ (s : List ℕ) (o : Octets s) (main e w h r : ℕ) where
       sym (tag-of s main st c (x .body) (drop next s) (x .stands) ∙ ap (λ (b : Bool). cond b (Gives (be16At s (st .at + 2 + 10))) Plain) t) ∙ q in
       clash cc)
       (λ (t : eqb (st .res) 0 && tagged c (x .body) ≡ false). t)
-      (bool-else s main (eqb (st .res) 0 && tagged c (x .body)))
+      (bool-else (eqb (st .res) 0 && tagged c (x .body)))
 
   gives-test : (st : Reach) (c next v : ℕ) (x : Stood s (st .at) c 2 next) → tagOf s st c (st .at + 2) ≡ Gives v
       → (eqb (st .res) 0 && tagged c (x .body) ≡ true) × (be16At s (st .at + 2 + 10) ≡ v)
@@ -161,7 +162,7 @@ module _ (s : List ℕ) (o : Octets s) (main e w h r : ℕ) where
       let z : Plain ≡ Gives v =
       sym (tag-of s main st c (x .body) (drop next s) (x .stands) ∙ ap (λ (b : Bool). cond b (Gives (be16At s (st .at + 2 + 10))) Plain) t) ∙ q in
       clash cc)
-      (bool-else s main (eqb (st .res) 0 && tagged c (x .body)))
+      (bool-else (eqb (st .res) 0 && tagged c (x .body)))
 
   found-same : (st t : Reach) → t .res ≡ st .res → Head s main t e w h r → (st .res ≢ 0) ⊎ (resolves main r ≡ true)
   found-same st t q k = ⊎-map (λ (d : t .res ≢ 0) z. d (q ∙ z)) (λ (v : resolves main r ≡ true). v) (k .found)

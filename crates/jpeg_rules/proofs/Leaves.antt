@@ -11,9 +11,10 @@ use lib.Seq.{drop-cons, getD-drop, drop-drop, take-at, length-take-le}
 use lib.Dec.{eqb, leb, ltb}
 use native.Mathlib.Numerals.{add-one}
 use borrow.Author.Tests.{eq-eqb, ne-eqb, eqb-true, eqb-false, le-leb, lt-leb, leb-true, leb-false, lt-ltb, le-ltb, ltb-true, ltb-false}
+use Rattle.cases.proofs.Cases.{cond-with, clash}
 use Rattle.octets.specs.Octets.{Octets, be16At, octets16}
 use Rattle.octets.proofs.Laws.{be16-there, be16-stands, be16-bound, drop-next, drop-octet, length-octets16}
-use Rattle.sheet_rules.proofs.Says.{Says, says-eq, says-le, says-and, says-or, says-not, says-else, says-false}
+use Rattle.cases.proofs.Says.{Says, says-eq, says-le, says-and, says-or, says-not, says-else, says-false}
 use Rattle.jpeg_rules.specs.declared.Class.{Class}
 use Rattle.jpeg_rules.specs.declared.Class.the-variants.{Alone, Frame, Scan, End, Wrong, Segment}
 use Rattle.jpeg_rules.specs.declared.Marker.{Marker}
@@ -27,13 +28,6 @@ use Rattle.jpeg_rules.specs.declared.Found.the-variants.{At, Nothing}
 use Rattle.jpeg_rules.specs.Marker.{within, among, classOf, markerOf}
 use Rattle.jpeg_rules.specs.Grammar.{DataCode, Data, none, plain, stuffed, lengthed, Fits}
 use Rattle.jpeg_rules.specs.Walk.{segOf, stopsOf, scanFrom, scanOf}
-
-pub cond-with : {A : Type 0} (P : A → Type 0) (b : Bool) {x y : A} → (b ≡ true → P x) → (b ≡ false → P y) → P (cond b x y)
-cond-with P true f g = f refl
-cond-with P false f g = g refl
-
-pub clash : {A : Type 0} → _≡_ {A = ℕ} 0 1 → A
-clash e = absurd (omega arith)
 
 -- ---- the codes of each class
 

@@ -9,20 +9,17 @@ use mathlib.Core.List.{List, [], _∷_, _++_}
 use lib.ListN.{length, getD, take, drop, length-drop, take-append-drop}
 use lib.Seq.{drop-drop}
 use Rattle.octets.proofs.Laws.{drop-octet}
-use Rattle.sheet_rules.proofs.Says.{Says, says-eq, says-else}
+use Rattle.cases.proofs.Says.{Says, says-eq, says-else}
 use Rattle.jpeg_rules.specs.declared.Found.{Found}
 use Rattle.jpeg_rules.specs.declared.Found.the-variants.{At, Nothing}
 use Rattle.jpeg_rules.specs.Grammar.{DataCode, Data, none, plain, stuffed}
 use Rattle.jpeg_rules.specs.Walk.{stopsOf, scanFrom, scanOf}
-use Rattle.jpeg_rules.proofs.Leaves.{cond-with, clash, says-data, says-stop, one-there, two-there}
+use Rattle.cases.proofs.Cases.{cond-with, clash, bool-else}
+use Rattle.jpeg_rules.proofs.Leaves.{says-data, says-stop, one-there, two-there}
 
 -- a pair that does not stop
 abbrev pub stopsAt : List ℕ → ℕ → Bool
 stopsAt s i = stopsOf (getD s i 0) (getD s (i + 1) 0)
-
-bool-else : (b : Bool) → (b ≡ true) ⊎ (b ≡ false)
-bool-else true = inl refl
-bool-else false = inr refl
 
 not-stop : (a b : ℕ) → ((a ≡ 0xFF) × (DataCode b → ⊥) → ⊥) → stopsOf a b ≡ false
 not-stop a b k = ⊎-elim (λ (e : stopsOf a b ≡ true). absurd (k (says-stop a b .told e))) (λ (e : stopsOf a b ≡ false). e) (bool-else (stopsOf a b))

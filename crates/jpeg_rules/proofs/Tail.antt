@@ -12,7 +12,7 @@ use lib.Dec.{eqb, leb, ltb}
 use borrow.Author.Tests.{eq-eqb, ne-eqb, eqb-true, ltb-false}
 use Rattle.octets.specs.Octets.{Octets, be16At, octets16, standsAt}
 use Rattle.sheet_rules.specs.Sentences.{Listed}
-use Rattle.sheet_rules.proofs.Says.{Says, says-eq, says-le, says-and, says-true, says-else}
+use Rattle.cases.proofs.Says.{Says, says-eq, says-le, says-and, says-true, says-else}
 use Rattle.sheet_rules.proofs.New.{says-listed, says-divides}
 use Rattle.sheet_rules.proofs.Backward.{listed-nonzero}
 use Rattle.jpeg_rules.specs.declared.Class.{Class}
@@ -31,11 +31,12 @@ use Rattle.jpeg_rules.specs.declared.Walk.the-variants.{Ends, Refused}
 use Rattle.jpeg_rules.specs.Marker.{classOf, markerOf}
 use Rattle.jpeg_rules.specs.Grammar.{Data, Piece, alone, segment, scan, lengthed, octetsOf, piecesOf, Fits, Good, isScan, g3fax, tagged, resolution, Each, Scanned, Layer}
 use Rattle.jpeg_rules.specs.Walk.{segOf, scanOf, resolves, tagOf, framed, passed, moved, begun, walkFrom, walkOf}
-use Rattle.jpeg_rules.proofs.Leaves.{cond-with, clash, alone-code, scan-code, end-code, marker-back, two-stand, Segmented, seg-back}
+use Rattle.cases.proofs.Cases.{cond-with, clash}
+use Rattle.jpeg_rules.proofs.Leaves.{alone-code, scan-code, end-code, marker-back, two-stand, Segmented, seg-back}
 use Rattle.jpeg_rules.proofs.Scans.{scan-data, scan-back}
 use Rattle.jpeg_rules.proofs.Turns.{tag-of, number-is}
 use Rattle.jpeg_rules.proofs.Walks.{Onward, by-alone, by-frame, by-scan, by-plain, by-tag, Ended, turn-told, Walks, stops, goes, walks-from}
-use Rattle.jpeg_rules.proofs.There.{length-lengthed, res-plain, resolves-nonzero, bool-else, tagged-long}
+use Rattle.jpeg_rules.proofs.There.{length-lengthed, res-plain, resolves-nonzero, tagged-long}
 
 -- ---- a marker with a length, as it stands
 

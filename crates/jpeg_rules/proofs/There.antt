@@ -13,7 +13,7 @@ use Rattle.octets.specs.Octets.{be16At, octets16, begins}
 use Rattle.octets.proofs.Laws.{length-octets16, drop-next}
 use Rattle.sheet_rules.specs.Judge.{listed, divides}
 use Rattle.sheet_rules.specs.Sentences.{Listed}
-use Rattle.sheet_rules.proofs.Says.{Says, says-eq, says-le, says-and, says-true, says-else}
+use Rattle.cases.proofs.Says.{Says, says-eq, says-le, says-and, says-true, says-else}
 use Rattle.sheet_rules.proofs.New.{says-listed, says-divides}
 use Rattle.sheet_rules.proofs.Backward.{listed-nonzero}
 use Rattle.jpeg_rules.specs.declared.Class.{Class}
@@ -26,7 +26,8 @@ use Rattle.jpeg_rules.specs.declared.Walk.the-variants.{Ends, Refused}
 use Rattle.jpeg_rules.specs.Marker.{classOf}
 use Rattle.jpeg_rules.specs.Grammar.{Data, Piece, alone, segment, scan, lengthed, octetsOf, piecesOf, Good, isScan, g3fax, tagged, resolution, Each, Scanned, Layer}
 use Rattle.jpeg_rules.specs.Walk.{stopsOf, resolves, framed, passed, moved, turnOf, begun, walkFrom, walkOf}
-use Rattle.jpeg_rules.proofs.Leaves.{clash, code-stops, two-there}
+use Rattle.cases.proofs.Cases.{clash, bool-else}
+use Rattle.jpeg_rules.proofs.Leaves.{code-stops, two-there}
 use Rattle.jpeg_rules.proofs.Turns.{turn-alone, turn-plain, turn-tag, turn-frame, turn-scan, turn-end, rest-at}
 use Rattle.jpeg_rules.proofs.Walks.{Walks, stops, goes, walks-count}
 
@@ -149,10 +150,6 @@ module _ (s : List ℕ) (main : ℕ) where
 
   pub resolves-nonzero : (v : ℕ) → resolves main v ≡ true → v ≢ 0
   resolves-nonzero v e = listed-nonzero v (says-and (says-listed v) (says-divides v main) .told e .0)
-
-  pub bool-else : (b : Bool) → (b ≡ true) ⊎ (b ≡ false)
-  bool-else true = inl refl
-  bool-else false = inr refl
 
   pub tagged-long : (c : ℕ) (body : List ℕ) → tagged c body ≡ true → 10 ≤ length body
   unfolding tagged

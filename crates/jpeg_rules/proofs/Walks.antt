@@ -28,7 +28,8 @@ use Rattle.jpeg_rules.specs.declared.Turn.{Turn}
 use Rattle.jpeg_rules.specs.declared.Turn.the-variants.{Go, Stop}
 use Rattle.jpeg_rules.specs.Marker.{classOf, markerOf}
 use Rattle.jpeg_rules.specs.Walk.{segOf, scanOf, resolves, tagOf, framed, passed, moved, refused, onBody, onFound, onTag, frameBodyOf, frameOf, scanStepOf, segmentOf, endOf, markOf, onMarker, turnOf, onTurn, walkFrom}
-use Rattle.jpeg_rules.proofs.Leaves.{cond-with, clash, marker-back}
+use Rattle.cases.proofs.Cases.{cond-with, clash}
+use Rattle.jpeg_rules.proofs.Leaves.{marker-back}
 use Rattle.jpeg_rules.proofs.Scans.{Passed, scan-back}
 
 -- ---- how a turn can go on, and how it can end

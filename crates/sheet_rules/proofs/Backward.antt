@@ -15,7 +15,7 @@ use Rattle.sheet_rules.specs.declared.State.{State}
 use Rattle.sheet_rules.specs.Record.{blank, nth, heightIn}
 use Rattle.sheet_rules.specs.Judge.{coded}
 use Rattle.sheet_rules.specs.Sentences.{Among, Coded, Uncoded, Above, Opening, Listed, heights, Unbroken}
-use Rattle.sheet_rules.proofs.Says.{Says, says-eq, says-else}
+use Rattle.cases.proofs.Says.{Says, says-eq, says-else}
 use Rattle.sheet_rules.proofs.Among.{heights-append, length-more, nth-old, nth-new, heights-more, among-new, among-old}
 use Rattle.sheet_rules.proofs.New.{NextLayer, NextStripe, CodedFacts, EmptyFacts, UncodedFacts, BaseFacts, ResFacts, PageFacts, ChoiceFacts, UpperFacts, New, says-coded}
 use Rattle.sheet_rules.proofs.Agrees.{Agrees, One, Two}

@@ -17,7 +17,7 @@ use Rattle.sheet_rules.specs.declared.Verdict.{Verdict}
 use Rattle.sheet_rules.specs.declared.Verdict.the-variants.{Good, Bad}
 use Rattle.sheet_rules.specs.Judge.{closes, keeps, begin, after, stepOf, endOf, onStep, run, walk}
 use Rattle.sheet_rules.specs.Sentences.{Unbroken}
-use Rattle.sheet_rules.proofs.Says.{Says}
+use Rattle.cases.proofs.Says.{Says}
 use Rattle.sheet_rules.proofs.New.{New, says-new}
 use Rattle.sheet_rules.proofs.Agrees.{Agrees, agrees-begin, agrees-more}
 use Rattle.sheet_rules.proofs.Forward.{unbroken-none, unbroken-more}

@@ -15,7 +15,7 @@ use Rattle.sheet_rules.specs.declared.State.{State}
 use Rattle.sheet_rules.specs.Record.{nth, heightIn}
 use Rattle.sheet_rules.specs.Judge.{coded}
 use Rattle.sheet_rules.specs.Sentences.{Among, Coded, Uncoded, CoderOf, Above, Opening, Closing, Main, heights, Unbroken}
-use Rattle.sheet_rules.proofs.Says.{Says, says-eq, says-else}
+use Rattle.cases.proofs.Says.{Says, says-eq, says-else}
 use Rattle.sheet_rules.proofs.Among.{length-more, nth-old, nth-new, heights-more, all-more, pair-more}
 use Rattle.sheet_rules.proofs.New.{NextLayer, NextStripe, CodedFacts, EmptyFacts, UncodedFacts, BaseFacts, PageFacts, ChoiceFacts, UpperFacts, New, says-coded}
 use Rattle.sheet_rules.proofs.Agrees.{Agrees, fresh, upward, stands}

@@ -20,7 +20,7 @@ use Rattle.sheet_rules.specs.declared.Verdict.the-variants.{Good, Bad}
 use Rattle.sheet_rules.specs.Record.{blank, nth}
 use Rattle.sheet_rules.specs.Judge.{closes, keeps, begin, after, stepOf, endOf, onStep, run, walk, judge}
 use Rattle.sheet_rules.specs.Sentences.{Closing, Unbroken, Complete, Sheet, stripeCount, Breaks, StopsBadly, Fault}
-use Rattle.sheet_rules.proofs.Says.{Says, says-eq, says-le, says-and}
+use Rattle.cases.proofs.Says.{Says, says-eq, says-le, says-and}
 use Rattle.sheet_rules.proofs.New.{New, says-new}
 use Rattle.sheet_rules.proofs.Agrees.{Agrees}
 use Rattle.sheet_rules.proofs.Backward.{unbroken-new, unbroken-front}

@@ -1,4 +1,3 @@
-pub mod Says
 pub mod New
 pub mod Among
 pub mod Agrees

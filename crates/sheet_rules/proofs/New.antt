@@ -12,7 +12,7 @@ use Rattle.sheet_rules.specs.declared.Record.{Record}
 use Rattle.sheet_rules.specs.declared.State.{State}
 use Rattle.sheet_rules.specs.Judge.{closes, placed, coded, coderOk, codedOk, uncodedOk, dataOk, listed, divides, resOk, baseOk, pageOk, choiceOk, upperOk, layerOk, keeps, zerosOk}
 use Rattle.sheet_rules.specs.Sentences.{Coded, Uncoded, CoderOf, Listed}
-use Rattle.sheet_rules.proofs.Says.{Says, says-eq, says-le, says-lt, says-true, says-and, says-or, says-not, says-not-not, says-as, says-group}
+use Rattle.cases.proofs.Says.{Says, says-eq, says-le, says-lt, says-true, says-and, says-or, says-not, says-not-not, says-as, says-group}
 
 -- ---- the facts
 

@@ -16,7 +16,7 @@ use Rattle.sheet_rules.specs.Record.{nth, sumOf, only, heightIn}
 use Rattle.sheet_rules.specs.Judge.{begin, after}
 use Rattle.sheet_rules.specs.Sentences.{Among}
 use Rattle.sheet_rules.specs.Stripe.{rowOf}
-use Rattle.sheet_rules.proofs.Says.{Says, says-eq, says-lt, says-else}
+use Rattle.cases.proofs.Says.{Says, says-eq, says-lt, says-else}
 use Rattle.sheet_rules.proofs.Among.{length-more, nth-old, nth-new, nth-among, sum-more, all-more}
 use Rattle.sheet_rules.proofs.New.{NextLayer, NextStripe, New}
 use Rattle.sheet_rules.proofs.Agrees.{Agrees, fresh, stands, after-stripe, after-layer}

@@ -22,7 +22,7 @@ use Rattle.sheet_rules.specs.Record.{recordSize, recordAt, recordsFrom, 
 use Rattle.sheet_rules.specs.Judge.{begin, judgeOf}
 use Rattle.sheet_rules.specs.Sentences.{Closing, Sheet, stripeCount, GoodSheet}
 use Rattle.sheet_rules.specs.Stripe.{rowOf, withRecord, few, foundRow, findStripe, findLayer}
-use Rattle.sheet_rules.proofs.Says.{says-eq, says-lt, says-else}
+use Rattle.cases.proofs.Says.{says-eq, says-lt, says-else}
 use Rattle.sheet_rules.proofs.Agrees.{Agrees}
 use Rattle.sheet_rules.proofs.Fold.{begun-unbroken, begun-holds, unbroken-begun}
 use Rattle.sheet_rules.proofs.Rows.{LayerCount, Rows, rows-begin, rows-more, first-next, top-next, first-none, top-none, first-mono}
