@@ -9,6 +9,7 @@ import collections
 import os
 import random
 import shlex
+import shutil
 import sys
 
 import page_making
@@ -34,6 +35,9 @@ class Reader:
         self.tally = tally
         self.program = program
         self.command = shlex.split(command)
+        if self.command and shutil.which(self.command[0]) is None:
+            tally.check(False, "no program %s" % self.command[0])
+            self.command = []
 
     def lines(self, pages):
         return reference_run.read_many(self.program, [(page, room_for(page)) for page in pages])
