@@ -11,9 +11,10 @@ demo:
 	@rt check listing >build/demo.log 2>&1 </dev/null || { cat build/demo.log >&2; echo "demo: 'rt check listing' fails, as shown above" >&2; exit 1; }
 	@target/bin/listing <examples/example.sheet
 
-# faults planted in the reference, each of which the table of sheets must find
+# faults planted in the reference, each of which the table of sheets or of pages must find
 faults:
 	@python3 tests/faults_sheet.py
+	@python3 tests/faults_page.py
 
 bench:
 	@bash bench/run

@@ -1,4 +1,4 @@
-"""Builds and runs the reference, and runs any other program on a sheet."""
+"""Builds and runs the reference, and runs any other program on a sheet or a page."""
 
 import os
 import subprocess
@@ -7,14 +7,16 @@ ROOT = os.path.dirname(os.path.dirname(os.path.abspath(__file__)))
 SOURCES = os.path.join(ROOT, "tests", "reference")
 WARNINGS = ["-std=c11", "-Wall", "-Wextra", "-Wpedantic", "-Werror"]
 SECONDS = 20
+LIST = ("sheet.c", "console.c", "list.c")
+READ = ("page.c", "reading.c", "stripe.c", "jpeg.c", "sheet.c", "console.c", "read.c")
 
 
-def build(name="reference_list", sources=SOURCES, flags=("-O2",)):
-    """Builds the listing over the reference into build/ and answers its path."""
+def build(name="reference_list", sources=SOURCES, flags=("-O2",), parts=LIST):
+    """Builds a program of the reference into build/ and answers its path."""
     folder = os.path.join(ROOT, "build")
     os.makedirs(folder, exist_ok=True)
     program = os.path.join(folder, name)
-    files = [os.path.join(sources, file) for file in ("sheet.c", "list.c")]
+    files = [os.path.join(sources, file) for file in parts]
     subprocess.run(["cc", *WARNINGS, *flags, "-I", sources, *files, "-o", program], check=True)
     return program
 
@@ -33,6 +35,21 @@ def run(program, sheet, *words):
     if done.returncode < 0:
         return "ended by signal %d\n" % -done.returncode, ""
     return (done.stdout.decode("ascii", "replace"), done.stderr.decode("ascii", "replace"))
+
+
+def read_many(program, pages):
+    """What the reference's reader prints for each (page, room), in one run of it.
+
+    A reader that does not get to the end gives one answer that tells so, which
+    no list of pages expects.
+    """
+    words = b"".join(len(page).to_bytes(4, "big") + room.to_bytes(4, "big") + page
+                     for page, room in pages)
+    printed, told = run(program, words, "many")
+    answers = printed.split(".\n")
+    if answers.pop() != "" or len(answers) != len(pages):
+        return ["no answer to all pages: %s %s" % (printed[-200:], told[:200])] * len(pages)
+    return answers
 
 
 def answer(listing):

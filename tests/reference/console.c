@@ -1,0 +1,46 @@
+#include "console.h"
+
+#include <inttypes.h>
+#include <stdio.h>
+#include <stdlib.h>
+
+uint8_t *read_standard_input(size_t *octets)
+{
+    size_t room = 65536;
+    uint8_t *input = malloc(room);
+    *octets = 0;
+    while (input != NULL) {
+        size_t got = fread(input + *octets, 1, room - *octets, stdin);
+        if (got == 0) {
+            break;
+        }
+        *octets += got;
+        if (*octets == room) {
+            uint8_t *bigger = realloc(input, room * 2);
+            if (bigger == NULL) {
+                free(input);
+            }
+            input = bigger;
+            room *= 2;
+        }
+    }
+    if (input == NULL || ferror(stdin)) {
+        fputs("standard input could not be read\n", stderr);
+        free(input);
+        return NULL;
+    }
+    return input;
+}
+
+/* "stripe, layer, coder, x, y, width, height, resolution, three base octets,
+ * start, length" */
+void print_record(struct record r)
+{
+    const uint32_t fields[] = {
+        r.stripe, r.layer, r.coder, r.x, r.y, r.width, r.height, r.resolution,
+        r.colour[0], r.colour[1], r.colour[2], r.start, r.length};
+    const size_t count = sizeof fields / sizeof fields[0];
+    for (size_t k = 0; k < count; k++) {
+        printf("%" PRIu32 "%c", fields[k], k + 1 < count ? ' ' : '\n');
+    }
+}

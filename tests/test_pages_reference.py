@@ -1,0 +1,206 @@
+"""Holds the reference's reader to tests/pages.md, to cut pages and to random ones.
+
+READER names a command that reads a page on standard input and prints the same
+lines; where it is set, its lines are compared with the reference's. SEED makes a
+run again.
+"""
+
+import collections
+import os
+import random
+import shlex
+import shutil
+import sys
+
+import page_making
+import reference_run
+
+GOOD = 500
+DAMAGED = 2500
+LARGE = 10000        # a page above this is cut only at some octets
+CUTS_COMPARED = 3    # of each page, where READER is set
+FIRST_CODED = 61     # no coded data of a Mode 1 page stands before this
+SANITIZED = ("-O2", "-fsanitize=address,undefined", "-fno-sanitize-recover=all")
+
+
+def room_for(page):
+    """Room for any sheet that a page of this length can have: a stripe takes 39 octets."""
+    return min(page_making.ROOM, 84 * (len(page) // 39))
+
+
+class Reader:
+    """The reference, and beside it the reader under test, if there is one."""
+
+    def __init__(self, tally, program, command):
+        self.tally = tally
+        self.program = program
+        self.command = shlex.split(command)
+        if self.command and shutil.which(self.command[0]) is None:
+            tally.check(False, "no program %s" % self.command[0])
+            self.command = []
+
+    def lines(self, pages):
+        return reference_run.read_many(self.program, [(page, room_for(page)) for page in pages])
+
+    def compare(self, told, page, lines):
+        """The reader under test prints what the reference does."""
+        if self.command:
+            got = reference_run.run(self.command[0], page, *self.command[1:])[0]
+            self.tally.check(got == lines, "%s: the reference %s, the reader %s"
+                             % (told, page_making.answer(lines), page_making.answer(got)))
+
+
+def check_table(tally, reader, cases):
+    """Every line of the table: the answer, and the records where they are told."""
+    tally.check([case.number for case in cases] == [str(k + 1) for k in range(len(cases))],
+                "the numbers of the table")
+    tally.check(len({case.name for case in cases}) == len(cases), "a name stands twice")
+    answers = reference_run.read_many(reader.program, [(case.page, case.room) for case in cases])
+    for case, lines in zip(cases, answers):
+        tally.check(page_making.answer(lines) == case.answer,
+                    "%s, but the reference says %s" % (case.told(), page_making.answer(lines)))
+        if case.lines() is not None:
+            tally.check(lines == case.lines(), "%s: other records\n%s" % (case.told(), lines))
+        if case.answer.startswith("done"):
+            tally.check(inside(case.page, lines), "%s: data outside the page" % case.told())
+        if case.room == page_making.ROOM:
+            reader.compare(case.told(), case.page, lines)
+
+
+def refusal(lines):
+    """(number, place) of a refusal, or None."""
+    words = lines.split()
+    return (int(words[1]), int(words[2])) if words[:1] == ["refused"] else None
+
+
+def inside(page, lines):
+    """Every coded record's data is in the page, and a picture's is a picture."""
+    for line in lines.splitlines():
+        layer, begin, length = (int(line.split()[k]) for k in (1, 11, 12))
+        if length == 0:
+            continue
+        data = page[begin:begin + length]
+        if begin < FIRST_CODED or len(data) != length:
+            return False
+        if layer != 2 and (data[:2] != b"\xff\xd8" or data[-2:] != b"\xff\xd9"):
+            return False
+    return True
+
+
+def code_pages():
+    """(what, page, answer): every marker code at three places of a layer, each time
+    followed by 00 04 5A 5A, which is the rest of a segment that can be skipped."""
+    data = {0x00, *range(0xD0, 0xD8)}
+    for code in range(256):
+        octets = "FF%02X00045A5A" % code
+        frame, skipped = code in page_making.FRAMES, code in page_making.SKIPPED
+        # before the frame, at 77
+        answer = ("refused 11 79" if code == 0x01 else "refused 3 79" if frame
+                  else "done 3" if skipped else "refused 11 77")
+        yield "before the frame", "head1 soi fax %s frame scan 12 eoi end" % octets, answer
+        # in scan data, where its marker is at 101; and outside of it, at 105
+        for what, before, at in (("in scan data", "12", 101),
+                                 ("behind a scan", "12FFDB0002", 105)):
+            taken = skipped or code == 0xDA or (code in data and at == 101)
+            answer = ("done 3" if taken else "refused 11 %d" % (at + 2) if code == 0x01
+                      else "refused 2 %d" % (at + 2) if code == 0xD9 else "refused 11 %d" % at)
+            yield what, "head1 soi fax frame scan %s%s eoi end" % (before, octets), answer
+
+
+def check_codes(tally, reader):
+    """The classes of the 256 marker codes."""
+    pages = [("%s: %s" % (what, words), b"".join(map(page_making.part, words.split())), answer)
+             for what, words, answer in code_pages()]
+    for (told, page, answer), lines in zip(pages, reader.lines([page for _, page, _ in pages])):
+        tally.check(page_making.answer(lines) == answer, "%s: %s, but the reference says %s"
+                    % (told, answer, page_making.answer(lines)))
+        reader.compare(told, page, lines)
+
+
+def is_good_cut(page, size, lines, whole):
+    """A cut page is read as the whole one up to where octets lack: it gives the
+    same refusal, or Short at a place that it has; or the same records, where
+    only zeros behind the end (or what trailed them) are gone."""
+    short = refusal(lines)
+    if short is not None:
+        return short[1] <= size and (short[0] == 1 or lines == whole)
+    if lines.startswith("broken") or not lines:
+        return False
+    trailing = refusal(whole)
+    if trailing is None:
+        return lines == whole and not any(page[size:])
+    return trailing[0] == 12 and size <= trailing[1] and not any(page[size:trailing[1]])
+
+
+def cuts(rng, page):
+    """Where a page is cut: at every octet, or a large one where something can happen."""
+    if len(page) <= LARGE:
+        return list(range(len(page)))
+    return sorted({*range(120), rng.randrange(len(page)), len(page) - 2, len(page) - 1})
+
+
+def check_cuts(tally, reader, cases, rng):
+    made = 0
+    for case in cases:
+        # too long a page is not read at all, so its cuts need not resemble it
+        if case.room != page_making.ROOM or len(case.page) > 16777215:
+            continue
+        sizes = cuts(rng, case.page)
+        pages = [case.page[:size] for size in sizes]
+        whole, *answers = reader.lines([case.page] + pages)
+        wrong = [size for size, lines in zip(sizes, answers)
+                 if not is_good_cut(case.page, size, lines, whole)]
+        tally.check(not wrong, "%s: cut at %s" % (case.told(), wrong[:5]))
+        made += len(sizes)
+        for k in rng.sample(range(len(sizes)), min(CUTS_COMPARED, len(sizes))):
+            reader.compare("%s, cut at %d" % (case.told(), sizes[k]), pages[k], answers[k])
+    print("%d cut pages" % made)
+
+
+def check_good(tally, reader, rng):
+    """Pages that keep every rule give just the records that they were made of."""
+    pages = [page_making.random_page(rng) for _ in range(GOOD)]
+    answers = reader.lines([page for page, _ in pages])
+    for k, ((page, expected), lines) in enumerate(zip(pages, answers)):
+        tally.check(lines == expected, "random page %d: %s for %s"
+                    % (k, page_making.answer(lines), page_making.answer(expected)))
+        tally.check(inside(page, lines), "random page %d: data outside the page" % k)
+        reader.compare("random page %d" % k, page, lines)
+
+
+def check_damaged(tally, reader, rng):
+    """Damaged pages: an answer within the page, and every refusal is reached."""
+    pages = [page_making.damaged(rng, page_making.random_page(rng)[0]) for _ in range(DAMAGED)]
+    numbers = collections.Counter()
+    for k, (page, lines) in enumerate(zip(pages, reader.lines(pages))):
+        refused = refusal(lines)
+        if refused is not None:
+            holds = refused[1] <= len(page)
+        else:
+            holds = lines[:1].isdigit() and inside(page, lines)
+        tally.check(holds, "damaged page %d: %s" % (k, page_making.answer(lines)))
+        numbers[refused[0] if refused else 0] += 1
+        reader.compare("damaged page %d" % k, page, lines)
+    print("%d damaged pages: %s" % (len(pages), ", ".join(
+        "answer %d %d times" % each for each in sorted(numbers.items()))))
+    missing = set(range(13)) - set(numbers)
+    tally.check(not missing, "no damaged page has the answers %s" % missing)
+
+
+def main():
+    seed = int(os.environ.get("SEED") or random.randrange(2 ** 32))
+    print("SEED=%d" % seed)
+    tally = reference_run.Tally()
+    program = reference_run.build("reference_read", flags=SANITIZED, parts=reference_run.READ)
+    reader = Reader(tally, program, os.environ.get("READER", ""))
+    cases = page_making.table()
+    check_table(tally, reader, cases)
+    check_codes(tally, reader)
+    check_cuts(tally, reader, cases, random.Random(seed))
+    check_good(tally, reader, random.Random(seed + 1))
+    check_damaged(tally, reader, random.Random(seed + 2))
+    return tally.end()
+
+
+if __name__ == "__main__":
+    sys.exit(main())
