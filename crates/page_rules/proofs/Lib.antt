@@ -1,1 +1,3 @@
+pub mod Tables
+pub mod There
 pub mod Examples
