@@ -74,11 +74,11 @@ end-stands s at r e =
     let h : at + 2 ≤ length s = omega arith in
     (ap (λ (l : List ℕ). leb (at + 2) (length s) && begins l (0xFF ∷ 0xD9 ∷ [])) e ∙ ap (λ (b : Bool). b && true) (le-leb (at + 2) (length s) h), h)
 
-length-segment : (size n : ℕ) → length (segmentOf size n) ≡ 8
+pub length-segment : (size n : ℕ) → length (segmentOf size n) ≡ 8
 unfolding segmentOf octets16
 length-segment size n = refl
 
-length-fields : (f : Fields) → length (fieldsOf f) ≡ 31
+pub length-fields : (f : Fields) → length (fieldsOf f) ≡ 31
 unfolding fieldsOf colourOf octets32 octets16
 length-fields f = refl
 
@@ -103,7 +103,7 @@ module _ (s : List ℕ) (at k size n : ℕ) (r : List ℕ) (e : drop at s ≡ se
 
 -- ---- an optional segment is passed
 
-optional-is : (n : ℕ) (body r : List ℕ) → optionalOf n body ++ r ≡ segmentOf (length body + 6) n ++ (body ++ r)
+pub optional-is : (n : ℕ) (body r : List ℕ) → optionalOf n body ++ r ≡ segmentOf (length body + 6) n ++ (body ++ r)
 unfolding optionalOf segmentOf octets16
 optional-is n body r = refl
 
@@ -122,16 +122,18 @@ optional-there fuel hd left s at n body r e h lo hi small =
     let z : length body + 6 - 6 ≡ length body = omega arith in
     let w = length-octets16 (length body + 6) in
     let x = length-append (octets16 (length body + 6)) (0x4D ∷ 0x52 ∷ 0x43 ∷ n ∷ body) in
-    let y : at + 8 + length body ≡ at + suc (suc (length (octets16 (length body + 6) ++ (0x4D ∷ 0x52 ∷ 0x43 ∷ n ∷ body)))) = omega arith in
-    (simp
-    (le-ltb (length s) (at + 2) (omega arith),
-    segment-due s at 0 (length body + 6) n (body ++ r) q h six small b i,
-    segment-read s at 0 (length body + 6) n (body ++ r) q h six small b i,
-    ne-eqb n 1 (λ z. omega arith),
-    z,
-    span-there s (at + 8) (length body) (omega arith))
-    (ap (λ (j : ℕ). bodyFrom fuel hd 0 left [] s j) y),
-    omega arith)
+    let y : at + 8 + length body ≡ at + suc (suc (length (octets16 (length body + 6) ++ (0x4D ∷ 0x52 ∷ 0x43 ∷ n ∷ body)))) = omega arith in (
+      simp (
+        le-ltb (length s) (at + 2) (omega arith),
+        segment-due s at 0 (length body + 6) n (body ++ r) q h six small b i,
+        segment-read s at 0 (length body + 6) n (body ++ r) q h six small b i,
+        ne-eqb n 1 (λ z. omega arith),
+        z,
+        span-there s (at + 8) (length body) (omega arith),
+      )
+          (ap (λ (j : ℕ). bodyFrom fuel hd 0 left [] s j) y),
+      omega arith,
+    )
 
 -- ---- a stripe is read
 
@@ -196,13 +198,14 @@ module _ (fuel : ℕ) (hd : Head) (k left : ℕ) (acc : List Record) (s : List �
   unfolding bodyFrom
   stripe-there =
       let i = room-ident in
-      simp
-      (le-ltb (length s) (at + 2) (omega arith),
-      segment-due s at k 37 0x01 (fieldsOf (z .fields) ++ (z .mask ++ (z .back ++ (z .fore ++ r)))) opened-stripe h (lit≤ tt) (lit< tt) (lit< tt) refl,
-      segment-read s at k 37 0x01 (fieldsOf (z .fields) ++ (z .mask ++ (z .back ++ (z .fore ++ r)))) opened-stripe h (lit≤ tt) (lit< tt) (lit< tt) refl,
-      ne-eqb k 64 (λ q. omega arith),
-      fields-read,
-      layers-read)
+      simp (
+        le-ltb (length s) (at + 2) (omega arith),
+        segment-due s at k 37 0x01 (fieldsOf (z .fields) ++ (z .mask ++ (z .back ++ (z .fore ++ r)))) opened-stripe h (lit≤ tt) (lit< tt) (lit< tt) refl,
+        segment-read s at k 37 0x01 (fieldsOf (z .fields) ++ (z .mask ++ (z .back ++ (z .fore ++ r)))) opened-stripe h (lit≤ tt) (lit< tt) (lit< tt) refl,
+        ne-eqb k 64 (λ q. omega arith),
+        fields-read,
+        layers-read,
+      )
       (ap₂ (λ (j m : ℕ). bodyFrom fuel hd (suc k) (left - j) (acc ++ rs) s m) (sym (z .tall)) stripe-length)
 
 -- ---- the body
@@ -259,7 +262,7 @@ unfolding zerosOf
 zeros-there zero at = let z : at ≡ at + 0 = omega arith in ap (ok 0) z
 zeros-there (suc k) at = let z : suc at + k ≡ at + suc k = omega arith in zeros-there k (suc at) ∙ ap (ok 0) z
 
-length-start : (hd : Head) → length (startOf hd) ≡ 22
+pub length-start : (hd : Head) → length (startOf hd) ≡ 22
 unfolding startOf octets16 octets32
 length-start hd = refl
 
