@@ -21,6 +21,7 @@ use Rattle.jpeg_rules.specs.Marker.{within}
 use Rattle.page_rules.specs.Kinds.{Head, maskCoder, imageCoder, hasBack, hasMask, hasFore, typeOk, Colour, Fields, offsetOk}
 use Rattle.page_rules.specs.Grammar.{startOf, GoodHead, colourOf, headOf, Widths, GoodFields}
 use Rattle.page_rules.specs.Reading.{startRows, identOk, segmentRows, maskLengthOk, stripeRows}
+use Rattle.page_rules.proofs.Rules.{says-mask, says-image, says-type, says-offset, says-mask-length}
 use Rattle.page_rules.proofs.Tables.{startNumbers, segmentNumbers, segmentOf, stripeNumbers, fieldsOf}
 
 -- a number that is held to one value
@@ -47,7 +48,7 @@ start-apart P {out} st go =
     (fixed (λ v. P (16 ∷ v ∷ mode ∷ mask ∷ image ∷ main ∷ width ∷ []) (0xFF ∷ 0xD8 ∷ 0xFF ∷ 0xED ∷ 0x00 ∷ 0x10 ∷ 0x4D ∷ 0x52 ∷ 0x43 ∷ 0x00 ∷ v ∷ mode ∷ mask ∷ image ∷ octets16 main ++ (octets32 width ++ (0xFF ∷ 0xD9 ∷ [])))) 0 version g6
     (fixed (λ v. P (16 ∷ 0 ∷ v ∷ mask ∷ image ∷ main ∷ width ∷ []) (0xFF ∷ 0xD8 ∷ 0xFF ∷ 0xED ∷ 0x00 ∷ 0x10 ∷ 0x4D ∷ 0x52 ∷ 0x43 ∷ 0x00 ∷ 0x00 ∷ v ∷ mask ∷ image ∷ octets16 main ++ (octets32 width ++ (0xFF ∷ 0xD9 ∷ [])))) 1 mode g7
     (go (record { mask = mask; image = image; main = main; width = width })
-    (record { mask = g8; image = g9; main = says-listed main .told g10; width = says-and (says-le 1 width) (says-le width 32768) .told g11 })))))
+    (record { mask = says-mask mask .told g8; image = says-image image .told g9; main = says-listed main .told g10; width = says-and (says-le 1 width) (says-le width 32768) .told g11 })))))
 
 pub segment-apart : (P : List ℕ → List ℕ → Type 0) (k : ℕ) {out l : List ℕ} → Stands (segmentRows k) [] out l
     → ((size n : ℕ) → 6 ≤ size → size < 65536 → n < 256 → identOk k n ≡ true → P (segmentNumbers size n) (segmentOf size n)) → P out l
@@ -62,12 +63,6 @@ segment-apart P k {out} st go =
     (subst (λ v. P (size ∷ 0x4D ∷ v ∷ c ∷ n ∷ []) (0xFF ∷ 0xED ∷ octets16 size ++ (0x4D ∷ v ∷ c ∷ n ∷ []))) (sym (h .0 .0 .1))
     (subst (λ v. P (size ∷ 0x4D ∷ 0x52 ∷ v ∷ n ∷ []) (0xFF ∷ 0xED ∷ octets16 size ++ (0x4D ∷ 0x52 ∷ v ∷ n ∷ []))) (sym (h .0 .1))
     (go size n (leb-true 6 size g2) b2 bn (h .1)))))
-
-mask-told : (t n : ℕ) → maskLengthOk t n ≡ true → (hasMask t ≡ true → n ≡ 0 → ⊥) × (hasMask t ≡ false → n ≡ 0)
-mask-told t n e = (
-  λ h. says-not (says-eq n 0) .told (sym (ap (λ (b : Bool). cond b (not (eqb n 0)) (eqb n 0)) h) ∙ e),
-  λ h. eqb-true n 0 (sym (ap (λ (b : Bool). cond b (not (eqb n 0)) (eqb n 0)) h) ∙ e),
-)
 
 pub stripe-apart : (P : List ℕ → List ℕ → Type 0) (hd : Head) (left : ℕ) {out l : List ℕ} → Stands (stripeRows hd left) [] out l
     → ((f : Fields) → Widths f → GoodFields hd left f → P (stripeNumbers f) (fieldsOf f)) → P out l
@@ -94,4 +89,13 @@ stripe-apart P hd left {out} st go =
       maskLength = m;
     })
     (record { type = bt; back = (ba0, ba1, ba2); fore = (bc0, bc1, bc2); offsets = (bbx, bby, bfx, bfy); maskLength = bm })
-    (record { type = gt; back = g4; fore = g5; height = says-and (says-le 1 h) (says-le h left) .told g6; mask = mask-told t m g7 }))
+    (let y = says-type hd t .told gt in
+    record {
+      type = y .0 .0;
+      maskCoder = y .0 .1;
+      imageCoder = y .1;
+      back = says-offset (hasBack t) bx by .told g4;
+      fore = says-offset (hasFore t) fx fy .told g5;
+      height = says-and (says-le 1 h) (says-le h left) .told g6;
+      mask = says-mask-length t m .told g7;
+    }))

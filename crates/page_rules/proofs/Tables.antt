@@ -19,7 +19,8 @@ use Rattle.field_rules.specs.Stands.{Stands, at-end, marked, valued, held}
 use Rattle.jpeg_rules.specs.Marker.{within, among}
 use Rattle.page_rules.specs.Kinds.{Head, maskCoder, imageCoder, hasBack, hasMask, hasFore, typeOk, Colour, Fields, offsetOk}
 use Rattle.page_rules.specs.Grammar.{startOf, GoodHead, colourOf, headOf, Widths, GoodFields}
-use Rattle.page_rules.specs.Reading.{startRows, identOk, segmentRows, maskLengthOk, stripeRows}
+use Rattle.page_rules.specs.Reading.{startRows, identOk, segmentRows, stripeRows}
+use Rattle.page_rules.proofs.Rules.{says-mask, says-image, says-type, says-offset, says-mask-length, mask-small, image-small}
 
 -- ---- bounds that the rules give
 
@@ -30,30 +31,6 @@ listed-small n (inr (inr (inl e))) = omega arith
 listed-small n (inr (inr (inr (inl e)))) = omega arith
 listed-small n (inr (inr (inr (inr (inl e))))) = omega arith
 listed-small n (inr (inr (inr (inr (inr e))))) = omega arith
-
-says-mask : (c : ℕ) → Says (maskCoder c) ((c ≡ 0) ⊎ (c ≡ 1) ⊎ (c ≡ 2) ⊎ (c ≡ 4) ⊎ (c ≡ 8) ⊎ ⊥)
-unfolding maskCoder
-says-mask c = says-or (says-eq c 0) (says-or (says-eq c 1) (says-or (says-eq c 2) (says-or (says-eq c 4) (says-or (says-eq c 8) says-false))))
-
-pub mask-small : (c : ℕ) → maskCoder c ≡ true → c < 256
-mask-small c e = go (says-mask c .told e)
-  where
-    go : (c ≡ 0) ⊎ (c ≡ 1) ⊎ (c ≡ 2) ⊎ (c ≡ 4) ⊎ (c ≡ 8) ⊎ ⊥ → c < 256
-    go (inl h) = omega arith
-    go (inr (inl h)) = omega arith
-    go (inr (inr (inl h))) = omega arith
-    go (inr (inr (inr (inl h)))) = omega arith
-    go (inr (inr (inr (inr (inl h))))) = omega arith
-    go (inr (inr (inr (inr (inr h))))) = absurd h
-
-pub image-small : (c : ℕ) → imageCoder c ≡ true → c < 256
-unfolding imageCoder
-image-small c e = go (says-or (says-eq c 0) (says-or (says-eq c 1) says-false) .told e)
-  where
-    go : (c ≡ 0) ⊎ (c ≡ 1) ⊎ ⊥ → c < 256
-    go (inl h) = omega arith
-    go (inr (inl h)) = omega arith
-    go (inr (inr h)) = absurd h
 
 -- ---- the start of page
 
@@ -71,8 +48,8 @@ start-stands hd g =
     (held refl
     (valued {ws = one ∷ []} (0 ∷ []) (lit< tt, tt) refl
     (valued {ws = one ∷ []} (1 ∷ []) (lit< tt, tt) refl
-    (valued {ws = one ∷ []} (hd .mask ∷ []) (mask-small (hd .mask) (g .mask), tt) (g .mask)
-    (valued {ws = one ∷ []} (hd .image ∷ []) (image-small (hd .image) (g .image), tt) (g .image)
+    (valued {ws = one ∷ []} (hd .mask ∷ []) (mask-small (hd .mask) (g .mask), tt) (says-mask (hd .mask) .shown (g .mask))
+    (valued {ws = one ∷ []} (hd .image ∷ []) (image-small (hd .image) (g .image), tt) (says-image (hd .image) .shown (g .image))
     (valued {ws = two ∷ []} (hd .main ∷ []) (listed-small (hd .main) (g .main), tt) (says-listed (hd .main) .shown (g .main))
     (valued {ws = four ∷ []} (hd .width ∷ []) (omega arith, tt) (says-and (says-le 1 (hd .width)) (says-le (hd .width) 32768) .shown w)
     (marked at-end)))))))))))
@@ -111,21 +88,14 @@ pub head-is : (f : Fields) → headOf f ≡ segmentOf 37 0x01 ++ fieldsOf f
 unfolding headOf segmentOf octets16 fieldsOf
 head-is f = refl
 
-mask-length : (t n : ℕ) → (hasMask t ≡ true → n ≡ 0 → ⊥) × (hasMask t ≡ false → n ≡ 0) → maskLengthOk t n ≡ true
-mask-length t n m = go (hasMask t) refl
-  where
-    go : (b : Bool) → hasMask t ≡ b → maskLengthOk t n ≡ true
-    go true e = ap (λ (b : Bool). cond b (not (eqb n 0)) (eqb n 0)) e ∙ says-not (says-eq n 0) .shown (m .0 e)
-    go false e = ap (λ (b : Bool). cond b (not (eqb n 0)) (eqb n 0)) e ∙ says-eq n 0 .shown (m .1 e)
-
 pub stripe-stands : (hd : Head) (left : ℕ) (f : Fields) → left ≤ 65535 → Widths f → GoodFields hd left f → Stands (stripeRows hd left) [] (stripeNumbers f) (fieldsOf f)
 unfolding stripeRows fieldsOf colourOf octets32 octets16 put Sized
 stripe-stands hd left f l w g =
     let h = g .height in
-    valued {ws = one ∷ []} (f .type ∷ []) (w .type, tt) (g .type)
+    valued {ws = one ∷ []} (f .type ∷ []) (w .type, tt) (says-type hd (f .type) .shown ((g .type, g .maskCoder), g .imageCoder))
     (valued {ws = one ∷ one ∷ one ∷ []} (f .back .c0 ∷ f .back .c1 ∷ f .back .c2 ∷ []) (w .back .0, (w .back .1, (w .back .2, tt))) refl
     (valued {ws = one ∷ one ∷ one ∷ []} (f .fore .c0 ∷ f .fore .c1 ∷ f .fore .c2 ∷ []) (w .fore .0, (w .fore .1, (w .fore .2, tt))) refl
-    (valued {ws = four ∷ four ∷ []} (f .backX ∷ f .backY ∷ []) (w .offsets .0, (w .offsets .1, tt)) (g .back)
-    (valued {ws = four ∷ four ∷ []} (f .foreX ∷ f .foreY ∷ []) (w .offsets .2, (w .offsets .3, tt)) (g .fore)
+    (valued {ws = four ∷ four ∷ []} (f .backX ∷ f .backY ∷ []) (w .offsets .0, (w .offsets .1, tt)) (says-offset (hasBack (f .type)) (f .backX) (f .backY) .shown (g .back))
+    (valued {ws = four ∷ four ∷ []} (f .foreX ∷ f .foreY ∷ []) (w .offsets .2, (w .offsets .3, tt)) (says-offset (hasFore (f .type)) (f .foreX) (f .foreY) .shown (g .fore))
     (valued {ws = four ∷ []} (f .height ∷ []) (omega arith, tt) (says-and (says-le 1 (f .height)) (says-le (f .height) left) .shown h)
-    (valued {ws = four ∷ []} (f .maskLength ∷ []) (w .maskLength, tt) (mask-length (f .type) (f .maskLength) (g .mask)) at-end))))))
+    (valued {ws = four ∷ []} (f .maskLength ∷ []) (w .maskLength, tt) (says-mask-length (f .type) (f .maskLength) .shown (g .mask)) at-end))))))

@@ -9,6 +9,7 @@
 --   Page s rs        the octets s are a page whose sheet has the records rs
 use Prim.Native.Nat.{ℕ, suc, _+_, _-_, _≤_, _<_}
 use mathlib.Core.Path.{_≡_}
+use mathlib.Core.Logic.{_⊎_, _≢_}
 use mathlib.Core.Bool.{Bool, true, false, cond}
 use mathlib.Core.List.{List, [], _∷_, _++_}
 use lib.ListN.{length, replicate}
@@ -16,7 +17,7 @@ use Rattle.octets.specs.Octets.{octets16, octets32}
 use Rattle.sheet_rules.specs.declared.Record.{Record}
 use Rattle.sheet_rules.specs.Sentences.{Listed}
 use Rattle.jpeg_rules.specs.Grammar.{Layer}
-use Rattle.page_rules.specs.Kinds.{Head, maskCoder, imageCoder, hasBack, hasMask, hasFore, typeOk, Colour, Fields, offsetOk, Coded, coded, uncoded, imageRecord, maskRecord}
+use Rattle.page_rules.specs.Kinds.{Head, hasBack, hasMask, hasFore, Colour, Fields, Coded, coded, uncoded, imageRecord, maskRecord}
 
 -- ---- the start of page (9.2.1): length 16, version 00, mode 01; then the termination number (9.2.3)
 
@@ -25,9 +26,15 @@ startOf hd =
     0xFF ∷ 0xD8 ∷ 0xFF ∷ 0xED ∷ 0x00 ∷ 0x10 ∷ 0x4D ∷ 0x52 ∷ 0x43 ∷ 0x00 ∷ 0x00 ∷ 0x01 ∷ hd .mask ∷ hd .image
     ∷ octets16 (hd .main) ++ (octets32 (hd .width) ++ (0xFF ∷ 0xD9 ∷ []))
 
+abbrev pub MaskCoder : ℕ → Type 0
+MaskCoder c = (c ≡ 0) ⊎ (c ≡ 1) ⊎ (c ≡ 2) ⊎ (c ≡ 4) ⊎ (c ≡ 8)
+
+abbrev pub ImageCoder : ℕ → Type 0
+ImageCoder c = (c ≡ 0) ⊎ (c ≡ 1)
+
 pub record GoodHead (hd : Head) : Type 0 where
-  pub mask : maskCoder (hd .mask) ≡ true
-  pub image : imageCoder (hd .image) ≡ true
+  pub mask : MaskCoder (hd .mask)
+  pub image : ImageCoder (hd .image)
   pub main : Listed (hd .main)
   pub width : (1 ≤ hd .width) × (hd .width ≤ 32768)
 
@@ -59,10 +66,17 @@ pub record Widths (f : Fields) : Type 0 where
   pub offsets : (f .backX < 4294967296) × (f .backY < 4294967296) × (f .foreX < 4294967296) × (f .foreY < 4294967296)
   pub maskLength : f .maskLength < 4294967296
 
+abbrev pub TypeOf : ℕ → Type 0
+TypeOf t = (t ≡ 1) ⊎ (t ≡ 2) ⊎ (t ≡ 3) ⊎ (t ≡ 4) ⊎ (t ≡ 6) ⊎ (t ≡ 7)
+
 pub record GoodFields (hd : Head) (left : ℕ) (f : Fields) : Type 0 where
-  pub type : typeOk hd (f .type) ≡ true
-  pub back : offsetOk (hasBack (f .type)) (f .backX) (f .backY) ≡ true
-  pub fore : offsetOk (hasFore (f .type)) (f .foreX) (f .foreY) ≡ true
+  pub type : TypeOf (f .type)
+  -- the type names no layer whose coder octet is 0
+  pub maskCoder : hasMask (f .type) ≡ true → hd .mask ≢ 0
+  pub imageCoder : (hasBack (f .type) ≡ true) ⊎ (hasFore (f .type) ≡ true) → hd .image ≢ 0
+  -- a present layer's offsets are at most 65,535; an absent layer's are not judged
+  pub back : hasBack (f .type) ≡ true → (f .backX ≤ 65535) × (f .backY ≤ 65535)
+  pub fore : hasFore (f .type) ≡ true → (f .foreX ≤ 65535) × (f .foreY ≤ 65535)
   pub height : (1 ≤ f .height) × (f .height ≤ left)
   -- the mask length is zero exactly when the type has no mask
   pub mask : (hasMask (f .type) ≡ true → f .maskLength ≡ 0 → ⊥) × (hasMask (f .type) ≡ false → f .maskLength ≡ 0)
