@@ -160,3 +160,71 @@ fields-back (again back good refusal ∷ rows) before out s at n o h =
     let k = fields-back rows before out s at n o h e in
     record { octets = k .octets; stands = held t (k .stands); split = k .split; ends = k .ends; inside = k .inside })
     (λ t e. clash cc)
+
+-- ---- a segment taken apart, row by row
+
+pub end-apart : (P : List ℕ → List ℕ → Type 0) {before out l : List ℕ} → Stands [] before out l → P before [] → P out l
+end-apart P at-end p = p
+
+pub mark-apart : (P : List ℕ → Type 0) {m : List ℕ} {refusal : ℕ → Answer} {rows : List Row} {before out l : List ℕ} → Stands (mark m refusal ∷ rows) before out l
+    → ((more : List ℕ) → Stands rows before out more → P (m ++ more)) → P l
+mark-apart P (marked {l = more} k) go = go more k
+
+pub val-apart : (P : List ℕ → Type 0) {ws : List Width} {good : List ℕ → List ℕ → Bool} {refusal : ℕ → Answer} {rows : List Row} {before out l : List ℕ}
+    → Stands (val ws good refusal ∷ rows) before out l
+    → ((vs more : List ℕ) → Sized ws vs → good before vs ≡ true → Stands rows (before ++ vs) out more → P (put ws vs ++ more)) → P l
+val-apart P (valued {l = more} vs sized good k) go = go vs more sized good k
+
+pub again-apart : (P : List ℕ → Type 0) {back : ℕ} {good : List ℕ → Bool} {refusal : ℕ → Answer} {rows : List Row} {before out l : List ℕ}
+    → Stands (again back good refusal ∷ rows) before out l → (good before ≡ true → Stands rows before out l → P l) → P l
+again-apart P (held good k) go = go good k
+
+sized-one : (Q : List ℕ → Type 0) (w : Width) (vs : List ℕ) → Sized (w ∷ []) vs → ((v : ℕ) → v < bound w → Q (v ∷ [])) → Q vs
+unfolding Sized
+sized-one Q w [] z go = absurd z
+sized-one Q w (v ∷ []) z go = go v (z .0)
+sized-one Q w (v ∷ u ∷ vs) z go = absurd (z .1)
+
+sized-more : (Q : List ℕ → Type 0) (w : Width) (ws : List Width) (vs : List ℕ) → Sized (w ∷ ws) vs
+    → ((v : ℕ) (us : List ℕ) → v < bound w → Sized ws us → Q (v ∷ us)) → Q vs
+unfolding Sized
+sized-more Q w ws [] z go = absurd z
+sized-more Q w ws (v ∷ us) z go = go v us (z .0) (z .1)
+
+-- a field of one, two, three or four numbers
+module _ (P : List ℕ → Type 0) {good : List ℕ → List ℕ → Bool} {refusal : ℕ → Answer} {rows : List Row} {before out l : List ℕ} where
+  pub one-apart : {a : Width} → Stands (val (a ∷ []) good refusal ∷ rows) before out l
+      → ((x : ℕ) (more : List ℕ) → x < bound a → good before (x ∷ []) ≡ true → Stands rows (before ++ (x ∷ [])) out more → P (put (a ∷ []) (x ∷ []) ++ more)) → P l
+  one-apart {a} st go =
+      val-apart P st λ vs more z.
+      sized-one (λ us. good before us ≡ true → Stands rows (before ++ us) out more → P (put (a ∷ []) us ++ more)) a vs z λ x b. go x more b
+
+  pub two-apart : {a b : Width} → Stands (val (a ∷ b ∷ []) good refusal ∷ rows) before out l
+      → ((x y : ℕ) (more : List ℕ) → x < bound a → y < bound b → good before (x ∷ y ∷ []) ≡ true → Stands rows (before ++ (x ∷ y ∷ [])) out more
+      → P (put (a ∷ b ∷ []) (x ∷ y ∷ []) ++ more)) → P l
+  two-apart {a} {b} st go =
+      val-apart P st λ vs more z.
+      sized-more (λ us. good before us ≡ true → Stands rows (before ++ us) out more → P (put (a ∷ b ∷ []) us ++ more)) a (b ∷ []) vs z λ x us bx z1.
+      sized-one (λ us. good before (x ∷ us) ≡ true → Stands rows (before ++ (x ∷ us)) out more → P (put (a ∷ b ∷ []) (x ∷ us) ++ more)) b us z1 λ y by.
+      go x y more bx by
+
+  pub three-apart : {a b c : Width} → Stands (val (a ∷ b ∷ c ∷ []) good refusal ∷ rows) before out l
+      → ((x y z : ℕ) (more : List ℕ) → x < bound a → y < bound b → z < bound c → good before (x ∷ y ∷ z ∷ []) ≡ true
+      → Stands rows (before ++ (x ∷ y ∷ z ∷ [])) out more → P (put (a ∷ b ∷ c ∷ []) (x ∷ y ∷ z ∷ []) ++ more)) → P l
+  three-apart {a} {b} {c} st go =
+      val-apart P st λ vs more z.
+      sized-more (λ us. good before us ≡ true → Stands rows (before ++ us) out more → P (put (a ∷ b ∷ c ∷ []) us ++ more)) a (b ∷ c ∷ []) vs z λ x us bx z1.
+      sized-more (λ us. good before (x ∷ us) ≡ true → Stands rows (before ++ (x ∷ us)) out more → P (put (a ∷ b ∷ c ∷ []) (x ∷ us) ++ more)) b (c ∷ []) us z1 λ y vs by z2.
+      sized-one (λ us. good before (x ∷ y ∷ us) ≡ true → Stands rows (before ++ (x ∷ y ∷ us)) out more → P (put (a ∷ b ∷ c ∷ []) (x ∷ y ∷ us) ++ more)) c vs z2 λ w bw.
+      go x y w more bx by bw
+
+  pub four-apart : {a b c d : Width} → Stands (val (a ∷ b ∷ c ∷ d ∷ []) good refusal ∷ rows) before out l
+      → ((x y z w : ℕ) (more : List ℕ) → x < bound a → y < bound b → z < bound c → w < bound d → good before (x ∷ y ∷ z ∷ w ∷ []) ≡ true
+      → Stands rows (before ++ (x ∷ y ∷ z ∷ w ∷ [])) out more → P (put (a ∷ b ∷ c ∷ d ∷ []) (x ∷ y ∷ z ∷ w ∷ []) ++ more)) → P l
+  four-apart {a} {b} {c} {d} st go =
+      val-apart P st λ vs more z.
+      sized-more (λ us. good before us ≡ true → Stands rows (before ++ us) out more → P (put (a ∷ b ∷ c ∷ d ∷ []) us ++ more)) a (b ∷ c ∷ d ∷ []) vs z λ x us bx z1.
+      sized-more (λ us. good before (x ∷ us) ≡ true → Stands rows (before ++ (x ∷ us)) out more → P (put (a ∷ b ∷ c ∷ d ∷ []) (x ∷ us) ++ more)) b (c ∷ d ∷ []) us z1 λ y vs by z2.
+      sized-more (λ us. good before (x ∷ y ∷ us) ≡ true → Stands rows (before ++ (x ∷ y ∷ us)) out more → P (put (a ∷ b ∷ c ∷ d ∷ []) (x ∷ y ∷ us) ++ more)) c (d ∷ []) vs z2 λ u ws bu z3.
+      sized-one (λ us. good before (x ∷ y ∷ u ∷ us) ≡ true → Stands rows (before ++ (x ∷ y ∷ u ∷ us)) out more → P (put (a ∷ b ∷ c ∷ d ∷ []) (x ∷ y ∷ u ∷ us) ++ more)) d ws z3 λ v bv.
+      go x y u v more bx by bu bv

@@ -5,5 +5,6 @@ pub mod Walks
 pub mod There
 pub mod Tail
 pub mod Back
+pub mod Within
 pub mod Theorems
 pub mod Examples

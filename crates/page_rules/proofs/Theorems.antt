@@ -1,0 +1,81 @@
+-- What is proved of reading a page. The statements are for the reader; how each is shown stands in the files beside this one.
+-- Assumes nothing.
+use Prim.Native.Nat.{ℕ, _*_, _≤_, _<_}
+use native.Mathlib.Omega.{arith}
+use mathlib.Core.Path.{_≡_, refl, sym, ap, subst, _∙_}
+use mathlib.Core.Logic.{_↔_, _⊎_, inl, inr}
+use mathlib.Core.Bool.{Bool, true, false, cond}
+use mathlib.Core.List.{List}
+use lib.ListN.{length}
+use lib.Dec.{ltb}
+use borrow.Author.Tests.{le-ltb, ltb-false}
+use Rattle.octets.specs.Octets.{Octets}
+use Rattle.cases.proofs.Cases.{cond-with, clash}
+use Rattle.answers.specs.declared.Answer.{Answer}
+use Rattle.answers.specs.declared.Answer.the-variants.{Done, NoRoom, TooLong}
+use Rattle.answers.specs.Answers.{numberOf, placeOf}
+use Rattle.field_rules.specs.Field.{Res, ok, no}
+use Rattle.sheet_rules.specs.declared.Record.{Record}
+use Rattle.sheet_rules.specs.Record.{recordSize}
+use Rattle.page_rules.specs.Grammar.{Page}
+use Rattle.page_rules.specs.Reading.{pageOf, roomOf, readOf}
+use Rattle.page_rules.proofs.There.{page-there}
+use Rattle.page_rules.proofs.Back.{page-back}
+use Rattle.page_rules.proofs.Refused.{Refusal, page-refused}
+
+-- ---- a page is read with these records exactly if it is a page of the grammar with that sheet
+
+pub page-exactly : (s : List ℕ) → Octets s → (rs : List Record) → pageOf s ≡ ok rs (length s) ↔ Page s rs
+page-exactly s o rs = (λ q. page-back s o rs (length s) q .0, λ p. page-there s rs p)
+
+-- ---- the sheet is determined by the page
+
+pub page-once : (s : List ℕ) (rs sr : List Record) → Page s rs → Page s sr → rs ≡ sr
+page-once s rs sr p q = let a = page-there s rs p in let b = page-there s sr q in cc
+
+-- ---- the call answers Done with n records exactly if the octets are a page of that many records, at most 16,777,215 octets long, and the
+-- buffer holds 28 octets a record
+
+pub record Readable (s : List ℕ) (room n : ℕ) : Type 0 where
+  pub records : List Record
+  pub page : Page s records
+  pub count : n ≡ length records
+  pub short : length s ≤ 16777215
+  pub holds : length records * recordSize ≤ room
+
+room-done : (s : List ℕ) → Octets s → (room n : ℕ) → length s ≤ 16777215 → (r : Res (List Record)) → pageOf s ≡ r → roomOf room r ≡ Done n → Readable s room n
+unfolding roomOf numberOf
+room-done s o room n h (ok rs m) e =
+    cond-with (λ x. x ≡ Done n → Readable s room n) (ltb room (length rs * recordSize)) (λ t q. clash cc)
+    (λ t q.
+    let z : length rs ≡ n = cc in
+    record { records = rs; page = page-back s o rs m e .0; count = sym z; short = h; holds = ltb-false room (length rs * recordSize) t })
+room-done s o room n h (no a) e = λ q.
+    let r = page-refused s a o e in
+    let least = r .least in
+    let z : numberOf a ≡ 0 = ap numberOf q in
+    absurd (omega arith)
+
+pub read-done : (s : List ℕ) → Octets s → (room n : ℕ) → readOf s room ≡ Done n ↔ Readable s room n
+unfolding readOf
+read-done s o room n = (
+  cond-with (λ x. x ≡ Done n → Readable s room n) (ltb 16777215 (length s)) (λ t q. clash cc)
+      (λ t q. room-done s o room n (ltb-false 16777215 (length s) t) (pageOf s) refl q),
+  λ k. simp (le-ltb 16777215 (length s) (k .short), page-there s (k .records) (k .page), le-ltb room (length (k .records) * recordSize) (k .holds)) (ap Done (sym (k .count))),
+)
+
+-- ---- any other answer is one of the refusals that the paper's order for reading names, at a place of the page
+
+pub ReadRefusal : ℕ → Answer → Type 0
+ReadRefusal n a = Refusal n a ⊎ ((a ≡ NoRoom) ⊎ (a ≡ TooLong))
+
+pub read-refused : (s : List ℕ) → Octets s → (room : ℕ) → ((n : ℕ) → readOf s room ≡ Done n → ⊥) → ReadRefusal (length s) (readOf s room)
+unfolding readOf ReadRefusal
+read-refused s o room =
+    cond-with (λ x. ((n : ℕ) → x ≡ Done n → ⊥) → ReadRefusal (length s) x) (ltb 16777215 (length s)) (λ t d. inr (inr refl)) λ t. go (pageOf s) refl
+  where
+    go : (r : Res (List Record)) → pageOf s ≡ r → ((n : ℕ) → roomOf room r ≡ Done n → ⊥) → ReadRefusal (length s) (roomOf room r)
+    go (ok rs n) e =
+        cond-with (λ x. ((n : ℕ) → x ≡ Done n → ⊥) → ReadRefusal (length s) x) (ltb room (length rs * recordSize)) (λ t d. inr (inl refl))
+        (λ t d. absurd (d (length rs) refl))
+    go (no a) e = λ d. inl (page-refused s a o e)

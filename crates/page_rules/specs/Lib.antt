@@ -1,0 +1,3 @@
+pub mod Kinds
+pub mod Grammar
+pub mod Reading
