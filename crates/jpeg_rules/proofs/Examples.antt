@@ -11,26 +11,26 @@ use Rattle.jpeg_rules.specs.Marker.{classOf, markerOf}
 use Rattle.jpeg_rules.specs.Walk.{segOf, stopsOf, scanFrom, scanOf, tagOf, frameBodyOf, frameOf, scanStepOf, segmentOf, endOf, markOf, turnOf, walkFrom, walkOf}
 
 -- the parts: the resolution's segment, the frame of 8 by 16, a scan with a stuffed FF and a restart marker, and the ends
-pub opening : List ℕ
+unfoldable pub opening : List ℕ
 opening = 0xFF ∷ 0xD8 ∷ []
 
-pub closing : List ℕ
+unfoldable pub closing : List ℕ
 closing = 0xFF ∷ 0xD9 ∷ []
 
 -- 200 to the inch
-pub tag200 : List ℕ
+unfoldable pub tag200 : List ℕ
 tag200 = 0xFF ∷ 0xE1 ∷ 0x00 ∷ 0x0C ∷ 0x47 ∷ 0x33 ∷ 0x46 ∷ 0x41 ∷ 0x58 ∷ 0x00 ∷ 0x00 ∷ 0x01 ∷ 0x00 ∷ 0xC8 ∷ []
 
-pub tag300 : List ℕ
+unfoldable pub tag300 : List ℕ
 tag300 = 0xFF ∷ 0xE1 ∷ 0x00 ∷ 0x0C ∷ 0x47 ∷ 0x33 ∷ 0x46 ∷ 0x41 ∷ 0x58 ∷ 0x00 ∷ 0x00 ∷ 0x01 ∷ 0x01 ∷ 0x2C ∷ []
 
-pub frame : List ℕ
+unfoldable pub frame : List ℕ
 frame = 0xFF ∷ 0xC0 ∷ 0x00 ∷ 0x08 ∷ 0x08 ∷ 0x00 ∷ 0x10 ∷ 0x00 ∷ 0x08 ∷ 0x01 ∷ []
 
-pub scan : List ℕ
+unfoldable pub scan : List ℕ
 scan = 0xFF ∷ 0xDA ∷ 0x00 ∷ 0x03 ∷ 0x00 ∷ 0x12 ∷ 0xFF ∷ 0x00 ∷ 0x34 ∷ 0xFF ∷ 0xD0 ∷ 0x56 ∷ []
 
-pub alone : List ℕ
+unfoldable pub alone : List ℕ
 alone = 0xFF ∷ 0x01 ∷ []
 
 -- two scans, a marker that stands alone, and octets behind the layer, FF D9 FF D9 among them

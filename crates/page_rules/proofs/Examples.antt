@@ -7,6 +7,9 @@ use Rattle.octets.specs.Octets.{be16At, be32At, begins, standsAt, octets16, oct
 use Rattle.answers.specs.declared.Answer.{Answer}
 use Rattle.answers.specs.declared.Answer.the-variants.{Done, Short, BadMark, BadLength, BadStripe, Trailing, NoRoom}
 use Rattle.field_rules.specs.Field.{fields}
+use Rattle.jpeg_rules.specs.Marker.{classOf, markerOf}
+use Rattle.jpeg_rules.specs.Walk.{segOf, scanOf, tagOf, frameBodyOf, frameOf, scanStepOf, segmentOf, endOf, turnOf, walkOf}
+use Rattle.jpeg_rules.proofs.Examples as J
 use Rattle.page_rules.specs.Kinds.{Head, typeOk, maskCoder, imageCoder, Colour, Fields, imageRecord, maskRecord}
 use Rattle.page_rules.specs.Grammar.{startOf, optionalOf, colourOf, headOf}
 use Rattle.page_rules.specs.Reading.{startRows, segmentRows, stripeRows, spanOf, walked, layersOf, stripeFrom, bodyFrom, zerosOf, endRows, pageOf, roomOf, readOf}
@@ -58,3 +61,61 @@ trailing = refl
 pub no-stripe : readOf (startOf head ++ (optionalOf 10 (1 ∷ 2 ∷ []) ++ (end ++ end))) 84 ≡ BadStripe 32
 unfolding readOf head end startOf optionalOf octets16 octets32 startRows segmentRows endRows fields maskCoder imageCoder be16At be32At standsAt begins
 no-stripe = refl
+
+-- ---- a page of each of the six types, and of two different stripes
+
+-- a JPEG layer of 8 by 16 samples at 200, whose own FF D9 stands before the page's end
+pub picture : List ℕ
+unfolding J.opening J.tag200 J.frame J.scan J.closing
+picture = J.opening ++ (J.tag200 ++ (J.frame ++ (J.scan ++ J.closing)))
+
+pub colours : Head
+colours = record { mask = 8; image = 1; main = 400; width = 100 }
+
+pub typed : ℕ → ℕ → Fields
+typed t n =
+    record {
+      type = t;
+      back = record { c0 = 0xFF; c1 = 0x80; c2 = 0x60 };
+      fore = record { c0 = 0x00; c1 = 0x80; c2 = 0x60 };
+      backX = 2;
+      backY = 3;
+      foreX = 4;
+      foreY = 5;
+      height = 40;
+      maskLength = n;
+    }
+
+pub back-only : List ℕ
+unfolding typed picture
+back-only = headOf (typed 1 0) ++ picture
+
+pub mask-only : List ℕ
+unfolding typed coded
+mask-only = headOf (typed 2 5) ++ coded
+
+pub mask-back : List ℕ
+unfolding typed coded picture
+mask-back = headOf (typed 3 5) ++ (coded ++ picture)
+
+pub fore-only : List ℕ
+unfolding typed picture
+fore-only = headOf (typed 4 0) ++ picture
+
+pub mask-fore : List ℕ
+unfolding typed coded picture
+mask-fore = headOf (typed 6 5) ++ (coded ++ picture)
+
+pub all-three : List ℕ
+unfolding typed coded picture
+all-three = headOf (typed 7 5) ++ (coded ++ (picture ++ picture))
+
+-- the sheets' sizes, with an optional segment before and zeros behind
+pub six-types : (readOf (startOf colours ++ (back-only ++ (end ++ end))) 84 ≡ Done 3)
+    × (readOf (startOf colours ++ (mask-only ++ (end ++ end))) 84 ≡ Done 3)
+    × (readOf (startOf colours ++ (mask-back ++ (end ++ end))) 84 ≡ Done 3)
+    × (readOf (startOf colours ++ (fore-only ++ (end ++ end))) 84 ≡ Done 3)
+    × (readOf (startOf colours ++ (mask-fore ++ (end ++ end))) 84 ≡ Done 3)
+    × (readOf (startOf colours ++ (optionalOf 3 (7 ∷ []) ++ (all-three ++ (mask-only ++ (end ++ (end ++ (0 ∷ []))))))) 168 ≡ Done 6)
+unfolding readOf colours back-only mask-only mask-back fore-only mask-fore all-three end startOf headOf colourOf optionalOf octets16 octets32 startRows segmentRows stripeRows endRows fields maskCoder imageCoder typeOk be16At be32At standsAt begins layersOf walkOf turnOf markerOf classOf segOf scanOf tagOf frameOf frameBodyOf scanStepOf segmentOf endOf
+six-types = (refl, refl, refl, refl, refl, refl)

@@ -2,7 +2,9 @@ pub mod Rules
 pub mod Tables
 pub mod There
 pub mod Apart
+pub mod Layers
 pub mod Back
 pub mod Refused
+pub mod Accepted
 pub mod Theorems
 pub mod Examples

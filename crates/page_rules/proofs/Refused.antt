@@ -24,7 +24,8 @@ use Rattle.jpeg_rules.specs.Walk.{walkOf}
 use Rattle.jpeg_rules.proofs.Within.{walk-within, placeOf as placeOfFault}
 use Rattle.page_rules.specs.Kinds.{Head, hasBack, hasFore, Fields, Coded, coded, uncoded}
 use Rattle.page_rules.specs.Grammar.{recordsOf}
-use Rattle.page_rules.proofs.Back.{span-back, walked-back, layers-back, body-back}
+use Rattle.page_rules.proofs.Back.{body-back}
+use Rattle.page_rules.proofs.Layers.{span-back, walked-back, layers-back}
 use Rattle.page_rules.specs.Reading.{startRows, headFrom, segmentRows, stripeRows, fieldsFrom, spanOf, faultOf, onWalk, walked, layersOf, stripeFrom, bodyFrom, zerosOf, endRows, pageOf}
 
 -- one of the numbers 1 to 12, at a place of a page of so many octets

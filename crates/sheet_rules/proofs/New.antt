@@ -181,7 +181,7 @@ says-page st r =
     })
     (λ k. (((((((k .x, k .y), k .narrow), k .wide), k .low), k .high), k .same), k .res))
 
-says-choice : (a b c : Bool) → Says (choiceOk a b c) (ChoiceFacts a b c)
+pub says-choice : (a b c : Bool) → Says (choiceOk a b c) (ChoiceFacts a b c)
 says-choice a b c =
     says-as
     (says-and (says-group (says-or (says-or (says-true a) (says-true b)) (says-true c))) (says-or (says-true b) (says-not (says-and (says-true a) (says-true c)))))

@@ -1,0 +1,349 @@
+-- The sheet of a page is one that the judge accepts.
+-- Assumes nothing.
+use Prim.Native.Nat.{ℕ, zero, suc, _+_, _-_, _/_, _%_, _≤_, _<_, _∣_}
+use native.Mathlib.Omega.{arith}
+use native.Mathlib.Nat.{dvd-refl, eq-zero-or-pos}
+use native.Mathlib.Numerals.{add-one}
+use mathlib.Core.Path.{_≡_, refl, sym, ap, ap₂, subst, _∙_}
+use mathlib.Core.Logic.{_⊎_, inl, inr, _≢_, ⊎-elim}
+use mathlib.Core.Bool.{Bool, true, false, _&&_, _||_, not, cond, false≢true}
+use mathlib.Core.List.{List, [], _∷_, _++_}
+use lib.ListN.{length, length-append, replicate}
+use lib.Dec.{eqb, leb, lit≤, lit<}
+use borrow.Author.Tests.{eq-eqb, ne-eqb}
+use Rattle.octets.specs.Octets.{octets16, octets32}
+use Rattle.cases.proofs.Says.{Says, says-eq, says-not}
+use Rattle.sheet_rules.specs.declared.Record.{Record}
+use Rattle.sheet_rules.specs.declared.State.{State}
+use Rattle.sheet_rules.specs.declared.Step.{Step}
+use Rattle.sheet_rules.specs.declared.Step.the-variants.{Next, Stop}
+use Rattle.sheet_rules.specs.Judge.{coded as isCoded, choiceOk, begin, after, after1, after2, after3, stepOf, onStep, run}
+use Rattle.sheet_rules.specs.Sentences.{Coded as CodedRecord, Uncoded as UncodedRecord, CoderOf, Listed, Unbroken, Complete, Sheet}
+use Rattle.sheet_rules.proofs.New.{NextLayer, NextStripe, CodedFacts, EmptyFacts, UncodedFacts, ResFacts, PageFacts, ChoiceFacts, UpperFacts, New, says-coded, says-choice}
+use Rattle.sheet_rules.proofs.Backward.{listed-nonzero}
+use Rattle.sheet_rules.proofs.Fold.{step-next, run-append, begun-unbroken}
+use Rattle.jpeg_rules.specs.Grammar.{Layer}
+use Rattle.page_rules.proofs.There.{length-start}
+use Rattle.page_rules.specs.Kinds.{Head, hasBack, hasMask, hasFore, Colour, Fields, Coded, coded, uncoded, imageRecord, maskRecord}
+use Rattle.page_rules.specs.Grammar.{startOf, GoodHead, MaskCoder, TypeOf, colourOf, headOf, GoodFields, Image, there, absent, recordsOf, Stripe, Stripes, last, next, Page}
+
+-- ---- an image layer's record
+
+-- what the judge asks of it, whatever its layer: its contents, and its resolution
+record ImageFacts (main k l : ℕ) (b : Bool) (r : Record) : Type 0 where
+  stripe-is : r .stripe ≡ k
+  layer-is : r .layer ≡ l
+  zeros : (r .octet17 ≡ 0) × (r .octets26 ≡ 0)
+  coded-is : isCoded r ≡ b
+  contents : (CodedRecord r × CodedFacts r) ⊎ (UncodedRecord r × UncodedFacts r)
+  listed : Listed (r .res)
+  res : ResFacts b (r .res) main
+
+layer-size : {main w h r : ℕ} (l : List ℕ) → Layer main l w h r → length l ≢ 0
+layer-size l y z = let a = ap length (y .octets) in omega arith
+
+image-facts : (hd : Head) (k l at : ℕ) (base : Colour) (x y : ℕ) (b : Bool) (o : List ℕ) (c : Coded) → (l % 2 ≡ 1) → Listed (hd .main) → at + length o ≤ 16777215
+    → Image (hd .main) at b o c → ImageFacts (hd .main) k l b (imageRecord hd k l base x y c)
+unfolding imageRecord
+image-facts hd k l at base x y b o c odd g small (there {w = w} {h = h} {r = r} z) =
+    let nz = layer-size o z in
+    record {
+      stripe-is = refl;
+      layer-is = refl;
+      zeros = (refl, refl);
+      coded-is = says-not (says-eq (length o) 0) .shown nz;
+      contents = inl (nz, record { coder = inl refl; width = z .wide .1; height = z .high .1; ending = omega arith });
+      listed = z .listed;
+      res = record { nonzero = listed-nonzero r (z .listed); divides = z .divides; same = inl refl };
+    }
+image-facts hd k l at base x y b o c odd g small absent =
+    record {
+      stripe-is = refl;
+      layer-is = refl;
+      zeros = (refl, refl);
+      coded-is = refl;
+      contents = inr (refl, record { coder = refl; start = refl; empty = inr (record { x = refl; y = refl; width = refl; height = refl }) });
+      listed = g;
+      res = record { nonzero = listed-nonzero (hd .main) g; divides = dvd-refl (hd .main); same = inr refl };
+    }
+
+-- ---- the choice of layers that a type can name
+
+choice : (t : ℕ) → TypeOf t → choiceOk (hasBack t) (hasMask t) (hasFore t) ≡ true
+choice t (inl e) = ap (λ (t : ℕ). choiceOk (hasBack t) (hasMask t) (hasFore t)) e
+choice t (inr (inl e)) = ap (λ (t : ℕ). choiceOk (hasBack t) (hasMask t) (hasFore t)) e
+choice t (inr (inr (inl e))) = ap (λ (t : ℕ). choiceOk (hasBack t) (hasMask t) (hasFore t)) e
+choice t (inr (inr (inr (inl e)))) = ap (λ (t : ℕ). choiceOk (hasBack t) (hasMask t) (hasFore t)) e
+choice t (inr (inr (inr (inr (inl e))))) = ap (λ (t : ℕ). choiceOk (hasBack t) (hasMask t) (hasFore t)) e
+choice t (inr (inr (inr (inr (inr e))))) = ap (λ (t : ℕ). choiceOk (hasBack t) (hasMask t) (hasFore t)) e
+
+mask-coder : (c : ℕ) → MaskCoder c → c ≢ 0 → CoderOf 2 c
+mask-coder c (inl e) d = absurd (d e)
+mask-coder c (inr (inl e)) d = inl e
+mask-coder c (inr (inr (inl e))) d = inr (refl, inl e)
+mask-coder c (inr (inr (inr (inl e)))) d = inr (refl, inr (inl e))
+mask-coder c (inr (inr (inr (inr e)))) d = inr (refl, inr (inr e))
+
+length-head : (f : Fields) → length (headOf f) ≡ 39
+unfolding headOf colourOf octets32 octets16
+length-head f = refl
+
+-- ---- the state where a stripe begins
+
+record Ready (hd : Head) (k left : ℕ) (st : State) : Type 0 where
+  place : ((k ≡ 0) × (st .stripe ≡ 0) × (st .layer ≡ 0)) ⊎ ((st .stripe + 1 ≡ k) × (st .layer ≡ 3) × (st .main ≡ hd .main) × (st .width ≡ hd .width))
+  left-is : st .left ≡ left
+
+-- ---- the mask's record
+
+record MaskFacts (b : Bool) (r : Record) : Type 0 where
+  coded-is : isCoded r ≡ b
+  contents : (CodedRecord r × CodedFacts r) ⊎ (UncodedRecord r × UncodedFacts r)
+
+mask-facts : (hd : Head) (k height at n : ℕ) (b : Bool) → MaskCoder (hd .mask) → (b ≡ true → hd .mask ≢ 0) → 1 ≤ hd .width → 1 ≤ height → at + n ≤ 16777215
+    → (b ≡ true → n ≡ 0 → ⊥) × (b ≡ false → n ≡ 0) → MaskFacts b (maskRecord hd k height (cond b (hd .mask) 0) (cond b at 0) n)
+unfolding maskRecord
+mask-facts hd k height at n true g c w h small m =
+    record {
+      coded-is = says-not (says-eq n 0) .shown (m .0 refl);
+      contents = inl (m .0 refl, record { coder = mask-coder (hd .mask) g (c refl); width = λ z. omega arith; height = λ z. omega arith; ending = omega arith });
+    }
+mask-facts hd k height at n false g c w h small m =
+    record {
+      coded-is = ap (λ (t : Bool). not t) (eq-eqb n 0 (m .1 refl));
+      contents = inr (m .1 refl, record { coder = refl; start = refl; empty = inl refl });
+    }
+
+-- ---- the states behind the three records
+
+module _ (st : State) (r : Record) where
+  after-is-1 : r .layer ≡ 1 → after st r ≡ after1 st r
+  unfolding after
+  after-is-1 e = simp (eq-eqb (r .layer) 1 e)
+
+  after-is-2 : r .layer ≡ 2 → after st r ≡ after2 st r
+  unfolding after
+  after-is-2 e = simp (ne-eqb (r .layer) 1 (λ z. omega arith), eq-eqb (r .layer) 2 e)
+
+  after-is-3 : r .layer ≡ 3 → after st r ≡ after3 st r
+  unfolding after
+  after-is-3 e = simp (ne-eqb (r .layer) 1 (λ z. omega arith), ne-eqb (r .layer) 2 (λ z. omega arith))
+
+record Ran (hd : Head) (k left height : ℕ) (st : State) (rs : List Record) : Type 0 where
+  t : State
+  went : run st rs ≡ Next t
+  ready : Ready hd (suc k) (left - height) t
+  third : t .layer ≡ 3
+
+module _ (hd : Head) (g : GoodHead hd) (k left at : ℕ) (l : List ℕ) (height : ℕ) (rs : List Record) (z : Stripe hd k left at l height rs)
+    (few : k < 64) (small : at + length l ≤ 16777215) (st : State) (rdy : Ready hd k left st) where
+  r1 : Record
+  r1 = imageRecord hd k 1 (z .fields .back) (z .fields .backX) (z .fields .backY) (z .backIs)
+
+  r2 : Record
+  r2 = maskRecord hd k (z .fields .height) (cond (hasMask (z .fields .type)) (hd .mask) 0) (cond (hasMask (z .fields .type)) (at + 39) 0) (z .fields .maskLength)
+
+  r3 : Record
+  r3 = imageRecord hd k 3 (z .fields .fore) (z .fields .foreX) (z .fields .foreY) (z .foreIs)
+
+  sizes : at + 39 + length (z .mask) + length (z .back) + length (z .fore) ≡ at + length l
+  sizes =
+      let a = ap length (z .octets) in
+      let b = length-append (headOf (z .fields)) (z .mask ++ (z .back ++ z .fore)) in
+      let c = length-append (z .mask) (z .back ++ z .fore) in
+      let d = length-append (z .back) (z .fore) in
+      let e = length-head (z .fields) in
+      omega arith
+
+  one : ImageFacts (hd .main) k 1 (hasBack (z .fields .type)) r1
+  unfolding r1
+  one =
+      let q = sizes in
+      image-facts hd k 1 (at + 39 + length (z .mask)) (z .fields .back) (z .fields .backX) (z .fields .backY) (hasBack (z .fields .type)) (z .back) (z .backIs) refl (g .main) (omega arith) (z .backThere)
+
+  two : MaskFacts (hasMask (z .fields .type)) r2
+  unfolding r2
+  two =
+      let q = sizes in
+      let n = z .size in
+      let w = g .width in
+      let h = z .good .height in
+      mask-facts hd k (z .fields .height) (at + 39) (z .fields .maskLength) (hasMask (z .fields .type)) (g .mask) (z .good .maskCoder) (w .0) (h .0) (omega arith) (z .good .mask)
+
+  three : ImageFacts (hd .main) k 3 (hasFore (z .fields .type)) r3
+  unfolding r3
+  three =
+      let q = sizes in
+      image-facts hd k 3 (at + 39 + length (z .mask) + length (z .back)) (z .fields .fore) (z .fields .foreX) (z .fields .foreY) (hasFore (z .fields .type)) (z .fore) (z .foreIs) refl (g .main) (omega arith) (z .foreThere)
+
+  new1 : New st r1
+  new1 =
+      let x = one in
+      let si = x .stripe-is in
+      let li = x .layer-is in
+      record {
+        zeros = x .zeros;
+        place =
+            ⊎-elim
+            (λ (y : (k ≡ 0) × (st .stripe ≡ 0) × (st .layer ≡ 0)). inl ((omega arith, omega arith), omega arith))
+            (λ (y : (st .stripe + 1 ≡ k) × (st .layer ≡ 3) × (st .main ≡ hd .main) × (st .width ≡ hd .width)).
+            inr (((omega arith, omega arith), omega arith), (omega arith, omega arith)))
+            (rdy .place);
+        contents = x .contents;
+        listed = x .listed;
+        base = inl (omega arith);
+        layer = inl li;
+      }
+
+  st1 : State
+  st1 = after1 st r1
+
+  new2 : New st1 r2
+  unfolding st1 after1 r2 maskRecord
+  new2 =
+      let x = one in
+      let si = x .stripe-is in
+      let li = x .layer-is in
+      let y = two in
+      let w = g .width in
+      let h = z .good .height in
+      let ll = rdy .left-is in
+      record {
+        zeros = (refl, refl);
+        place = inl ((sym si, omega arith), lit≤ tt);
+        contents = y .contents;
+        listed = g .main;
+        base = inr ((refl, refl), refl);
+        layer =
+            inr
+            (inl (
+              refl,
+              record {
+                x = refl;
+                y = refl;
+                narrow = w .0;
+                wide = w .1;
+                low = h .0;
+                high = omega arith;
+                same =
+                    ⊎-elim (λ (y : (k ≡ 0) × (st .stripe ≡ 0) × (st .layer ≡ 0)). inl (y .0))
+                    (λ (y : (st .stripe + 1 ≡ k) × (st .layer ≡ 3) × (st .main ≡ hd .main) × (st .width ≡ hd .width)). inr (sym (y .3), sym (y .2)))
+                    (rdy .place);
+                res = subst (λ (b : Bool). ResFacts b (r1 .res) (hd .main)) (sym (x .coded-is)) (x .res);
+              },
+            ));
+      }
+
+  st2 : State
+  st2 = after2 st1 r2
+
+  new3 : New st2 r3
+  unfolding st2 st1 after2 after1 r2 maskRecord
+  new3 =
+      let x = three in
+      let si = x .stripe-is in
+      let li = x .layer-is in
+      record {
+        zeros = x .zeros;
+        place = inl ((si, li), omega arith);
+        contents = x .contents;
+        listed = x .listed;
+        base = inl (omega arith);
+        layer =
+            inr
+            (inr (
+              omega arith,
+              record {
+                res = subst (λ (b : Bool). ResFacts b (r3 .res) (hd .main)) (sym (x .coded-is)) (x .res);
+                choice = inr (says-choice (isCoded r1) (isCoded r2) (isCoded r3) .told picked);
+              },
+            ));
+      }
+    where
+      picked : choiceOk (isCoded r1) (isCoded r2) (isCoded r3) ≡ true
+      picked =
+          ap (λ (b : Bool). choiceOk b (isCoded r2) (isCoded r3)) (one .coded-is)
+          ∙ ap (λ (b : Bool). choiceOk (hasBack (z .fields .type)) b (isCoded r3)) (two .coded-is)
+          ∙ ap (λ (b : Bool). choiceOk (hasBack (z .fields .type)) (hasMask (z .fields .type)) b) (three .coded-is)
+          ∙ choice (z .fields .type) (z .good .type)
+
+  first-is : after st r1 ≡ st1
+  unfolding st1
+  first-is = after-is-1 st r1 (one .layer-is)
+
+  second-is : after st1 r2 ≡ st2
+  unfolding st2 r2 maskRecord
+  second-is = after-is-2 st1 r2 refl
+
+  st3 : State
+  st3 = after3 st2 r3
+
+  ran : run st (r1 ∷ r2 ∷ r3 ∷ []) ≡ Next st3
+  unfolding run onStep st3
+  ran =
+      let e1 : stepOf st r1 ≡ Next st1 = step-next st r1 new1 ∙ ap Next first-is in
+      let e2 : stepOf st1 r2 ≡ Next st2 = step-next st1 r2 new2 ∙ ap Next second-is in
+      let e3 : stepOf st2 r3 ≡ Next (after3 st2 r3) = step-next st2 r3 new3 ∙ ap Next (after-is-3 st2 r3 (three .layer-is)) in
+      ap (λ (x : Step). onStep x Stop (λ (t : State). run t (r2 ∷ r3 ∷ []))) e1
+      ∙ ap (λ (x : Step). onStep x Stop (λ (t : State). run t (r3 ∷ []))) e2
+      ∙ ap (λ (x : Step). onStep x Stop (λ (t : State). run t [])) e3
+
+  stripe-ran : Ran hd k left height st rs
+  unfolding st3 st2 st1 after3 after2 after1 r1 r2 r3 maskRecord
+  stripe-ran =
+      let si = three .stripe-is in
+      let li = three .layer-is in
+      let h = z .tall in
+      let ll = rdy .left-is in
+      record {
+        t = st3;
+        went = ap (run st) (z .records) ∙ ran;
+        ready = record { place = inr (omega arith, li, refl, refl); left-is = omega arith };
+        third = li;
+      }
+
+-- ---- all stripes, and the page
+
+run-more : (st t : State) (ps qs : List Record) → run st ps ≡ Next t → run st (ps ++ qs) ≡ run t qs
+unfolding onStep
+run-more st t ps qs e = run-append st ps qs ∙ ap (λ (x : Step). onStep x Stop (λ (v : State). run v qs)) e
+
+record Whole (st : State) (rs : List Record) : Type 0 where
+  t : State
+  went : run st rs ≡ Next t
+  third : t .layer ≡ 3
+
+stripes-ran : {hd : Head} → GoodHead hd → {k left at : ℕ} {l : List ℕ} {rs : List Record} → Stripes hd k left at l rs → (st : State) → Ready hd k left st
+    → at + length l ≤ 16777215 → Whole st rs
+unfolding run
+stripes-ran g (last some) st rdy small =
+    record {
+      t = st;
+      went = refl;
+      third = ⊎-elim (λ (y : (_ ≡ 0) × (st .stripe ≡ 0) × (st .layer ≡ 0)). absurd (omega arith)) (λ (y : (st .stripe + 1 ≡ _) × (st .layer ≡ 3) × (st .main ≡ _) × (st .width ≡ _)). y .1) (rdy .place);
+    }
+stripes-ran {hd} g {k} {left} {at} (next {l = l} {more = more} {rs = rs} {sr = sr} height few z rest) st rdy small =
+    let a = length-append l more in
+    let x = stripe-ran hd g k left at l height rs z few (omega arith) st rdy in
+    let y = stripes-ran g rest (x .t) (x .ready) (omega arith) in
+    record { t = y .t; went = run-more st (x .t) rs sr (x .went) ∙ y .went; third = y .third }
+
+pub page-accepted : (s : List ℕ) (rs : List Record) → Page s rs → length s ≤ 16777215 → Sheet rs
+page-accepted s rs p h =
+    let a1 = ap length (p .octets) in
+    let a2 = length-append (startOf (p .head)) (p .optionals ++ (p .stripes ++ (0xFF ∷ 0xD9 ∷ 0xFF ∷ 0xD9 ∷ replicate (p .zeros) 0))) in
+    let a3 = length-append (p .optionals) (p .stripes ++ (0xFF ∷ 0xD9 ∷ 0xFF ∷ 0xD9 ∷ replicate (p .zeros) 0)) in
+    let a4 = length-append (p .stripes) (0xFF ∷ 0xD9 ∷ 0xFF ∷ 0xD9 ∷ replicate (p .zeros) 0) in
+    let a5 = length-start (p .head) in
+    let w = stripes-ran (p .good) (p .striped) begin (record { place = inl (refl, refl, refl); left-is = refl }) (omega arith) in
+    let b = begun-unbroken rs (w .t) (w .went) in
+    let g = b .1 in
+    let li = w .third in
+    record {
+      unbroken = b .0;
+      complete =
+          record {
+            count = ⊎-elim (λ (z : length rs ≡ 0). let n = g .none z in absurd (omega arith)) (λ (q : 0 < length rs). q) (eq-zero-or-pos (length rs));
+            closing = λ i e. let q = g .last i e in (omega arith, omega arith);
+          };
+    }
