@@ -84,7 +84,7 @@ mask-coder c (inr (inr (inl e))) d = inr (refl, inl e)
 mask-coder c (inr (inr (inr (inl e)))) d = inr (refl, inr (inl e))
 mask-coder c (inr (inr (inr (inr e)))) d = inr (refl, inr (inr e))
 
-length-head : (f : Fields) → length (headOf f) ≡ 39
+pub length-head : (f : Fields) → length (headOf f) ≡ 39
 unfolding headOf colourOf octets32 octets16
 length-head f = refl
 

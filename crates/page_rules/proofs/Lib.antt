@@ -6,5 +6,7 @@ pub mod Layers
 pub mod Back
 pub mod Refused
 pub mod Accepted
+pub mod Named
 pub mod Theorems
 pub mod Examples
+pub mod Many

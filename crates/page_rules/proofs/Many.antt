@@ -1,0 +1,112 @@
+-- A page of 64 stripes, and of any number from 1 to 64.
+-- Assumes nothing.
+use Prim.Native.Nat.{ℕ, zero, suc, _+_, _-_, _*_, _≤_, _<_}
+use native.Mathlib.Omega.{arith}
+use mathlib.Core.Path.{_≡_, refl, sym, ap, _∙_}
+use mathlib.Core.Logic.{_⊎_, inl, inr, _≢_, ⊎-elim}
+use mathlib.Core.Bool.{Bool, true, false, false≢true}
+use mathlib.Core.List.{List, [], _∷_, _++_}
+use lib.ListN.{length, length-append, replicate}
+use lib.Dec.{lit<, lit≤}
+use Rattle.sheet_rules.specs.declared.Record.{Record}
+use Rattle.page_rules.specs.Kinds.{Head, hasBack, hasMask, hasFore, Colour, Fields, Coded, coded, uncoded}
+use Rattle.page_rules.specs.Grammar.{startOf, GoodHead, no-more, headOf, Widths, GoodFields, Image, there, absent, recordsOf, Stripe, Stripes, last, next, Page}
+
+-- only a mask, of five octets, two lines high
+abbrev head : Head
+head = record { mask = 4; image = 0; main = 200; width = 4 }
+
+abbrev fields : Fields
+fields =
+    record {
+      type = 2;
+      back = record { c0 = 0xFF; c1 = 0x80; c2 = 0x60 };
+      fore = record { c0 = 0x00; c1 = 0x80; c2 = 0x60 };
+      backX = 0;
+      backY = 0;
+      foreX = 0;
+      foreY = 0;
+      height = 2;
+      maskLength = 5;
+    }
+
+abbrev octets : List ℕ
+octets = headOf fields ++ ((1 ∷ 2 ∷ 3 ∷ 4 ∷ 5 ∷ []) ++ ([] ++ []))
+
+good-head : GoodHead head
+good-head = record { mask = inr (inr (inr (inl refl))); image = inl refl; main = inr (inl refl); width = (lit≤ tt, lit≤ tt) }
+
+one : (k left at : ℕ) → 2 ≤ left → Stripe head k left at octets 2 (recordsOf head k fields (at + 39) uncoded uncoded)
+one k left at h =
+    record {
+      fields = fields;
+      mask = 1 ∷ 2 ∷ 3 ∷ 4 ∷ 5 ∷ [];
+      back = [];
+      fore = [];
+      backIs = uncoded;
+      foreIs = uncoded;
+      octets = refl;
+      widths =
+          record {
+            type = lit< tt;
+            back = (lit< tt, lit< tt, lit< tt);
+            fore = (lit< tt, lit< tt, lit< tt);
+            offsets = (lit< tt, lit< tt, lit< tt, lit< tt);
+            maskLength = lit< tt;
+          };
+      good =
+          record {
+            type = inr (inl refl);
+            maskCoder = λ e z. omega arith;
+            imageCoder = λ e. ⊎-elim (λ (x : false ≡ true). absurd (false≢true x)) (λ (x : false ≡ true). absurd (false≢true x)) e;
+            back = λ e. absurd (false≢true e);
+            fore = λ e. absurd (false≢true e);
+            height = (lit≤ tt, h);
+            mask = (λ e z. omega arith, λ e. absurd (false≢true (sym e)));
+          };
+      size = refl;
+      backThere = absent;
+      foreThere = absent;
+      tall = refl;
+      records = refl;
+    }
+
+pub record Many (k left at n : ℕ) : Type 0 where
+  pub stripes : List ℕ
+  pub records : List Record
+  pub striped : Stripes head k left at stripes records
+  pub count : length records ≡ n * 3
+
+many : (n k left at : ℕ) → 0 < k + n → k + n ≤ 64 → n * 2 ≤ left → Many k left at n
+many zero k left at p m h = let q : 0 < k = omega arith in record { stripes = []; records = []; striped = last q; count = refl }
+many (suc n) k left at p m h =
+    let y = many n (suc k) (left - 2) (at + length octets) (omega arith) (omega arith) (omega arith) in
+    let c = y .count in
+    let few : k < 64 = omega arith in
+    record {
+      stripes = octets ++ y .stripes;
+      records = recordsOf head k fields (at + 39) uncoded uncoded ++ y .records;
+      striped = next 2 few (one k left at (omega arith)) (y .striped);
+      count = omega arith;
+    }
+
+-- a page of n stripes
+pub record Striped (n : ℕ) : Type 0 where
+  pub page : List ℕ
+  pub records : List Record
+  pub is-page : Page page records
+  pub count : length records ≡ n * 3
+
+pub page-of : (n : ℕ) → 1 ≤ n → n ≤ 64 → Striped n
+page-of n lo hi =
+    let y = many n 0 65535 22 (omega arith) (omega arith) (omega arith) in
+    record {
+      page = startOf head ++ ([] ++ (y .stripes ++ (0xFF ∷ 0xD9 ∷ 0xFF ∷ 0xD9 ∷ replicate 0 0)));
+      records = y .records;
+      is-page =
+          record { head = head; optionals = []; stripes = y .stripes; zeros = 0; octets = refl; good = good-head; optional = no-more; striped = y .striped };
+      count = y .count;
+    }
+
+pub sixty-four : Striped 64
+sixty-four = page-of 64 (lit≤ tt) (lit≤ tt)
