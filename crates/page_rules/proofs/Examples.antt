@@ -12,35 +12,15 @@ use Rattle.jpeg_rules.specs.Walk.{segOf, scanOf, tagOf, frameBodyOf, frameOf, s
 use Rattle.jpeg_rules.proofs.Examples as J
 use Rattle.page_rules.specs.Kinds.{Head, typeOk, maskCoder, imageCoder, Colour, Fields, imageRecord, maskRecord}
 use Rattle.page_rules.specs.Grammar.{startOf, optionalOf, colourOf, headOf}
+use Rattle.page_rules.proofs.Many.{head, stripe, coded-mask}
 use Rattle.page_rules.specs.Reading.{startRows, segmentRows, stripeRows, spanOf, walked, layersOf, stripeFrom, bodyFrom, zerosOf, endRows, pageOf, roomOf, readOf}
-
--- four by two at 200, a mask by coder 4 of five octets, white and black around it
-pub head : Head
-head = record { mask = 4; image = 0; main = 200; width = 4 }
-
-pub stripe : Fields
-stripe =
-    record {
-      type = 2;
-      back = record { c0 = 0xFF; c1 = 0x80; c2 = 0x60 };
-      fore = record { c0 = 0x00; c1 = 0x80; c2 = 0x60 };
-      backX = 0;
-      backY = 0;
-      foreX = 0;
-      foreY = 0;
-      height = 2;
-      maskLength = 5;
-    }
 
 pub end : List ℕ
 end = 0xFF ∷ 0xD9 ∷ []
 
-pub coded : List ℕ
-coded = 0x01 ∷ 0x02 ∷ 0x03 ∷ 0x04 ∷ 0x05 ∷ []
-
 pub page : List ℕ
-unfolding head stripe end coded
-page = startOf head ++ (headOf stripe ++ (coded ++ (end ++ end)))
+unfolding end
+page = startOf head ++ (headOf stripe ++ (coded-mask ++ (end ++ end)))
 
 pub read : readOf page 84 ≡ Done 3
 unfolding readOf page startOf headOf colourOf octets16 octets32 startRows segmentRows stripeRows endRows fields maskCoder imageCoder typeOk be16At be32At standsAt begins layersOf
@@ -59,7 +39,7 @@ unfolding readOf page startOf headOf colourOf octets16 octets32 startRows segmen
 trailing = refl
 
 pub no-stripe : readOf (startOf head ++ (optionalOf 10 (1 ∷ 2 ∷ []) ++ (end ++ end))) 84 ≡ BadStripe 32
-unfolding readOf head end startOf optionalOf octets16 octets32 startRows segmentRows endRows fields maskCoder imageCoder be16At be32At standsAt begins
+unfolding readOf end startOf optionalOf octets16 octets32 startRows segmentRows endRows fields maskCoder imageCoder be16At be32At standsAt begins
 no-stripe = refl
 
 -- ---- a page of each of the six types, and of two different stripes
@@ -91,24 +71,24 @@ unfolding typed picture
 back-only = headOf (typed 1 0) ++ picture
 
 pub mask-only : List ℕ
-unfolding typed coded
-mask-only = headOf (typed 2 5) ++ coded
+unfolding typed
+mask-only = headOf (typed 2 5) ++ coded-mask
 
 pub mask-back : List ℕ
-unfolding typed coded picture
-mask-back = headOf (typed 3 5) ++ (coded ++ picture)
+unfolding typed picture
+mask-back = headOf (typed 3 5) ++ (coded-mask ++ picture)
 
 pub fore-only : List ℕ
 unfolding typed picture
 fore-only = headOf (typed 4 0) ++ picture
 
 pub mask-fore : List ℕ
-unfolding typed coded picture
-mask-fore = headOf (typed 6 5) ++ (coded ++ picture)
+unfolding typed picture
+mask-fore = headOf (typed 6 5) ++ (coded-mask ++ picture)
 
 pub all-three : List ℕ
-unfolding typed coded picture
-all-three = headOf (typed 7 5) ++ (coded ++ (picture ++ picture))
+unfolding typed picture
+all-three = headOf (typed 7 5) ++ (coded-mask ++ (picture ++ picture))
 
 -- the sheets' sizes, with an optional segment before and zeros behind
 pub six-types : (readOf (startOf colours ++ (back-only ++ (end ++ end))) 84 ≡ Done 3)

@@ -8,5 +8,5 @@ pub mod Refused
 pub mod Accepted
 pub mod Named
 pub mod Theorems
-pub mod Examples
 pub mod Many
+pub mod Examples

@@ -12,12 +12,12 @@ use Rattle.sheet_rules.specs.declared.Record.{Record}
 use Rattle.page_rules.specs.Kinds.{Head, hasBack, hasMask, hasFore, Colour, Fields, Coded, coded, uncoded}
 use Rattle.page_rules.specs.Grammar.{startOf, GoodHead, no-more, headOf, Widths, GoodFields, Image, there, absent, recordsOf, Stripe, Stripes, last, next, Page}
 
--- only a mask, of five octets, two lines high
-abbrev head : Head
+-- four by two at 200: only a mask, by coder 4, of five octets; white and black around it
+abbrev pub head : Head
 head = record { mask = 4; image = 0; main = 200; width = 4 }
 
-abbrev fields : Fields
-fields =
+abbrev pub stripe : Fields
+stripe =
     record {
       type = 2;
       back = record { c0 = 0xFF; c1 = 0x80; c2 = 0x60 };
@@ -30,17 +30,20 @@ fields =
       maskLength = 5;
     }
 
+abbrev pub coded-mask : List ℕ
+coded-mask = 1 ∷ 2 ∷ 3 ∷ 4 ∷ 5 ∷ []
+
 abbrev octets : List ℕ
-octets = headOf fields ++ ((1 ∷ 2 ∷ 3 ∷ 4 ∷ 5 ∷ []) ++ ([] ++ []))
+octets = headOf stripe ++ (coded-mask ++ ([] ++ []))
 
 good-head : GoodHead head
 good-head = record { mask = inr (inr (inr (inl refl))); image = inl refl; main = inr (inl refl); width = (lit≤ tt, lit≤ tt) }
 
-one : (k left at : ℕ) → 2 ≤ left → Stripe head k left at octets 2 (recordsOf head k fields (at + 39) uncoded uncoded)
+one : (k left at : ℕ) → 2 ≤ left → Stripe head k left at octets 2 (recordsOf head k stripe (at + 39) uncoded uncoded)
 one k left at h =
     record {
-      fields = fields;
-      mask = 1 ∷ 2 ∷ 3 ∷ 4 ∷ 5 ∷ [];
+      fields = stripe;
+      mask = coded-mask;
       back = [];
       fore = [];
       backIs = uncoded;
@@ -85,7 +88,7 @@ many (suc n) k left at p m h =
     let few : k < 64 = omega arith in
     record {
       stripes = octets ++ y .stripes;
-      records = recordsOf head k fields (at + 39) uncoded uncoded ++ y .records;
+      records = recordsOf head k stripe (at + 39) uncoded uncoded ++ y .records;
       striped = next 2 few (one k left at (omega arith)) (y .striped);
       count = omega arith;
     }

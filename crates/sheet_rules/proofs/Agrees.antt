@@ -145,6 +145,26 @@ module _ (rs : List Record) (st : State) (r : Record) (g : Agrees rs st) (n : Ne
             omega arith;
       }
 
+  -- above layer 1 what is known of the stripe's layer 1 stays, in any state of the record's stripe that remembers it
+  one-kept : (t : State) → t .stripe ≡ r .stripe → t .coded1 ≡ st .coded1 → t .res1 ≡ st .res1 → 2 ≤ r .layer → One (rs ++ (r ∷ [])) t
+  one-kept t es ec er h =
+      let u = upward h in
+      let o = g .one (omega arith) in
+      record {
+        it = o .it;
+        among = among-old rs r (o .it) (o .among);
+        stripe = o .stripe ∙ sym (u .0 .0) ∙ sym es;
+        layer = o .layer;
+        coded1 = o .coded1 ∙ sym ec;
+        res1 = o .res1 ∙ sym er;
+      }
+
+  ones-kept : 2 ≤ r .layer → (x : Record) → Among x (rs ++ (r ∷ [])) → x .stripe ≡ r .stripe → x .layer ≡ 1 → (coded x ≡ st .coded1) × (x .res ≡ st .res1)
+  ones-kept h =
+      all-more rs r (λ x. x .stripe ≡ r .stripe → x .layer ≡ 1 → (coded x ≡ st .coded1) × (x .res ≡ st .res1))
+      (λ x m s l. g .ones x m (s ∙ upward h .0 .0) l)
+      (λ s l. absurd (omega arith))
+
   agrees2 : r .layer ≡ 2 → PageFacts st r → Agrees (rs ++ (r ∷ [])) (after2 st r)
   unfolding after2
   agrees2 e f =
@@ -155,13 +175,8 @@ module _ (rs : List Record) (st : State) (r : Record) (g : Agrees rs st) (n : Ne
         bound = (stands .0, stands .2);
         count = counted;
         passed = passed′;
-        one = λ h.
-            let o = g .one (omega arith) in
-            record { it = o .it; among = among-old rs r (o .it) (o .among); stripe = o .stripe ∙ sym (u .0 .0); layer = o .layer; coded1 = o .coded1; res1 = o .res1 };
-        ones =
-            all-more rs r (λ x. x .stripe ≡ r .stripe → x .layer ≡ 1 → (coded x ≡ st .coded1) × (x .res ≡ st .res1))
-            (λ x m s l. g .ones x m (s ∙ u .0 .0) l)
-            (λ s l. absurd (omega arith));
+        one = λ h. one-kept (after2 st r) refl refl refl (omega arith);
+        ones = ones-kept (omega arith);
         two = λ h. record { it = r; among = among-new rs r; stripe = refl; layer = e; coded2 = refl; main = refl; width = refl };
         twos =
             all-more rs r (λ x. x .layer ≡ 2 → (x .res ≡ r .res) × (x .width ≡ r .width) × (x .stripe ≡ r .stripe → coded x ≡ coded r))
@@ -193,13 +208,8 @@ module _ (rs : List Record) (st : State) (r : Record) (g : Agrees rs st) (n : Ne
         bound = (stands .0, stands .2);
         count = counted;
         passed = passed′;
-        one = λ h.
-            let o = g .one (omega arith) in
-            record { it = o .it; among = among-old rs r (o .it) (o .among); stripe = o .stripe ∙ sym (u .0 .0); layer = o .layer; coded1 = o .coded1; res1 = o .res1 };
-        ones =
-            all-more rs r (λ x. x .stripe ≡ r .stripe → x .layer ≡ 1 → (coded x ≡ st .coded1) × (x .res ≡ st .res1))
-            (λ x m s l. g .ones x m (s ∙ u .0 .0) l)
-            (λ s l. absurd (omega arith));
+        one = λ h. one-kept (after3 st r) refl refl refl (omega arith);
+        ones = ones-kept (omega arith);
         two = λ h.
             let o = g .two (omega arith) in
             record { it = o .it; among = among-old rs r (o .it) (o .among); stripe = o .stripe ∙ sym (u .0 .0); layer = o .layer; coded2 = o .coded2; main = o .main; width = o .width };
