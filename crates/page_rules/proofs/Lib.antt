@@ -5,6 +5,7 @@ pub mod Apart
 pub mod Layers
 pub mod Back
 pub mod Refused
+pub mod Count
 pub mod Accepted
 pub mod Named
 pub mod Theorems

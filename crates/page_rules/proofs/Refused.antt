@@ -40,6 +40,10 @@ unfolding bind
 bind-refused P (ok x m) go a e bad good = good x m refl e
 bind-refused P (no b) go a e bad good = let z : b ≡ a = cc in bad (ap no z)
 
+pub segment-size : (k : ℕ) → rowsSize (segmentRows k) ≡ 8
+unfolding segmentRows rowsSize
+segment-size k = refl
+
 module _ (s : List ℕ) (a : Answer) where
   short : (p : ℕ) → p ≤ length s → Refusal (length s) (Short p)
   unfolding numberOf placeOf
@@ -190,10 +194,6 @@ module _ (s : List ℕ) (a : Answer) where
         let y = layers-back hd k (fieldsFrom vs) s o p rs e q3 in
         rec hd (suc k) (left - fieldsFrom vs .height) (acc ++ rs) e (y .inside) q4)
         (λ u e. told (BadLength (at + 2)) (record { least = lit≤ tt; most = lit≤ tt; place = let u : at + 2 ≤ length s = omega arith in u }) e)
-
-    segment-size : (k : ℕ) → rowsSize (segmentRows k) ≡ 8
-    unfolding segmentRows rowsSize
-    segment-size k = refl
 
     body-refused : (fuel : ℕ) → Rest fuel
     unfolding bodyFrom numberOf placeOf

@@ -3,8 +3,8 @@
 --
 --   startOf hd       FF D8, the start of page segment, FF D9
 --   optionalOf n b   an optional segment
---   Layers           the coded layers present of a stripe: mask, background, foreground
---   stripeOf f y     the start of stripe segment and the layers
+--   headOf f         a stripe's segment, from its marker to its mask length
+--   Image            an image layer of a stripe, or none where the type names none, and its record
 --   Stripe hd k left at ..   a stripe of number k, with so much of the height left, at a place of the page, and its records
 --   Page s rs        the octets s are a page whose sheet has the records rs
 use Prim.Native.Nat.{ℕ, suc, _+_, _-_, _≤_, _<_}
