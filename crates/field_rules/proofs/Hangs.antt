@@ -63,84 +63,78 @@ module _ (e : ℕ) (s t : List ℕ) (a : Agree e s t) where
   numbers-agree (w ∷ ws) at h =
       ap₂ (λ (x : ℕ) (l : List ℕ). x ∷ l) (number-agree w at (omega arith)) (numbers-agree ws (at + octetCount w) (omega arith))
 
--- ---- a segment
+-- ---- what reading hangs on
 
 -- not Short
-pub Whole : Res (List ℕ) → Type 0
+pub Whole : {A : Type 0} → Res A → Type 0
 Whole r = (p : ℕ) → r ≡ no (Short p) → ⊥
 
-pub record Hangs (rows : List Row) (before s : List ℕ) (at : ℕ) : Type 0 where
-  pub ahead : at ≤ reach rows before s at
-  pub inside : reach rows before s at ≤ length s
-  pub same : (t : List ℕ) → Agree (reach rows before s at) s t → fields rows before t at ≡ fields rows before s at
+-- reading s from a place looks so far, and lists that agree with s so far are read alike
+pub record Hangs {A : Type 0} (look : ℕ) (read : List ℕ → Res A) (s : List ℕ) (at : ℕ) : Type 0 where
+  pub ahead : at ≤ look
+  pub inside : look ≤ length s
+  pub same : (t : List ℕ) → Agree look s t → read t ≡ read s
 
-pub fields-hang : (rows : List Row) (before s : List ℕ) (at : ℕ) → at ≤ length s → Whole (fields rows before s at) → Hangs rows before s at
+-- ---- a field of n octets, whatever it is: its test, and the numbers known behind it, are of those octets alone
+
+module _ (n at : ℕ) (test : List ℕ → Bool) (known : List ℕ → List ℕ) (refusal : ℕ → Answer) (rows : List Row) where
+  abbrev readField : List ℕ → Res (List ℕ)
+  readField s = cond (ltb (length s) (at + n)) (no (Short at)) (cond (test s) (fields rows (known s) s (at + n)) (no (refusal at)))
+
+  abbrev lookField : List ℕ → ℕ
+  lookField s = cond (ltb (length s) (at + n)) at (cond (test s) (reach rows (known s) s (at + n)) (at + n))
+
+  field-hangs : ((e : ℕ) (s t : List ℕ) → Agree e s t → at + n ≤ e → (test t ≡ test s) × (known t ≡ known s)) → (s : List ℕ)
+      → (at + n ≤ length s → Whole (fields rows (known s) s (at + n)) → Hangs (reach rows (known s) s (at + n)) (λ (t : List ℕ). fields rows (known s) t (at + n)) s (at + n))
+      → Whole (readField s) → Hangs (lookField s) readField s at
+  unfolding Whole
+  field-hangs alone s rest w =
+      ⊎-elim (λ (l : ltb (length s) (at + n) ≡ true). absurd (w at (simp l)))
+      (λ (l : ltb (length s) (at + n) ≡ false).
+      let g = ltb-false (length s) (at + n) l in
+      ⊎-elim
+      (λ (k : test s ≡ true).
+      let f : readField s ≡ fields rows (known s) s (at + n) = simp (l, k) in
+      let q : lookField s ≡ reach rows (known s) s (at + n) = simp (l, k) in
+      let x = rest g (λ p z. w p (f ∙ z)) in
+      let y = x .ahead in
+      let i = x .inside in
+      record {
+        ahead = omega arith;
+        inside = omega arith;
+        same = λ t a.
+            let a′ = subst (λ (e : ℕ). Agree e s t) q a in
+            let r = a′ .right in
+            let z = alone (reach rows (known s) s (at + n)) s t a′ y in
+            simp (l, k, le-ltb (length t) (at + n) (omega arith), z .0 ∙ k) (ap (λ (b : List ℕ). fields rows b t (at + n)) (z .1) ∙ x .same t a′);
+      })
+      (λ (k : test s ≡ false).
+      let q : lookField s ≡ at + n = simp (l, k) in
+      record {
+        ahead = omega arith;
+        inside = omega arith;
+        same = λ t a.
+            let a′ = subst (λ (e : ℕ). Agree e s t) q a in
+            let z = alone (at + n) s t a′ (omega arith) in
+            simp (l, k, le-ltb (length t) (at + n) (a′ .right), z .0 ∙ k);
+      })
+      (bool-else (test s)))
+      (bool-else (ltb (length s) (at + n)))
+
+-- ---- a segment
+
+pub fields-hang : (rows : List Row) (before s : List ℕ) (at : ℕ) → at ≤ length s → Whole (fields rows before s at)
+    → Hangs (reach rows before s at) (λ (t : List ℕ). fields rows before t at) s at
 unfolding fields reach Whole
 fields-hang [] before s at h w = record { ahead = omega arith; inside = h; same = λ t a. refl }
 fields-hang (mark m refusal ∷ rows) before s at h w =
-    ⊎-elim (λ (l : ltb (length s) (at + length m) ≡ true). absurd (w at (simp l)))
-    (λ (l : ltb (length s) (at + length m) ≡ false).
-    let g = ltb-false (length s) (at + length m) l in
-    ⊎-elim
-    (λ (k : standsAt s at m ≡ true).
-    let f : fields (mark m refusal ∷ rows) before s at ≡ fields rows before s (at + length m) = simp (l, k) in
-    let q : reach (mark m refusal ∷ rows) before s at ≡ reach rows before s (at + length m) = simp (l, k) in
-    let x = fields-hang rows before s (at + length m) g (λ p z. w p (f ∙ z)) in
-    let y = x .ahead in
-    let i = x .inside in
-    record {
-      ahead = omega arith;
-      inside = omega arith;
-      same = λ t a.
-          let a′ = subst (λ (e : ℕ). Agree e s t) q a in
-          let r = a′ .right in
-          simp (l, k, le-ltb (length t) (at + length m) (omega arith), sym (stands-agree (reach rows before s (at + length m)) s t a′ m at y) ∙ k) (x .same t a′);
-    })
-    (λ (k : standsAt s at m ≡ false).
-    let q : reach (mark m refusal ∷ rows) before s at ≡ at + length m = simp (l, k) in
-    record {
-      ahead = omega arith;
-      inside = omega arith;
-      same = λ t a.
-          let a′ = subst (λ (e : ℕ). Agree e s t) q a in
-          let r = a′ .right in
-          simp (l, k, le-ltb (length t) (at + length m) r, sym (stands-agree (at + length m) s t a′ m at (omega arith)) ∙ k);
-    })
-    (bool-else (standsAt s at m)))
-    (bool-else (ltb (length s) (at + length m)))
+    field-hangs (length m) at (λ (t : List ℕ). standsAt t at m) (λ (t : List ℕ). before) refusal rows
+    (λ e x y a i. (sym (stands-agree e x y a m at i), refl))
+    s (λ g v. fields-hang rows before s (at + length m) g v) w
 fields-hang (val ws good refusal ∷ rows) before s at h w =
-    ⊎-elim (λ (l : ltb (length s) (at + widths ws) ≡ true). absurd (w at (simp l)))
-    (λ (l : ltb (length s) (at + widths ws) ≡ false).
-    let g = ltb-false (length s) (at + widths ws) l in
-    ⊎-elim
-    (λ (k : good before (numbers ws s at) ≡ true).
-    let f : fields (val ws good refusal ∷ rows) before s at ≡ fields rows (before ++ numbers ws s at) s (at + widths ws) = simp (l, k) in
-    let q : reach (val ws good refusal ∷ rows) before s at ≡ reach rows (before ++ numbers ws s at) s (at + widths ws) = simp (l, k) in
-    let x = fields-hang rows (before ++ numbers ws s at) s (at + widths ws) g (λ p z. w p (f ∙ z)) in
-    let y = x .ahead in
-    let i = x .inside in
-    record {
-      ahead = omega arith;
-      inside = omega arith;
-      same = λ t a.
-          let a′ = subst (λ (e : ℕ). Agree e s t) q a in
-          let r = a′ .right in
-          let n = numbers-agree (reach rows (before ++ numbers ws s at) s (at + widths ws)) s t a′ ws at y in
-          simp (l, k, le-ltb (length t) (at + widths ws) (omega arith), sym n, k) (x .same t a′);
-    })
-    (λ (k : good before (numbers ws s at) ≡ false).
-    let q : reach (val ws good refusal ∷ rows) before s at ≡ at + widths ws = simp (l, k) in
-    record {
-      ahead = omega arith;
-      inside = omega arith;
-      same = λ t a.
-          let a′ = subst (λ (e : ℕ). Agree e s t) q a in
-          let r = a′ .right in
-          let n = numbers-agree (at + widths ws) s t a′ ws at (omega arith) in
-          simp (l, k, le-ltb (length t) (at + widths ws) r, sym n, k);
-    })
-    (bool-else (good before (numbers ws s at))))
-    (bool-else (ltb (length s) (at + widths ws)))
+    field-hangs (widths ws) at (λ (t : List ℕ). good before (numbers ws t at)) (λ (t : List ℕ). before ++ numbers ws t at) refusal rows
+    (λ e x y a i. let n = sym (numbers-agree e x y a ws at i) in (ap (good before) n, ap (λ (l : List ℕ). before ++ l) n))
+    s (λ g v. fields-hang rows (before ++ numbers ws s at) s (at + widths ws) g v) w
 fields-hang (again back good refusal ∷ rows) before s at h w =
     ⊎-elim
     (λ (k : good before ≡ true).
