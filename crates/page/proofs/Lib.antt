@@ -1,3 +1,5 @@
 pub mod Kept
 pub mod Laws
 pub mod Stripe
+pub mod Turns
+pub mod Segments

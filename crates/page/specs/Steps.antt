@@ -4,21 +4,34 @@
 --   stepOf, laidOf           what a stripe's layers come to, and the scratch afterwards
 --   Ready out s k left at    a stripe's ident has been read: what is known before its length is judged
 --   Striped ..               a stripe is read with its records, which are laid, or refused, and the scratch is as it was
-use Prim.Native.Nat.{ℕ, _+_, _*_, _≤_, _<_}
+--   endedOf p                what the body comes to at its first FF D9
+--   Standing out s p         reading stands at a place of a page, and the scratch is there
+--   StripeTurned ..          a stripe is passed, or the body is refused in it
+--   Turned ..                a segment is passed, or the body ends or is refused
+--   Bodied ..                the body is read with its records, which are laid in front, or refused
+use Prim.Native.Nat.{ℕ, suc, _+_, _-_, _*_, _≤_, _<_}
+use mathlib.Core.Bool.{cond}
 use mathlib.Core.Path.{_≡_}
-use mathlib.Core.List.{List}
+use mathlib.Core.List.{List, _++_}
 use lib.ListN.{length, getD}
+use lib.Dec.{eqb}
 use Rattle.octets.specs.Octets.{be32At, putAt}
 use Rattle.answers.specs.declared.Answer.{Answer}
+use Rattle.answers.specs.declared.Answer.the-variants.{BadStripe}
 use Rattle.field_rules.specs.Field.{Res, ok, no}
 use Rattle.sheet_rules.specs.declared.Record.{Record}
 use Rattle.sheet_rules.specs.Record.{sheetOf}
 use Rattle.page_rules.specs.declared.Head.{Head}
 use Rattle.page_rules.specs.Grammar.{recordsOf}
-use Rattle.page_rules.specs.Reading.{stripeFrom}
+use Rattle.page_rules.specs.Reading.{stripeFrom, bodyFrom}
 use Rattle.layers.specs.declared.Layers.{Layers}
 use Rattle.layers.specs.declared.Layers.the-variants.{Read, Broken}
 use Rattle.stripe_records.specs.Places.{fieldsAt}
+use Rattle.page.specs.declared.Place.{Place}
+use Rattle.page.specs.declared.Body.{Body}
+use Rattle.page.specs.declared.Body.the-variants.{Stripes, Stopped}
+use Rattle.page.specs.declared.Turn.{Turn}
+use Rattle.page.specs.declared.Turn.the-variants.{Go, Stop}
 use Rattle.page.specs.declared.Step.{Step}
 use Rattle.page.specs.declared.Step.the-variants.{Next, Fault}
 
@@ -60,3 +73,58 @@ pub record StripeRefused (hd : Head) (k left size : ℕ) (s : List ℕ) (at : �
 abbrev pub Striped : Head → ℕ → ℕ → ℕ → List ℕ → ℕ → List ℕ → Step → List ℕ → Type 0
 Striped hd k left size s at out (Next e height) out′ = StripeRead hd k left size s at out e height out′
 Striped hd k left size s at out (Fault a) out′ = StripeRefused hd k left size s at out a out′
+
+unfoldable pub endedOf : Place → Body
+endedOf p = cond (eqb (p .stripe) 0) (Stopped (BadStripe (p .at))) (Stripes (p .stripe) (p .at + 2))
+
+-- reading goes on from another place with these records more, which are laid
+pub record Onward (s : List ℕ) (p : Place) (out : List ℕ) (q : Place) (out′ : List ℕ) (records : List Record) : Type 0 where
+  pub laid : out′ ≡ putAt out (p .stripe * 84) (sheetOf records)
+  pub counted : p .stripe * 3 + length records ≡ q .stripe * 3
+  pub few : q .stripe ≤ 64
+  pub low : q .left ≤ p .left
+  pub on : p .at < q .at
+  pub inside : q .at ≤ length s
+
+pub record StripePassed (hd : Head) (p : Place) (size : ℕ) (s out : List ℕ) (q : Place) (out′ : List ℕ) : Type 0 where
+  pub records : List Record
+  pub onward : Onward s p out q out′ records
+  pub same : (fuel : ℕ) (acc : List Record)
+      → stripeFrom hd (p .stripe) (p .left) size s (p .at) (λ (height : ℕ) (rs : List Record) (e : ℕ). bodyFrom fuel hd (suc (p .stripe)) (p .left - height) (acc ++ rs) s e)
+      ≡ bodyFrom fuel hd (q .stripe) (q .left) (acc ++ records) s (q .at)
+
+abbrev pub StripeTurned : Head → Place → ℕ → List ℕ → List ℕ → Turn → List ℕ → Type 0
+StripeTurned hd p size s out (Go q) out′ = StripePassed hd p size s out q out′
+StripeTurned hd p size s out (Stop (Stopped a)) out′ = StripeRefused hd (p .stripe) (p .left) size s (p .at) out a out′
+StripeTurned hd p size s out (Stop (Stripes count next)) out′ = ⊥
+
+pub record Standing (out s : List ℕ) (p : Place) : Type 0 where
+  pub inside : p .at ≤ length s
+  pub small : length s ≤ 16777215
+  pub few : p .stripe ≤ 64
+  pub low : p .left ≤ 65535
+  pub room : length out ≡ 5376
+
+-- the body from a place on, with so many segments to come at most
+abbrev pub bodyAt : ℕ → Head → Place → List Record → List ℕ → Res (List Record)
+bodyAt fuel hd p acc s = bodyFrom fuel hd (p .stripe) (p .left) acc s (p .at)
+
+pub record Passed (hd : Head) (p : Place) (s out : List ℕ) (q : Place) (out′ : List ℕ) : Type 0 where
+  pub records : List Record
+  pub onward : Onward s p out q out′ records
+  pub same : (fuel : ℕ) (acc : List Record) → bodyAt (suc fuel) hd p acc s ≡ bodyAt fuel hd q (acc ++ records) s
+
+pub record Over (hd : Head) (p : Place) (s out : List ℕ) (count next : ℕ) (out′ : List ℕ) : Type 0 where
+  pub same : (fuel : ℕ) (acc : List Record) → bodyAt (suc fuel) hd p acc s ≡ ok acc next
+  pub counted : count ≡ p .stripe
+  pub inside : next ≤ length s
+  pub kept : out′ ≡ out
+
+pub record Refuses (hd : Head) (p : Place) (s out : List ℕ) (a : Answer) (out′ : List ℕ) : Type 0 where
+  pub same : (fuel : ℕ) (acc : List Record) → bodyAt (suc fuel) hd p acc s ≡ no a
+  pub kept : out′ ≡ out
+
+abbrev pub Turned : Head → Place → List ℕ → List ℕ → Turn → List ℕ → Type 0
+Turned hd p s out (Go q) out′ = Passed hd p s out q out′
+Turned hd p s out (Stop (Stripes count next)) out′ = Over hd p s out count next out′
+Turned hd p s out (Stop (Stopped a)) out′ = Refuses hd p s out a out′

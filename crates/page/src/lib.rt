@@ -5,11 +5,31 @@ ghost use Prim.Native.Nat.{_+_, _≤_};
 ghost use lib.ListN.{length, getD};
 ghost use Rattle.octets.specs.Octets.{be32At};
 ghost use Rattle.layers.specs.Layers.{layersIn};
-ghost use Rattle.page.specs.Steps.{Laying, stepOf, laidOf, Ready, Striped};
+ghost use Rattle.page.specs.Steps.{Laying, stepOf, laidOf, Ready, Striped, endedOf, StripeTurned, Standing, Turned};
 use answers::Answer;
 use layers::Layers;
 use page_rules::Head;
 use segment::Judged;
+use segment::Segment;
+
+// Where reading the body stands: the place, the number of the stripe that may come, and how much of the page's height is left.
+pub struct Place {
+    pub at: u32,
+    pub stripe: u16,
+    pub left: u32,
+}
+
+// What the body comes to: how many stripes it has, and the place behind its first FF D9; or why it is refused.
+pub enum Body {
+    Stripes { count: u16, next: u32 },
+    Stopped(Answer),
+}
+
+// One segment on, or the body's answer.
+pub enum Turn {
+    Go(Place),
+    Stop(Body),
+}
 
 // What a stripe comes to: the place behind it and its height, or why it is refused.
 pub enum Step {
@@ -49,5 +69,50 @@ fn stripe_step(out: &mut [u8], s: &[u8], hd: Head, k: u16, left: u32, at: u32, s
     match segment::judge_stripe(s, hd, left, at + 8) {
         Judged::Refused(a) => Step::Fault(a),
         Judged::Fine => stripe_layers(out, s, hd, k, at + 8),
+    }
+}
+
+// A page without stripes is faulted at the FF D9.
+fn body_end(p: Place) -> Body
+    requires { ⌜ p .at ≤ 16777215 ⌝ }
+    ensures { λ r. ⌜ r ≡ endedOf p ⌝ }
+{
+    if p.stripe == 0 {
+        return Body::Stopped(Answer::BadStripe(p.at));
+    }
+    Body::Stripes {
+        count: p.stripe,
+        next: p.at + 2,
+    }
+}
+
+fn stripe_turn(out: &mut [u8], s: &[u8], hd: Head, p: Place, size: u16) -> Turn
+    requires { ⌜ Ready (now out) (now s) (p .stripe) (p .left) (p .at) ⌝ }
+    ensures { λ r. ⌜ StripeTurned hd p size (now (s .entry)) (now (out .entry)) r (now (out .exit)) ⌝ }
+{
+    match stripe_step(out, s, hd, p.stripe, p.left, p.at, size) {
+        Step::Fault(a) => Turn::Stop(Body::Stopped(a)),
+        Step::Next { next, height } => Turn::Go(Place {
+            at: next,
+            stripe: p.stripe + 1,
+            left: p.left - height,
+        }),
+    }
+}
+
+// A segment of the body: the end, a stripe or an optional segment.
+fn body_turn(out: &mut [u8], s: &[u8], hd: Head, p: Place) -> Turn
+    requires { ⌜ Standing (now out) (now s) p ⌝ }
+    ensures { λ r. ⌜ Turned hd p (now (s .entry)) (now (out .entry)) r (now (out .exit)) ⌝ }
+{
+    match segment::segment_at(s, p.stripe as u32, p.at) {
+        Segment::End => Turn::Stop(body_end(p)),
+        Segment::Wrong(a) => Turn::Stop(Body::Stopped(a)),
+        Segment::Optional { next } => Turn::Go(Place {
+            at: next,
+            stripe: p.stripe,
+            left: p.left,
+        }),
+        Segment::Stripe { size } => stripe_turn(out, s, hd, p, size),
     }
 }
