@@ -6,56 +6,21 @@ use mathlib.Core.Path.{_≡_, refl, sym, ap, ap₂, subst, _∙_}
 use mathlib.Core.Logic.{_⊎_, inl, inr, ⊎-elim}
 use mathlib.Core.Bool.{Bool, true, false, cond}
 use mathlib.Core.List.{List, [], _∷_, _++_}
-use lib.ListN.{length, getD, take, drop, take-append-drop, List·getD-append}
-use lib.Seq.{length-take-le, take-take}
+use lib.ListN.{length}
 use lib.Dec.{ltb}
 use borrow.Author.Tests.{le-ltb, ltb-false}
 use Rattle.answers.specs.declared.Answer.{Answer}
 use Rattle.answers.specs.declared.Answer.the-variants.{Short}
 use Rattle.cases.proofs.Cases.{bool-else}
-use Rattle.octets.specs.Octets.{be16At, be32At, standsAt}
-use Rattle.octets.proofs.Laws.{be16-append, be32-append, stands-append}
+use Rattle.octets.specs.Octets.{standsAt}
+use Rattle.octets.proofs.Agree.{Agree, octet-agree, be16-agree, be32-agree, stands-agree, Hangs}
 use Rattle.field_rules.specs.Field.{Res, ok, no, Width, one, two, four, octetCount, widths, numberAt, numbers, Row, mark, val, again, fields, reach}
-
--- the lists agree in their first e octets
-pub record Agree (e : ℕ) (s t : List ℕ) : Type 0 where
-  pub left : e ≤ length s
-  pub right : e ≤ length t
-  pub same : take e s ≡ take e t
-
-pub agree-less : (d e : ℕ) (s t : List ℕ) → d ≤ e → Agree e s t → Agree d s t
-agree-less d e s t h a =
-    let l = a .left in
-    let r = a .right in
-    record {
-      left = omega arith;
-      right = omega arith;
-      same = sym (take-take d e s h) ∙ ap (take d) (a .same) ∙ take-take d e t h;
-    }
-
--- what is read within the first e octets is read of them alone
-number-front : (w : Width) (s : List ℕ) (at e : ℕ) → at + octetCount w ≤ e → e ≤ length s → numberAt w s at ≡ numberAt w (take e s) at
-number-front one s at e h l =
-    let n = length-take-le e s l in
-    ap (λ (x : List ℕ). getD x at 0) (sym (take-append-drop e s)) ∙ List·getD-append (take e s) (drop e s) 0 at (omega arith)
-number-front two s at e h l =
-    let n = length-take-le e s l in
-    ap (λ (x : List ℕ). be16At x at) (sym (take-append-drop e s)) ∙ be16-append (take e s) (drop e s) at (omega arith)
-number-front four s at e h l =
-    let n = length-take-le e s l in
-    ap (λ (x : List ℕ). be32At x at) (sym (take-append-drop e s)) ∙ be32-append (take e s) (drop e s) at (omega arith)
-
-stands-front : (s m : List ℕ) (at e : ℕ) → at + length m ≤ e → e ≤ length s → standsAt s at m ≡ standsAt (take e s) at m
-stands-front s m at e h l =
-    let n = length-take-le e s l in
-    ap (λ (x : List ℕ). standsAt x at m) (sym (take-append-drop e s)) ∙ stands-append (take e s) (drop e s) at m (omega arith)
 
 module _ (e : ℕ) (s t : List ℕ) (a : Agree e s t) where
   number-agree : (w : Width) (at : ℕ) → at + octetCount w ≤ e → numberAt w s at ≡ numberAt w t at
-  number-agree w at h = number-front w s at e h (a .left) ∙ ap (λ (x : List ℕ). numberAt w x at) (a .same) ∙ sym (number-front w t at e h (a .right))
-
-  pub stands-agree : (m : List ℕ) (at : ℕ) → at + length m ≤ e → standsAt s at m ≡ standsAt t at m
-  stands-agree m at h = stands-front s m at e h (a .left) ∙ ap (λ (x : List ℕ). standsAt x at m) (a .same) ∙ sym (stands-front t m at e h (a .right))
+  number-agree one at h = octet-agree e s t a at (omega arith)
+  number-agree two at h = be16-agree e s t a at h
+  number-agree four at h = be32-agree e s t a at h
 
   pub numbers-agree : (ws : List Width) (at : ℕ) → at + widths ws ≤ e → numbers ws s at ≡ numbers ws t at
   unfolding numbers widths
@@ -63,17 +28,9 @@ module _ (e : ℕ) (s t : List ℕ) (a : Agree e s t) where
   numbers-agree (w ∷ ws) at h =
       ap₂ (λ (x : ℕ) (l : List ℕ). x ∷ l) (number-agree w at (omega arith)) (numbers-agree ws (at + octetCount w) (omega arith))
 
--- ---- what reading hangs on
-
 -- not Short
 pub Whole : {A : Type 0} → Res A → Type 0
 Whole r = (p : ℕ) → r ≡ no (Short p) → ⊥
-
--- reading s from a place looks so far, and lists that agree with s so far are read alike
-pub record Hangs {A : Type 0} (look : ℕ) (read : List ℕ → Res A) (s : List ℕ) (at : ℕ) : Type 0 where
-  pub ahead : at ≤ look
-  pub inside : look ≤ length s
-  pub same : (t : List ℕ) → Agree look s t → read t ≡ read s
 
 -- ---- a field of n octets, whatever it is: its test, and the numbers known behind it, are of those octets alone
 
