@@ -73,16 +73,19 @@ module _ {A : Type 0} (s : List ℕ) where
         same = λ t a. e t (a .right) ∙ h .same t a ∙ sym (e s (a .left));
       }
 
+  pub hangs-from : (read : List ℕ → A) (look at from : ℕ) → from ≤ look → Hangs look read s at → Hangs look read s from
+  hangs-from read look at from l h = record { ahead = l; inside = h .inside; same = h .same }
+
   -- first a part that hangs on the octets up to d, then the rest, by what the part gave of s
-  pub hangs-then : {B : Type 0} (part : List ℕ → B) (on : B → List ℕ → A) (d look at : ℕ) → Hangs d part s at → Hangs look (on (part s)) s d
+  pub hangs-then : {B : Type 0} (part : List ℕ → B) (on : B → List ℕ → A) (b : B) (d look at : ℕ) → part s ≡ b → Hangs d part s at → Hangs look (on b) s d
       → Hangs look (λ (t : List ℕ). on (part t) t) s at
-  hangs-then part on d look at p h =
+  hangs-then part on b d look at e p h =
       let pa = p .ahead in
       let ha = h .ahead in
       record {
         ahead = omega arith;
         inside = h .inside;
-        same = λ t a. ap (λ b. on b t) (p .same t (agree-less d look s t ha a)) ∙ h .same t a;
+        same = λ t a. ap (λ c. on c t) (p .same t (agree-less d look s t ha a) ∙ e) ∙ h .same t a ∙ ap (λ c. on c s) (sym e);
       }
 
   -- a test that so many octets are there, where they are
