@@ -24,7 +24,10 @@ use Rattle.sheet_rules.proofs.Backward.{listed-nonzero}
 use Rattle.sheet_rules.proofs.Fold.{step-next, run-append, begun-unbroken}
 use Rattle.jpeg_rules.specs.Grammar.{Layer}
 use Rattle.page_rules.proofs.There.{length-start}
-use Rattle.page_rules.specs.Kinds.{Head, hasBack, hasMask, hasFore, Colour, Fields, Coded, coded, uncoded, imageRecord, maskRecord}
+use Rattle.page_rules.specs.declared.Head.{Head}
+use Rattle.page_rules.specs.declared.Coded.{Coded}
+use Rattle.page_rules.specs.declared.Coded.the-variants.{There, Absent}
+use Rattle.page_rules.specs.Kinds.{hasBack, hasMask, hasFore, Colour, Fields, imageRecord, maskRecord}
 use Rattle.page_rules.specs.Grammar.{startOf, GoodHead, MaskCoder, TypeOf, colourOf, headOf, GoodFields, Image, there, absent, recordsOf, Stripe, Stripes, last, next, Page}
 
 -- ---- an image layer's record

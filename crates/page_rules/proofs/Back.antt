@@ -25,7 +25,10 @@ use Rattle.jpeg_rules.specs.declared.Walk.the-variants.{Ends, Refused}
 use Rattle.jpeg_rules.specs.Marker.{within}
 use Rattle.jpeg_rules.specs.Walk.{walkOf}
 use Rattle.jpeg_rules.proofs.Back.{Walked, walk-layer}
-use Rattle.page_rules.specs.Kinds.{Head, hasBack, hasMask, hasFore, Fields, Coded, coded, uncoded}
+use Rattle.page_rules.specs.declared.Head.{Head}
+use Rattle.page_rules.specs.declared.Coded.{Coded}
+use Rattle.page_rules.specs.declared.Coded.the-variants.{There, Absent}
+use Rattle.page_rules.specs.Kinds.{hasBack, hasMask, hasFore, Fields}
 use Rattle.page_rules.specs.Grammar.{startOf, GoodHead, optionalOf, Optionals, no-more, one-more, headOf, Widths, GoodFields, Image, there, absent, recordsOf, Stripe, Stripes, last, next, Page}
 use Rattle.page_rules.specs.Reading.{startRows, headFrom, identOk, segmentRows, stripeRows, fieldsFrom, spanOf, onWalk, walked, layersOf, stripeFrom, bodyFrom, zerosOf, endRows, pageOf}
 use Rattle.page_rules.proofs.Tables.{startNumbers, segmentNumbers, segmentOf, stripeNumbers, fieldsOf, head-is}

@@ -12,7 +12,7 @@ use Rattle.answers.specs.declared.Answer.the-variants.{Short, BadLength, BadStr
 use Rattle.field_rules.specs.Field.{Res, ok, no, bind, fields}
 use Rattle.field_rules.proofs.Refused.{fields-end}
 use Rattle.sheet_rules.specs.declared.Record.{Record}
-use Rattle.page_rules.specs.Kinds.{Head}
+use Rattle.page_rules.specs.declared.Head.{Head}
 use Rattle.page_rules.specs.Reading.{segmentRows, stripeRows, fieldsFrom, spanOf, layersOf, stripeFrom, bodyFrom}
 use Rattle.page_rules.proofs.Layers.{span-back, layers-back}
 use Rattle.page_rules.proofs.Refused.{segment-size}

@@ -10,7 +10,8 @@ use Rattle.field_rules.specs.Field.{fields}
 use Rattle.jpeg_rules.specs.Marker.{classOf, markerOf}
 use Rattle.jpeg_rules.specs.Walk.{segOf, scanOf, tagOf, frameBodyOf, frameOf, scanStepOf, segmentOf, endOf, turnOf, walkOf}
 use Rattle.jpeg_rules.proofs.Examples as J
-use Rattle.page_rules.specs.Kinds.{Head, typeOk, maskCoder, imageCoder, Colour, Fields, imageRecord, maskRecord}
+use Rattle.page_rules.specs.declared.Head.{Head}
+use Rattle.page_rules.specs.Kinds.{typeOk, maskCoder, imageCoder, Colour, Fields, imageRecord, maskRecord}
 use Rattle.page_rules.specs.Grammar.{startOf, optionalOf, colourOf, headOf}
 use Rattle.page_rules.proofs.Many.{head, stripe, coded-mask}
 use Rattle.page_rules.specs.Reading.{startRows, segmentRows, stripeRows, spanOf, walked, layersOf, stripeFrom, bodyFrom, zerosOf, endRows, pageOf, roomOf, readOf}

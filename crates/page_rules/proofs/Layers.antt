@@ -25,7 +25,10 @@ use Rattle.jpeg_rules.specs.declared.Walk.the-variants.{Ends, Refused}
 use Rattle.jpeg_rules.specs.Marker.{within}
 use Rattle.jpeg_rules.specs.Walk.{walkOf}
 use Rattle.jpeg_rules.proofs.Back.{Walked, walk-layer}
-use Rattle.page_rules.specs.Kinds.{Head, hasBack, hasMask, hasFore, Fields, Coded, coded, uncoded}
+use Rattle.page_rules.specs.declared.Head.{Head}
+use Rattle.page_rules.specs.declared.Coded.{Coded}
+use Rattle.page_rules.specs.declared.Coded.the-variants.{There, Absent}
+use Rattle.page_rules.specs.Kinds.{hasBack, hasMask, hasFore, Fields}
 use Rattle.page_rules.specs.Grammar.{startOf, GoodHead, optionalOf, Optionals, no-more, one-more, headOf, Widths, GoodFields, Image, there, absent, recordsOf, Stripe, Stripes, last, next, Page}
 use Rattle.page_rules.specs.Reading.{startRows, headFrom, identOk, segmentRows, stripeRows, fieldsFrom, spanOf, onWalk, walked, layersOf, stripeFrom, bodyFrom, zerosOf, endRows, pageOf}
 
@@ -55,14 +58,14 @@ unfolding onWalk
 walk-back s o main at c e (Ends n w h r) q z =
     let k = walk-layer s o at main n w h r q in
     let a : n ≡ e = cc in
-    let b : coded at (n - at) w h r ≡ c = cc in
+    let b : There at (n - at) w h r ≡ c = cc in
     let af = k .after in
     let i = k .inside in
     let l : List ℕ = take (n - at) (drop at s) in
     let len : length l ≡ n - at = length-take-le (n - at) (drop at s) (let u = length-drop at s in omega arith) in
     record {
       octets = l;
-      image = subst (Image main at true l) (ap (λ (j : ℕ). coded at j w h r) len ∙ b) (there (k .layer));
+      image = subst (Image main at true l) (ap (λ (j : ℕ). There at j w h r) len ∙ b) (there (k .layer));
       split = k .split ∙ ap (λ (j : ℕ). l ++ drop j s) a;
       ends = omega arith;
       inside = omega arith;
@@ -73,7 +76,7 @@ pub walked-back : (s : List ℕ) → Octets s → (main at : ℕ) (b : Bool) (c 
 unfolding walked
 walked-back s o main at true c e h q = walk-back s o main at c e (walkOf s at main) refl q
 walked-back s o main at false c e h q =
-    let a : uncoded ≡ c = cc in
+    let a : Absent ≡ c = cc in
     let z : at ≡ e = cc in
     record {
       octets = [];

@@ -9,7 +9,10 @@ use mathlib.Core.List.{List, [], _∷_, _++_}
 use lib.ListN.{length, length-append, replicate}
 use lib.Dec.{lit<, lit≤}
 use Rattle.sheet_rules.specs.declared.Record.{Record}
-use Rattle.page_rules.specs.Kinds.{Head, hasBack, hasMask, hasFore, Colour, Fields, Coded, coded, uncoded}
+use Rattle.page_rules.specs.declared.Head.{Head}
+use Rattle.page_rules.specs.declared.Coded.{Coded}
+use Rattle.page_rules.specs.declared.Coded.the-variants.{There, Absent}
+use Rattle.page_rules.specs.Kinds.{hasBack, hasMask, hasFore, Colour, Fields}
 use Rattle.page_rules.specs.Grammar.{startOf, GoodHead, no-more, headOf, Widths, GoodFields, Image, there, absent, recordsOf, Stripe, Stripes, last, next, Page}
 
 -- four by two at 200: only a mask, by coder 4, of five octets; white and black around it
@@ -39,15 +42,15 @@ octets = headOf stripe ++ (coded-mask ++ ([] ++ []))
 good-head : GoodHead head
 good-head = record { mask = inr (inr (inr (inl refl))); image = inl refl; main = inr (inl refl); width = (lit≤ tt, lit≤ tt) }
 
-one : (k left at : ℕ) → 2 ≤ left → Stripe head k left at octets 2 (recordsOf head k stripe (at + 39) uncoded uncoded)
+one : (k left at : ℕ) → 2 ≤ left → Stripe head k left at octets 2 (recordsOf head k stripe (at + 39) Absent Absent)
 one k left at h =
     record {
       fields = stripe;
       mask = coded-mask;
       back = [];
       fore = [];
-      backIs = uncoded;
-      foreIs = uncoded;
+      backIs = Absent;
+      foreIs = Absent;
       octets = refl;
       widths =
           record {
@@ -88,7 +91,7 @@ many (suc n) k left at p m h =
     let few : k < 64 = omega arith in
     record {
       stripes = octets ++ y .stripes;
-      records = recordsOf head k stripe (at + 39) uncoded uncoded ++ y .records;
+      records = recordsOf head k stripe (at + 39) Absent Absent ++ y .records;
       striped = next 2 few (one k left at (omega arith)) (y .striped);
       count = omega arith;
     }

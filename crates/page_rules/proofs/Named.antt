@@ -13,7 +13,10 @@ use Rattle.octets.proofs.Laws.{drop-next}
 use Rattle.sheet_rules.specs.declared.Record.{Record}
 use Rattle.sheet_rules.specs.Sentences.{Among, Coded as CodedRecord}
 use Rattle.jpeg_rules.specs.Grammar.{Layer}
-use Rattle.page_rules.specs.Kinds.{Head, hasBack, hasMask, hasFore, Colour, Fields, Coded, coded, uncoded, imageRecord, maskRecord}
+use Rattle.page_rules.specs.declared.Head.{Head}
+use Rattle.page_rules.specs.declared.Coded.{Coded}
+use Rattle.page_rules.specs.declared.Coded.the-variants.{There, Absent}
+use Rattle.page_rules.specs.Kinds.{hasBack, hasMask, hasFore, Colour, Fields, imageRecord, maskRecord}
 use Rattle.page_rules.specs.Grammar.{startOf, headOf, Image, there, absent, Stripe, Stripes, last, next, Page}
 use Rattle.page_rules.proofs.There.{length-start}
 use Rattle.page_rules.proofs.Accepted.{length-head}

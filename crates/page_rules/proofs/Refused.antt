@@ -22,7 +22,10 @@ use Rattle.jpeg_rules.specs.declared.Walk.{Walk}
 use Rattle.jpeg_rules.specs.declared.Walk.the-variants.{Ends, Refused}
 use Rattle.jpeg_rules.specs.Walk.{walkOf}
 use Rattle.jpeg_rules.proofs.Within.{walk-within, placeOf as placeOfFault}
-use Rattle.page_rules.specs.Kinds.{Head, hasBack, hasFore, Fields, Coded, coded, uncoded}
+use Rattle.page_rules.specs.declared.Head.{Head}
+use Rattle.page_rules.specs.declared.Coded.{Coded}
+use Rattle.page_rules.specs.declared.Coded.the-variants.{There, Absent}
+use Rattle.page_rules.specs.Kinds.{hasBack, hasFore, Fields}
 use Rattle.page_rules.specs.Grammar.{recordsOf}
 use Rattle.page_rules.proofs.Back.{body-back}
 use Rattle.page_rules.proofs.Layers.{span-back, walked-back, layers-back}

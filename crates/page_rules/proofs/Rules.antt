@@ -10,7 +10,8 @@ use lib.Dec.{eqb, leb}
 use borrow.Author.Tests.{eqb-true}
 use Rattle.cases.proofs.Says.{Says, says-eq, says-le, says-true, says-and, says-or, says-not, says-as, says-false}
 use Rattle.jpeg_rules.specs.Marker.{among}
-use Rattle.page_rules.specs.Kinds.{Head, maskCoder, imageCoder, hasBack, hasMask, hasFore, typeOk, offsetOk}
+use Rattle.page_rules.specs.declared.Head.{Head}
+use Rattle.page_rules.specs.Kinds.{maskCoder, imageCoder, hasBack, hasMask, hasFore, typeOk, offsetOk}
 use Rattle.page_rules.specs.Grammar.{MaskCoder, ImageCoder, TypeOf}
 use Rattle.page_rules.specs.Reading.{maskLengthOk}
 

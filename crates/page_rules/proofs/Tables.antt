@@ -17,7 +17,8 @@ use Rattle.answers.specs.declared.Answer.{Answer}
 use Rattle.field_rules.specs.Field.{Width, one, two, four, bound, put, Sized, Row, mark, val, again}
 use Rattle.field_rules.specs.Stands.{Stands, at-end, marked, valued, held}
 use Rattle.jpeg_rules.specs.Marker.{within, among}
-use Rattle.page_rules.specs.Kinds.{Head, maskCoder, imageCoder, hasBack, hasMask, hasFore, typeOk, Colour, Fields, offsetOk}
+use Rattle.page_rules.specs.declared.Head.{Head}
+use Rattle.page_rules.specs.Kinds.{maskCoder, imageCoder, hasBack, hasMask, hasFore, typeOk, Colour, Fields, offsetOk}
 use Rattle.page_rules.specs.Grammar.{startOf, GoodHead, colourOf, headOf, Widths, GoodFields}
 use Rattle.page_rules.specs.Reading.{startRows, identOk, segmentRows, stripeRows}
 use Rattle.page_rules.proofs.Rules.{says-mask, says-image, says-type, says-offset, says-mask-length, mask-small, image-small}

@@ -25,7 +25,10 @@ use Rattle.jpeg_rules.specs.declared.Walk.the-variants.{Ends, Refused}
 use Rattle.jpeg_rules.specs.Grammar.{Layer}
 use Rattle.jpeg_rules.specs.Walk.{walkOf}
 use Rattle.jpeg_rules.proofs.There.{layer-walk}
-use Rattle.page_rules.specs.Kinds.{Head, hasBack, hasMask, hasFore, Colour, Fields, Coded, coded, uncoded}
+use Rattle.page_rules.specs.declared.Head.{Head}
+use Rattle.page_rules.specs.declared.Coded.{Coded}
+use Rattle.page_rules.specs.declared.Coded.the-variants.{There, Absent}
+use Rattle.page_rules.specs.Kinds.{hasBack, hasMask, hasFore, Colour, Fields}
 use Rattle.page_rules.specs.Grammar.{startOf, GoodHead, optionalOf, Optionals, no-more, one-more, colourOf, headOf, Image, there, absent, recordsOf, Stripe, Stripes, last, next, Page}
 use Rattle.page_rules.specs.Reading.{startRows, headFrom, identOk, segmentRows, stripeRows, fieldsFrom, spanOf, onWalk, walked, layersOf, stripeFrom, bodyFrom, zerosOf, endRows, pageOf}
 use Rattle.page_rules.proofs.Tables.{startNumbers, start-stands, segmentNumbers, segmentOf, segment-stands, stripeNumbers, fieldsOf, head-is, stripe-stands}
@@ -41,8 +44,8 @@ unfolding walked
 walked-there s main at b l r c (there {w = w} {h = h} {r = res} y) e =
     let q = layer-walk s at main l r w h res y e in
     let z : at + length l - at ≡ length l = omega arith in
-    ap (λ (x : Walk). onWalk x at) q ∙ ap (λ (n : ℕ). ok (coded at n w h res) (at + length l)) z
-walked-there s main at b l r c absent e = let z : at ≡ at + 0 = omega arith in ap (ok uncoded) z
+    ap (λ (x : Walk). onWalk x at) q ∙ ap (λ (n : ℕ). ok (There at n w h res) (at + length l)) z
+walked-there s main at b l r c absent e = let z : at ≡ at + 0 = omega arith in ap (ok Absent) z
 
 module _ (hd : Head) (k : ℕ) (f : Fields) (s : List ℕ) (at : ℕ) (mask back fore r : List ℕ) (b c : Coded) where
   layers-there : drop at s ≡ mask ++ (back ++ (fore ++ r)) → at ≤ length s → length mask ≡ f .maskLength

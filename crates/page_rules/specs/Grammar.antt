@@ -17,7 +17,10 @@ use Rattle.octets.specs.Octets.{octets16, octets32}
 use Rattle.sheet_rules.specs.declared.Record.{Record}
 use Rattle.sheet_rules.specs.Sentences.{Listed}
 use Rattle.jpeg_rules.specs.Grammar.{Layer}
-use Rattle.page_rules.specs.Kinds.{Head, hasBack, hasMask, hasFore, Colour, Fields, Coded, coded, uncoded, imageRecord, maskRecord}
+use Rattle.page_rules.specs.declared.Head.{Head}
+use Rattle.page_rules.specs.declared.Coded.{Coded}
+use Rattle.page_rules.specs.declared.Coded.the-variants.{There, Absent}
+use Rattle.page_rules.specs.Kinds.{hasBack, hasMask, hasFore, Colour, Fields, imageRecord, maskRecord}
 
 -- ---- the start of page (9.2.1): length 16, version 00, mode 01; then the termination number (9.2.3)
 
@@ -83,8 +86,8 @@ pub record GoodFields (hd : Head) (left : ℕ) (f : Fields) : Type 0 where
 
 -- an image layer that the type names is a JPEG layer at a place of the page; one that it does not name has no octets
 pub data Image (main at : ℕ) : Bool → List ℕ → Coded → Type 0 where
-  there : {l : List ℕ} {w h r : ℕ} → Layer main l w h r → Image main at true l (coded at (length l) w h r)
-  absent : Image main at false [] uncoded
+  there : {l : List ℕ} {w h r : ℕ} → Layer main l w h r → Image main at true l (There at (length l) w h r)
+  absent : Image main at false [] Absent
 
 -- the records of a stripe: the mask's data stands behind the head, then the background's, then the foreground's
 abbrev pub recordsOf : Head → ℕ → Fields → ℕ → Coded → Coded → List Record

@@ -10,12 +10,9 @@ use mathlib.Core.List.{List, [], _∷_}
 use lib.Dec.{eqb, leb}
 use Rattle.jpeg_rules.specs.Marker.{among}
 use Rattle.sheet_rules.specs.declared.Record.{Record}
-
-pub record Head : Type 0 where
-  pub mask : ℕ
-  pub image : ℕ
-  pub main : ℕ
-  pub width : ℕ
+use Rattle.page_rules.specs.declared.Head.{Head}
+use Rattle.page_rules.specs.declared.Coded.{Coded}
+use Rattle.page_rules.specs.declared.Coded.the-variants.{There, Absent}
 
 -- mask coder octet 0, 1, 2, 4 or 8; image coder octet 0 or 1
 unfoldable pub maskCoder : ℕ → Bool
@@ -64,13 +61,9 @@ offsetOk present x y = not present || leb x 65535 && leb y 65535
 
 -- ---- records
 
-pub data Coded : Type 0 where
-  coded : (start size width height res : ℕ) → Coded
-  uncoded : Coded
-
 -- an image layer: its own size and resolution where it is coded, and else nothing but its base colour
 unfoldable pub imageRecord : Head → ℕ → ℕ → Colour → ℕ → ℕ → Coded → Record
-imageRecord hd k l base x y (coded start size width height res) =
+imageRecord hd k l base x y (There start size width height res) =
     record {
       stripe = k;
       layer = l;
@@ -88,7 +81,7 @@ imageRecord hd k l base x y (coded start size width height res) =
       len = size;
       octets26 = 0;
     }
-imageRecord hd k l base x y uncoded =
+imageRecord hd k l base x y Absent =
     record {
       stripe = k;
       layer = l;

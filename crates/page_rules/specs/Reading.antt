@@ -26,7 +26,10 @@ use Rattle.jpeg_rules.specs.declared.Walk.{Walk}
 use Rattle.jpeg_rules.specs.declared.Walk.the-variants.{Ends, Refused}
 use Rattle.jpeg_rules.specs.Marker.{within}
 use Rattle.jpeg_rules.specs.Walk.{walkOf}
-use Rattle.page_rules.specs.Kinds.{Head, maskCoder, imageCoder, hasBack, hasMask, hasFore, typeOk, Colour, Fields, offsetOk, Coded, coded, uncoded}
+use Rattle.page_rules.specs.declared.Head.{Head}
+use Rattle.page_rules.specs.declared.Coded.{Coded}
+use Rattle.page_rules.specs.declared.Coded.the-variants.{There, Absent}
+use Rattle.page_rules.specs.Kinds.{maskCoder, imageCoder, hasBack, hasMask, hasFore, typeOk, Colour, Fields, offsetOk}
 use Rattle.page_rules.specs.Grammar.{recordsOf}
 
 -- a rule on a field of one number
@@ -118,12 +121,12 @@ faultOf (F.BadLayer p) = BadLayer p
 
 unfoldable pub onWalk : Walk → ℕ → Res Coded
 unfolding faultOf
-onWalk (Ends next w h r) at = ok (coded at (next - at) w h r) next
+onWalk (Ends next w h r) at = ok (There at (next - at) w h r) next
 onWalk (Refused f) at = no (faultOf f)
 
 unfoldable pub walked : List ℕ → ℕ → Bool → ℕ → Res Coded
 unfolding onWalk
-walked s main present at = cond present (onWalk (walkOf s at main) at) (ok uncoded at)
+walked s main present at = cond present (onWalk (walkOf s at main) at) (ok Absent at)
 
 -- ---- a stripe
 
