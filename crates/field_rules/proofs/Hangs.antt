@@ -29,7 +29,7 @@ module _ (e : ℕ) (s t : List ℕ) (a : Agree e s t) where
       ap₂ (λ (x : ℕ) (l : List ℕ). x ∷ l) (number-agree w at (omega arith)) (numbers-agree ws (at + octetCount w) (omega arith))
 
 -- not Short
-pub Whole : {A : Type 0} → Res A → Type 0
+abbrev pub Whole : {A : Type 0} → Res A → Type 0
 Whole r = (p : ℕ) → r ≡ no (Short p) → ⊥
 
 -- ---- a field of n octets, whatever it is: its test, and the numbers known behind it, are of those octets alone
@@ -44,7 +44,6 @@ module _ (n at : ℕ) (test : List ℕ → Bool) (known : List ℕ → List ℕ)
   field-hangs : ((e : ℕ) (s t : List ℕ) → Agree e s t → at + n ≤ e → (test t ≡ test s) × (known t ≡ known s)) → (s : List ℕ)
       → (at + n ≤ length s → Whole (fields rows (known s) s (at + n)) → Hangs (reach rows (known s) s (at + n)) (λ (t : List ℕ). fields rows (known s) t (at + n)) s (at + n))
       → Whole (readField s) → Hangs (lookField s) readField s at
-  unfolding Whole
   field-hangs alone s rest w =
       ⊎-elim (λ (l : ltb (length s) (at + n) ≡ true). absurd (w at (simp l)))
       (λ (l : ltb (length s) (at + n) ≡ false).
@@ -82,7 +81,7 @@ module _ (n at : ℕ) (test : List ℕ → Bool) (known : List ℕ → List ℕ)
 
 pub fields-hang : (rows : List Row) (before s : List ℕ) (at : ℕ) → at ≤ length s → Whole (fields rows before s at)
     → Hangs (reach rows before s at) (λ (t : List ℕ). fields rows before t at) s at
-unfolding fields reach Whole
+unfolding fields reach
 fields-hang [] before s at h w = record { ahead = omega arith; inside = h; same = λ t a. refl }
 fields-hang (mark m refusal ∷ rows) before s at h w =
     field-hangs (length m) at (λ (t : List ℕ). standsAt t at m) (λ (t : List ℕ). before) refusal rows

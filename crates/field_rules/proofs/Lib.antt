@@ -1,3 +1,4 @@
 pub mod Laws
 pub mod Hangs
 pub mod Refused
+pub mod Looks
