@@ -36,7 +36,6 @@ pub near : (p n : ℕ) (a : Answer) → placeOf a ≡ p → 1 ≤ n → n ≤ be
 near p n a e l g = record { past = omega arith; most = omega arith }
 
 infixr 4 _&_
-
 _&_ : {A B : Type 0} → A → B → A × B
 a & b = (a, b)
 
