@@ -28,7 +28,7 @@ use Rattle.page_rules.specs.Grammar.{recordsOf}
 use Rattle.page_rules.specs.Reading.{startRows, headFrom, segmentRows, stripeRows, fieldsFrom, spanOf, walked, layersOf, stripeFrom, bodyFrom, zerosOf, endRows, pageOf}
 use Rattle.page_rules.specs.Look.{onward, layerLook, layersLook, stripeLook, bodyLook, zerosLook, pageLook, beyond}
 use Rattle.page_rules.proofs.Refused.{segment-size}
-use Rattle.page_rules.proofs.Looked.{Near, Looked, looked-ok, looked-no, looked-from, looked-as, looked-then, looked-fits, looked-bind, looked-span, looked-fields, looked-walked}
+use Rattle.page_rules.proofs.Looked.{Near, Looked, looked-ok, looked-no, looked-from, looked-as, looked-then, looked-if, looked-fits, looked-bind, looked-span, looked-fields, looked-walked}
 
 -- ---- the tables: each field is at most as wide as `beyond` says
 
@@ -108,32 +108,22 @@ module _ (s : List ℕ) (o : Octets s) (hd : Head) where
       → ((height : ℕ) (rs : List Record) (e : ℕ) → at + 8 ≤ e → e ≤ length s → Whole (go s height rs e) → Looked (look height rs e) (λ (t : List ℕ). go t height rs e) s e)
       → Whole (stripeFrom hd k left size s at (go s)) → Looked (stripeLook hd k left size s at look) (λ (t : List ℕ). stripeFrom hd k left size t at (go t)) s (at + 8)
   unfolding stripeFrom stripeLook placeOf beyond
-  stripe-looked k left size at go look h rest = by (eqb k 64) (eqb size 37)
-    where
-      by : (b c : Bool)
-          → Whole (cond b (no (BadStripe (at + 4))) (cond c
-          (bind (fields (stripeRows hd left) [] s (at + 8)) (λ (vs : List ℕ) (n : ℕ).
-          bind (layersOf hd k (fieldsFrom vs) s n) (λ (rs : List Record) (e : ℕ). go s (fieldsFrom vs .height) rs e)))
-          (no (BadLength (at + 2)))))
-          → Looked (cond b (at + 8) (cond c
-          (onward (fields (stripeRows hd left) [] s (at + 8)) (reach (stripeRows hd left) [] s (at + 8)) (λ (vs : List ℕ) (n : ℕ).
-          onward (layersOf hd k (fieldsFrom vs) s n) (layersLook hd (fieldsFrom vs) s n) (λ (rs : List Record) (e : ℕ). look (fieldsFrom vs .height) rs e)))
-          (at + 8)))
-          (λ (t : List ℕ). cond b (no (BadStripe (at + 4))) (cond c
-          (bind (fields (stripeRows hd left) [] t (at + 8)) (λ (vs : List ℕ) (n : ℕ).
-          bind (layersOf hd k (fieldsFrom vs) t n) (λ (rs : List Record) (e : ℕ). go t (fieldsFrom vs .height) rs e)))
-          (no (BadLength (at + 2))))) s (at + 8)
-      by true c w = looked-no s (BadStripe (at + 4)) (at + 8) (at + 8) (omega arith) h (record { past = let z : at + 4 < at + 8 = omega arith in z; most = let z : at + 8 ≤ at + 4 + 8 = omega arith in z })
-      by false false w = looked-no s (BadLength (at + 2)) (at + 8) (at + 8) (omega arith) h (record { past = let z : at + 2 < at + 8 = omega arith in z; most = let z : at + 8 ≤ at + 2 + 6 = omega arith in z })
-      by false true w =
-          looked-bind s (λ (t : List ℕ). fields (stripeRows hd left) [] t (at + 8))
-          (λ (vs : List ℕ) (n : ℕ) (t : List ℕ). bind (layersOf hd k (fieldsFrom vs) t n) (λ (rs : List Record) (e : ℕ). go t (fieldsFrom vs .height) rs e))
-          (reach (stripeRows hd left) [] s (at + 8)) _ (at + 8) (looked-fields s (stripeRows hd left) (at + 8) h (stripe-near (at + 8) hd left))
-          (λ vs n hn ni en.
-          looked-bind s (λ (t : List ℕ). layersOf hd k (fieldsFrom vs) t n) (λ (rs : List Record) (e : ℕ) (t : List ℕ). go t (fieldsFrom vs .height) rs e)
-          (layersLook hd (fieldsFrom vs) s n) _ n (layers-looked k (fieldsFrom vs) n) λ rs e he ie ee.
-          rest (fieldsFrom vs .height) rs e (omega arith) ie)
-          w
+  stripe-looked k left size at go look h rest =
+      looked-if s (eqb k 64) (λ (t : List ℕ). no (BadStripe (at + 4))) _ (at + 8) _ (at + 8)
+      (λ w.
+      looked-no s (BadStripe (at + 4)) (at + 8) (at + 8) (omega arith) h
+      (record { past = let z : at + 4 < at + 8 = omega arith in z; most = let z : at + 8 ≤ at + 4 + 8 = omega arith in z }))
+      (looked-if s (eqb size 37) _ (λ (t : List ℕ). no (BadLength (at + 2))) _ (at + 8) (at + 8)
+      (looked-bind s (λ (t : List ℕ). fields (stripeRows hd left) [] t (at + 8))
+      (λ (vs : List ℕ) (n : ℕ) (t : List ℕ). bind (layersOf hd k (fieldsFrom vs) t n) (λ (rs : List Record) (e : ℕ). go t (fieldsFrom vs .height) rs e))
+      (reach (stripeRows hd left) [] s (at + 8)) _ (at + 8) (looked-fields s (stripeRows hd left) (at + 8) h (stripe-near (at + 8) hd left))
+      λ vs n hn ni en.
+      looked-bind s (λ (t : List ℕ). layersOf hd k (fieldsFrom vs) t n) (λ (rs : List Record) (e : ℕ) (t : List ℕ). go t (fieldsFrom vs .height) rs e)
+      (layersLook hd (fieldsFrom vs) s n) _ n (layers-looked k (fieldsFrom vs) n) λ rs e he ie ee.
+      rest (fieldsFrom vs .height) rs e (omega arith) ie)
+      (λ w.
+      looked-no s (BadLength (at + 2)) (at + 8) (at + 8) (omega arith) h
+      (record { past = let z : at + 2 < at + 8 = omega arith in z; most = let z : at + 8 ≤ at + 2 + 6 = omega arith in z })))
 
   -- ---- the body, whatever its count: one for each list that is enough for it
 

@@ -14,3 +14,4 @@ pub mod Named
 pub mod Theorems
 pub mod Many
 pub mod Examples
+pub mod LookExamples

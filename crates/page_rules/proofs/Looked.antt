@@ -75,6 +75,12 @@ module _ (s : List ℕ) where
         near = λ a z. k .near a (sym q ∙ z);
       }
 
+  -- a test of what is known already
+  pub looked-if : {A : Type 0} (b : Bool) (x y : List ℕ → Res A) (l m at : ℕ) → (Whole (x s) → Looked l x s at) → (Whole (y s) → Looked m y s at)
+      → Whole (cond b (x s) (y s)) → Looked (cond b l m) (λ (t : List ℕ). cond b (x t) (y t)) s at
+  looked-if true x y l m at f g = f
+  looked-if false x y l m at f g = g
+
   -- a test that so many octets are there, where they are
   pub looked-fits : {A : Type 0} (short : Answer) (rest : List ℕ → Res A) (d look at : ℕ) → at ≤ d → Looked look rest s d
       → Looked look (λ (t : List ℕ). cond (ltb (length t) d) (no short) (rest t)) s at
