@@ -1,7 +1,7 @@
--- A turn that goes on is two octets further at least, and within the list: laws of the definitions alone.
+-- A turn that goes on or ends is two octets further at least, and within the list, and so is a walk: laws of the definitions alone.
 -- Assumes nothing.
 use Prim.Native.Nat.{ℕ, zero, suc, _+_, _-_, _≤_, _<_}
-use mathlib.Core.Bool.{Bool, true, false, cond}
+use mathlib.Core.Bool.{Bool, true, false, _&&_, cond}
 use mathlib.Core.List.{List}
 use mathlib.Core.Path.{_≡_, refl, sym, _∙_}
 use native.Mathlib.Nat.{le-refl}
@@ -24,8 +24,10 @@ use Rattle.jpeg_rules.specs.declared.Tag.{Tag}
 use Rattle.jpeg_rules.specs.declared.Tag.the-variants.{Gives, Plain}
 use Rattle.jpeg_rules.specs.declared.Turn.{Turn}
 use Rattle.jpeg_rules.specs.declared.Turn.the-variants.{Go, Stop}
+use Rattle.jpeg_rules.specs.declared.Walk.{Walk}
+use Rattle.jpeg_rules.specs.declared.Walk.the-variants.{Ends, Refused}
 use Rattle.jpeg_rules.specs.Marker.{classOf, markerOf}
-use Rattle.jpeg_rules.specs.Walk.{segOf, stopsOf, scanFrom, scanOf, resolves, tagOf, passed, moved, refused, onBody, onFound, onTag, onMarker, frameBodyOf, frameOf, scanStepOf, segmentOf, endOf, markOf, turnOf}
+use Rattle.jpeg_rules.specs.Walk.{segOf, stopsOf, scanFrom, scanOf, resolves, tagOf, passed, moved, refused, onBody, onFound, onTag, onMarker, frameBodyOf, frameOf, scanStepOf, segmentOf, endOf, markOf, turnOf, onTurn, walkFrom, begun, walkOf}
 use Rattle.jpeg.specs.Room.{Room}
 
 -- a choice, by what its test says
@@ -91,7 +93,8 @@ past-scan s i = past (length s - (i + 1)) s i (le-refl _)
 
 abbrev pub Ahead : List ℕ → Reach → Turn → Type 0
 Ahead s st (Go t) = (st .at + 2 ≤ t .at) × (t .at ≤ length s)
-Ahead s st (Stop w) = Unit {0}
+Ahead s st (Stop (Ends e w h r)) = (st .at + 2 ≤ e) × (e ≤ length s)
+Ahead s st (Stop (Refused f)) = Unit {0}
 
 ahead-body : (s : List ℕ) (st : Reach) (n least : ℕ) (g : Seg) (f : ℕ → Turn)
     → Roomy s n least g → ((next : ℕ) → Room s n least next → Ahead s st (f next)) → Ahead s st (onBody g f)
@@ -132,7 +135,7 @@ module _ (s : List ℕ) (st : Reach) (n : ℕ) (l : st .at + 2 ≤ n) (m : n ≤
 
   ahead-end : Ahead s st (endOf st n)
   unfolding endOf
-  ahead-end = cond-with (Ahead s st) (st .scanned) (λ _. tt) (λ _. tt)
+  ahead-end = cond-with (Ahead s st) (st .scanned) (λ _. (l, m)) (λ _. tt)
 
   ahead-mark : (main c : ℕ) (k : Class) → Ahead s st (markOf s main st c n k)
   unfolding markOf
@@ -152,3 +155,32 @@ ahead-marker s main st Cut h = tt
 pub ahead : (s : List ℕ) (main : ℕ) (st : Reach) → Ahead s st (turnOf s main st)
 unfolding turnOf
 ahead s main st = ahead-marker s main st (markerOf s (st .at)) (marked s (st .at))
+
+-- ---- the walk
+
+abbrev pub Reaches : List ℕ → ℕ → Walk → Type 0
+Reaches s at (Ends e w h r) = (at ≤ e) × (e ≤ length s)
+Reaches s at (Refused f) = Unit {0}
+
+further : (s : List ℕ) (i j : ℕ) → i ≤ j → (w : Walk) → Reaches s j w → Reaches s i w
+further s i j h (Ends e w x r) k = omega arith
+further s i j h (Refused f) k = tt
+
+reaches : (k : ℕ) (s : List ℕ) (main : ℕ) (st : Reach) → Reaches s (st .at) (walkFrom k s main st)
+unfolding walkFrom
+reaches zero s main st = tt
+reaches (suc k) s main st = by (turnOf s main st) (ahead s main st) (λ u. reaches k s main u)
+  where
+    by : (t : Turn) → Ahead s st t → ((u : Reach) → Reaches s (u .at) (walkFrom k s main u)) → Reaches s (st .at) (onTurn t (λ (u : Reach). walkFrom k s main u))
+    by (Go t) h more = further s (st .at) (t .at) (omega arith) (walkFrom k s main t) (more t)
+    by (Stop (Ends e w x r)) h more = omega arith
+    by (Stop (Refused f)) h more = tt
+
+-- a walk that ends does so within the list, and not before its start
+pub walk-inside : (s : List ℕ) (start main : ℕ) → Reaches s start (walkOf s start main)
+unfolding walkOf
+walk-inside s start main =
+    cond-with (Reaches s start) (ltb (length s) (start + 2)) (λ _. tt) λ _.
+    cond-with (Reaches s start) (eqb (getD s start 0) 0xFF && eqb (getD s (start + 1) 0) 0xD8)
+    (λ _. further s start (start + 2) (omega arith) (walkFrom (length s) s main (begun (start + 2))) (reaches (length s) s main (begun (start + 2))))
+    (λ _. tt)

@@ -11,8 +11,8 @@ pub struct Head {
 // Where a layer's coded data stands, and the size and resolution that it says of itself; or no coded data.
 pub enum Coded {
     There {
-        start: usize,
-        size: usize,
+        start: u32,
+        size: u32,
         width: u16,
         height: u16,
         res: u16,

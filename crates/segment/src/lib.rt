@@ -71,7 +71,7 @@ pub fn four(s: &[u8], at: u32) -> u32
 }
 
 // The place is widened, so that its sum with the size cannot wrap.
-fn fits(s: &[u8], at: u32, n: u32) -> bool
+pub fn fits(s: &[u8], at: u32, n: u32) -> bool
     ensures { λ r. ⌜ r ≡ leb (at + n) (length (now (s .entry))) ⌝ }
 {
     (at as u64) + (n as u64) <= s.len() as u64
