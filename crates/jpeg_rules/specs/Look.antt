@@ -1,5 +1,5 @@
--- How far the walk over a JPEG layer looked, to be read beside Walk.antt: a refusal other than Short is decided by the octets up to there (01,
--- "The page, Mode 1": inside a JPEG body, by the octets up to the end of that body).
+-- How far the walk over a JPEG layer looked, to be read beside Walk.antt. A refusal other than Short is decided by the octets up to there; inside
+-- a body by the octets up to the body's end, since a body that passes the end is Short, unjudged (01, "Numbers that a call returns").
 --
 --   bodyLook g n go         a segment whose length stands at n: to the end of the length where that is at fault, else what `go` says of the body
 --   markLook s st n c       a marker of a class, behind which n stands
@@ -9,7 +9,7 @@
 --
 -- Where the walk is Short, that hangs on the end of the list as well, and these say nothing.
 use Prim.Native.Nat.{ℕ, zero, suc, _+_}
-use mathlib.Core.Bool.{Bool, true, false, _&&_, cond}
+use mathlib.Core.Bool.{_&&_, cond}
 use mathlib.Core.List.{List}
 use lib.ListN.{length, getD}
 use lib.Dec.{eqb}

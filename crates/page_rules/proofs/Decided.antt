@@ -1,7 +1,7 @@
 -- A refusal of a page is decided by the octets up to where reading looked: a page that agrees so far with one that is refused, and not Short,
 -- gets the same refusal.
 -- Assumes nothing.
-use Prim.Native.Nat.{ℕ, zero, suc, _+_, _-_, _≤_, _<_}
+use Prim.Native.Nat.{ℕ, suc, _+_, _-_, _≤_, _<_}
 use native.Mathlib.Omega.{arith}
 use mathlib.Core.Path.{_≡_, refl, sym, ap, subst, _∙_}
 use mathlib.Core.Logic.{_⊎_, ⊎-elim}
@@ -11,7 +11,7 @@ use lib.ListN.{length, getD, drop, length-drop}
 use lib.Seq.{getD-drop}
 use lib.Dec.{eqb, lit≤}
 use Rattle.octets.specs.Octets.{Octets}
-use Rattle.octets.proofs.Agree.{Agree, octet-agree}
+use Rattle.octets.proofs.Agree.{octet-agree}
 use Rattle.cases.proofs.Cases.{bool-else, clash}
 use Rattle.answers.specs.declared.Answer.{Answer}
 use Rattle.answers.specs.declared.Answer.the-variants.{Short, Trailing}

@@ -3,30 +3,28 @@
 use Prim.Native.Nat.{ℕ, zero, suc, _+_, _-_, _≤_, _<_}
 use native.Mathlib.Omega.{arith}
 use mathlib.Core.Path.{_≡_, refl, sym, ap, subst, _∙_}
-use mathlib.Core.Logic.{_⊎_, ⊎-elim}
 use mathlib.Core.Bool.{Bool, true, false, cond}
 use mathlib.Core.List.{List, [], _∷_, _++_}
-use lib.ListN.{length, getD, drop, length-drop}
-use lib.Seq.{getD-drop}
+use lib.ListN.{length, getD}
 use lib.Dec.{eqb, ltb, lit≤}
 use borrow.Author.Tests.{ltb-false}
 use Rattle.octets.specs.Octets.{Octets, standsAt}
-use Rattle.octets.proofs.Agree.{Agree, octet-agree, stands-agree, Hangs, hangs-from}
-use Rattle.cases.proofs.Cases.{cond-with, bool-else, clash}
+use Rattle.octets.proofs.Agree.{stands-agree, Hangs, hangs-from}
+use Rattle.cases.proofs.Cases.{cond-with}
 use Rattle.answers.specs.declared.Answer.{Answer}
-use Rattle.answers.specs.declared.Answer.the-variants.{Short, BadMark, BadLength, BadVersion, BadMode, BadCoder, BadRes, BadWidth, BadType, BadStripe, Trailing}
+use Rattle.answers.specs.declared.Answer.the-variants.{Short, BadMark, BadLength, BadVersion, BadMode, BadCoder, BadRes, BadWidth, BadType, BadStripe}
 use Rattle.answers.specs.Answers.{placeOf}
 use Rattle.field_rules.specs.Field.{Res, ok, no, bind, fields, reach, widths}
 use Rattle.field_rules.proofs.Hangs.{Whole}
 use Rattle.field_rules.proofs.Looks.{Looks, reach-mark}
-use Rattle.field_rules.proofs.Refused.{rowsSize, fields-end}
+use Rattle.field_rules.proofs.Refused.{fields-end}
 use Rattle.sheet_rules.specs.declared.Record.{Record}
 use Rattle.page_rules.specs.declared.Head.{Head}
 use Rattle.page_rules.specs.declared.Coded.{Coded}
 use Rattle.page_rules.specs.Kinds.{hasBack, hasFore, Fields}
 use Rattle.page_rules.specs.Grammar.{recordsOf}
-use Rattle.page_rules.specs.Reading.{startRows, headFrom, segmentRows, stripeRows, fieldsFrom, spanOf, walked, layersOf, stripeFrom, bodyFrom, zerosOf, endRows, pageOf}
-use Rattle.page_rules.specs.Look.{onward, layerLook, layersLook, stripeLook, bodyLook, zerosLook, pageLook, beyond}
+use Rattle.page_rules.specs.Reading.{startRows, segmentRows, stripeRows, fieldsFrom, spanOf, walked, layersOf, stripeFrom, bodyFrom, endRows}
+use Rattle.page_rules.specs.Look.{onward, layerLook, layersLook, stripeLook, bodyLook, beyond}
 use Rattle.page_rules.proofs.Refused.{segment-size}
 use Rattle.page_rules.proofs.Looked.{Near, Looked, looked-ok, looked-no, looked-from, looked-as, looked-then, looked-if, looked-fits, looked-bind, looked-span, looked-fields, looked-walked}
 

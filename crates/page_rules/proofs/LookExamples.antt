@@ -5,7 +5,7 @@ use mathlib.Core.Path.{_≡_, refl}
 use mathlib.Core.List.{List, [], _∷_, _++_}
 use lib.ListN.{take}
 use Rattle.octets.specs.Octets.{be16At, be32At, begins, standsAt, octets16, octets32}
-use Rattle.answers.specs.declared.Answer.the-variants.{Short, BadMark, BadLength, BadLayer, BadStripe, Trailing}
+use Rattle.answers.specs.declared.Answer.the-variants.{Short, BadMark, BadLength, BadLayer, Trailing}
 use Rattle.field_rules.specs.Field.{no, fields, reach}
 use Rattle.jpeg_rules.specs.Marker.{classOf, markerOf}
 use Rattle.jpeg_rules.specs.Walk.{segOf, scanOf, tagOf, frameBodyOf, frameOf, scanStepOf, segmentOf, endOf, turnOf, walkOf}
@@ -15,8 +15,8 @@ use Rattle.page_rules.specs.Kinds.{typeOk, maskCoder, imageCoder}
 use Rattle.page_rules.specs.Grammar.{startOf, colourOf, headOf}
 use Rattle.page_rules.specs.Reading.{startRows, segmentRows, stripeRows, layersOf, endRows, pageOf}
 use Rattle.page_rules.specs.Look.{layersLook, pageLook}
-use Rattle.page_rules.proofs.Many.{head, stripe, coded-mask}
-use Rattle.page_rules.proofs.Examples.{end, page, colours, typed}
+use Rattle.page_rules.proofs.Many.{head}
+use Rattle.page_rules.proofs.Examples.{page, colours, typed}
 
 -- a start of page of length 17: decided by the ident behind the length, whose last octet is `ident`
 pub long-start : ℕ → List ℕ

@@ -13,7 +13,7 @@ use lib.ListN.{length}
 use lib.Dec.{ltb}
 use borrow.Author.Tests.{ltb-false, le-ltb}
 use Rattle.octets.specs.Octets.{Octets}
-use Rattle.octets.proofs.Agree.{Agree, Hangs, hangs-none, hangs-as, hangs-from, hangs-then, hangs-fits}
+use Rattle.octets.proofs.Agree.{Hangs, hangs-none, hangs-as, hangs-from, hangs-then}
 use Rattle.cases.proofs.Cases.{cond-with, clash}
 use Rattle.answers.specs.declared.Answer.{Answer}
 use Rattle.answers.specs.declared.Answer.the-variants.{Short, BadLength, BadRes, BadLayer}
@@ -29,7 +29,6 @@ use Rattle.jpeg_rules.specs.Walk.{walkOf}
 use Rattle.jpeg_rules.specs.Look.{walkLook, beyond as faultBeyond}
 use Rattle.jpeg_rules.proofs.Within.{placeOf as placeOfFault}
 use Rattle.jpeg_rules.proofs.Hangs as J
-use Rattle.page_rules.specs.declared.Coded.{Coded}
 use Rattle.page_rules.specs.declared.Coded.the-variants.{There, Absent}
 use Rattle.page_rules.specs.Reading.{spanOf, faultOf, onWalk, walked}
 use Rattle.page_rules.specs.Look.{onward, layerLook, beyond}

@@ -97,25 +97,25 @@ page-near s o a q u =
     let n = k .near a q in
     (n .past, k .hangs .inside, n .most)
 
-pub record Decided (a : Answer) : Type 0 where
+pub record Decisive (a : Answer) : Type 0 where
   pub refusal : (n : ℕ) → a ≡ Done n → ⊥
-  pub whole : (p : ℕ) → a ≡ Short p → ⊥
-  pub short : a ≢ TooLong
-  pub held : a ≢ NoRoom
+  pub notShort : (p : ℕ) → a ≡ Short p → ⊥
+  pub notTooLong : a ≢ TooLong
+  pub notNoRoom : a ≢ NoRoom
 
-read-page : (s : List ℕ) (room : ℕ) (a : Answer) → Decided a → readOf s room ≡ a → pageOf s ≡ no a
+read-page : (s : List ℕ) (room : ℕ) (a : Answer) → Decisive a → readOf s room ≡ a → pageOf s ≡ no a
 unfolding readOf roomOf
 read-page s room a d =
-    cond-with (λ x. x ≡ a → pageOf s ≡ no a) (ltb 16777215 (length s)) (λ t q. absurd (d .short (sym q))) λ t. by (pageOf s)
+    cond-with (λ x. x ≡ a → pageOf s ≡ no a) (ltb 16777215 (length s)) (λ t q. absurd (d .notTooLong (sym q))) λ t. by (pageOf s)
   where
     by : (r : Res (List Record)) → roomOf room r ≡ a → r ≡ no a
     by (ok rs n) =
-        cond-with (λ x. x ≡ a → ok rs n ≡ no a) (ltb room (length rs * recordSize)) (λ t q. absurd (d .held (sym q))) (λ t q. absurd (d .refusal (length rs) (sym q)))
+        cond-with (λ x. x ≡ a → ok rs n ≡ no a) (ltb room (length rs * recordSize)) (λ t q. absurd (d .notNoRoom (sym q))) (λ t q. absurd (d .refusal (length rs) (sym q)))
     by (no b) = λ q. ap no q
 
-pub read-decided : (s : List ℕ) → Octets s → (room : ℕ) (a : Answer) → readOf s room ≡ a → Decided a → (t : List ℕ) → length t ≤ 16777215 → Agree (pageLook s) s t
+pub read-decided : (s : List ℕ) → Octets s → (room : ℕ) (a : Answer) → readOf s room ≡ a → Decisive a → (t : List ℕ) → length t ≤ 16777215 → Agree (pageLook s) s t
     → (other : ℕ) → readOf t other ≡ a
 unfolding readOf roomOf
 read-decided s o room a q d t h g other =
-    let e = page-decided s o a (read-page s room a d q) (d .whole) t g in
+    let e = page-decided s o a (read-page s room a d q) (d .notShort) t g in
     ap (λ (b : Bool). cond b TooLong (roomOf other (pageOf t))) (le-ltb 16777215 (length t) h) ∙ ap (roomOf other) e
