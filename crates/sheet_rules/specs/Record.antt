@@ -4,6 +4,7 @@
 --   recordFrom    the record of the 28 octets from a place on
 --   recordAt      the record of a number in a sheet
 --   encode        the 28 octets of a record
+--   sheetOf       the octets of records, one behind the other
 --   recordsFrom   so many records of a sheet from a number on
 --   records       all whole records of a sheet, in order
 --   rest          the octets behind them: a part record
@@ -55,6 +56,10 @@ encode r =
     ++ (octets16 (r .height)
     ++ (octets16 (r .res)
     ++ (r .base0 ∷ r .base1 ∷ r .base2 ∷ r .octet17 ∷ octets32 (r .start) ++ (octets32 (r .len) ++ octets16 (r .octets26))))))))
+
+unfoldable pub sheetOf : List Record → List ℕ
+sheetOf [] = []
+sheetOf (r ∷ rs) = encode r ++ sheetOf rs
 
 unfoldable pub recordsFrom : List ℕ → ℕ → ℕ → List Record
 recordsFrom s zero i = []
