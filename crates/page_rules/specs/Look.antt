@@ -6,7 +6,9 @@
 --   onward r looked go   a step: where it was refused it looked so far, and where it was read the steps behind it say
 --   layerLook            an image layer where the type names one
 --   layersLook           the coded layers of a stripe
+--   stripeLook           a stripe behind its ident
 --   bodyLook             optional segments and stripes
+--   zerosLook            zero octets up to the first that is none
 --   pageLook s           the whole page
 --   beyond a             at most so many octets from a refusal's place on were looked at
 --
@@ -65,7 +67,7 @@ bodyLook (suc fuel) hd k left s at =
     (stripeLook hd k left (getD vs 0 0) s at (λ (height : ℕ) (rs : List Record) (e : ℕ). bodyLook fuel hd (suc k) (left - height) s e))
     (onward (spanOf s n (getD vs 0 0 - 6)) (n + (getD vs 0 0 - 6)) (λ (m e : ℕ). bodyLook fuel hd k left s e))))
 
--- up to the first octet that is not zero
+-- up to the first octet that is not zero, and this one too
 unfoldable pub zerosLook : List ℕ → ℕ → ℕ
 zerosLook [] at = at
 zerosLook (x ∷ l) at = cond (eqb x 0) (zerosLook l (suc at)) (at + 1)
@@ -91,6 +93,7 @@ beyond (BadType p) = 1
 beyond (BadStripe p) = 8
 beyond (BadLayer p) = 65532
 beyond (Trailing p) = 1
+-- of Short nothing is said, and reading gives none of the others a place
 beyond (Short p) = 0
 beyond (Done n) = 0
 beyond NoRoom = 0
