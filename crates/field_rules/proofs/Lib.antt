@@ -2,3 +2,4 @@ pub mod Laws
 pub mod Hangs
 pub mod Refused
 pub mod Looks
+pub mod Values

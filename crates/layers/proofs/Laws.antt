@@ -128,20 +128,20 @@ mask-inside s at mask i y z = record { within = leb-true _ _ (sym y ∙ z); smal
 pub mask-fits : (s : List ℕ) (at mask : ℕ) {f : Bool} → Inside s at → f ≡ leb (at + mask) (length s) → f ≡ true → Fits w32 (at + mask)
 mask-fits s at mask i y z = let l = i .small in let w = leb-true (at + mask) (length s) (sym y ∙ z) in record { fits = omega arith }
 
--- the place behind an image layer is one of the page
-walked-inside : (s : List ℕ) (main : ℕ) (b : Bool) (at : ℕ) (c : Coded) (n : ℕ) → at ≤ length s → walked s main b at ≡ ok c n → n ≤ length s
+-- the place behind an image layer is one of the page, and not before it
+pub walked-between : (s : List ℕ) (main : ℕ) (b : Bool) (at : ℕ) (c : Coded) (n : ℕ) → at ≤ length s → walked s main b at ≡ ok c n → (at ≤ n) × (n ≤ length s)
 unfolding walked onWalk
-walked-inside s main true at c n h e = by (walkOf s at main) (walk-inside s at main) e
+walked-between s main true at c n h e = by (walkOf s at main) (walk-inside s at main) e
   where
-    by : (w : Walk) → Reaches s at w → onWalk w at ≡ ok c n → n ≤ length s
+    by : (w : Walk) → Reaches s at w → onWalk w at ≡ ok c n → (at ≤ n) × (n ≤ length s)
     by (Ends next a b r) k e = let p : next ≡ n = cc in let q = k .1 in omega arith
     by (Refused f) k e = clash cc
-walked-inside s main false at c n h e = let p : at ≡ n = cc in omega arith
+walked-between s main false at c n h e = let p : at ≡ n = cc in omega arith
 
 pub back-inside : (s : List ℕ) (main at mask : ℕ) (b : Bool) {f : Bool} {l : Layer} {c : Coded} (n : ℕ) → Inside s at → f ≡ leb (at + mask) (length s) → f ≡ true
     → l ≡ layerOf (walked s main b (at + mask)) → l ≡ Known c n → Inside s n
 back-inside s main at mask b n i y z e k =
     let j = mask-inside s at mask i y z in
-    record { within = walked-inside s main b (at + mask) _ n (j .within) (layer-ok (walked s main b (at + mask)) _ n (sym e ∙ k)); small = i .small }
+    record { within = walked-between s main b (at + mask) _ n (j .within) (layer-ok (walked s main b (at + mask)) _ n (sym e ∙ k)) .1; small = i .small }
 
 pub ruleset layers-laws = (needs, layers-cut, layers-wrong, layers-on, mask-inside, mask-fits, back-inside)

@@ -8,17 +8,18 @@
 --   bodyFrom         optional segments and stripes, up to the first FF D9
 --   pageOf s         the whole page: its records, or the refusal
 --   readOf s room    what the call answers, where the buffer holds so many octets
+--   readInto s d     what the buffer holds afterwards
 use Prim.Native.Nat.{ℕ, zero, suc, _+_, _-_, _*_}
 use mathlib.Core.Bool.{Bool, true, false, _&&_, _||_, not, cond}
 use mathlib.Core.List.{List, [], _∷_, _++_}
 use lib.ListN.{length, getD, drop}
 use lib.Dec.{eqb, leb, ltb}
-use Rattle.octets.specs.Octets.{standsAt}
+use Rattle.octets.specs.Octets.{putAt, standsAt}
 use Rattle.answers.specs.declared.Answer.{Answer}
 use Rattle.answers.specs.declared.Answer.the-variants.{Done, Short, BadMark, BadLength, BadVersion, BadMode, BadCoder, BadRes, BadWidth, BadType, BadStripe, BadLayer, Trailing, NoRoom, TooLong}
 use Rattle.field_rules.specs.Field.{Res, ok, no, bind, Width, one, two, four, Row, mark, val, again, fields}
 use Rattle.sheet_rules.specs.declared.Record.{Record}
-use Rattle.sheet_rules.specs.Record.{recordSize}
+use Rattle.sheet_rules.specs.Record.{recordSize, sheetOf}
 use Rattle.sheet_rules.specs.Judge.{listed}
 use Rattle.jpeg_rules.specs.declared.Fault.{Fault}
 use Rattle.jpeg_rules.specs.declared.Fault.the-variants as F
@@ -188,3 +189,12 @@ roomOf room (no a) = a
 unfoldable pub readOf : List ℕ → ℕ → Answer
 unfolding pageOf roomOf
 readOf s room = cond (ltb 16777215 (length s)) TooLong (roomOf room (pageOf s))
+
+-- the sheet's octets in front, and the octets past them as they were; a refusal changes nothing
+unfoldable pub intoOf : List ℕ → Res (List Record) → List ℕ
+intoOf d (ok rs n) = cond (ltb (length d) (length rs * recordSize)) d (putAt d 0 (sheetOf rs))
+intoOf d (no a) = d
+
+unfoldable pub readInto : List ℕ → List ℕ → List ℕ
+unfolding pageOf intoOf
+readInto s d = cond (ltb 16777215 (length s)) d (intoOf d (pageOf s))

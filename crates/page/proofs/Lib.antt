@@ -1,0 +1,3 @@
+pub mod Kept
+pub mod Laws
+pub mod Stripe
