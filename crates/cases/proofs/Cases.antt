@@ -10,6 +10,11 @@ pub cond-with : {A : Type 0} (P : A → Type 0) (b : Bool) {x y : A} → (b ≡ 
 cond-with P true f g = f refl
 cond-with P false f g = g refl
 
+-- two choices by one test
+pub cond-both : {A B : Type 0} (P : A → B → Type 0) (b : Bool) {x y : A} {u v : B} → (b ≡ true → P x u) → (b ≡ false → P y v) → P (cond b x y) (cond b u v)
+cond-both P true f g = f refl
+cond-both P false f g = g refl
+
 pub bool-else : (b : Bool) → (b ≡ true) ⊎ (b ≡ false)
 bool-else true = inl refl
 bool-else false = inr refl

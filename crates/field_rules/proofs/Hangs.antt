@@ -1,61 +1,25 @@
 -- Reading hangs on the octets up to where it looked: two lists that agree so far are read alike, refusals too.
 -- Assumes nothing.
-use Prim.Native.Nat.{ℕ, zero, suc, _+_, _-_, _≤_, _<_}
+use Prim.Native.Nat.{ℕ, _+_, _-_, _≤_}
 use native.Mathlib.Omega.{arith}
-use mathlib.Core.Path.{_≡_, refl, sym, ap, ap₂, subst, _∙_}
-use mathlib.Core.Logic.{_⊎_, inl, inr, ⊎-elim}
+use mathlib.Core.Path.{_≡_, refl, sym, ap, ap₂}
 use mathlib.Core.Bool.{Bool, true, false, cond}
 use mathlib.Core.List.{List, [], _∷_, _++_}
-use lib.ListN.{length, getD, take, drop, take-append-drop, List·getD-append}
-use lib.Seq.{length-take-le, take-take}
+use lib.ListN.{length}
 use lib.Dec.{ltb}
-use borrow.Author.Tests.{le-ltb, ltb-false}
+use borrow.Author.Tests.{ltb-false}
 use Rattle.answers.specs.declared.Answer.{Answer}
 use Rattle.answers.specs.declared.Answer.the-variants.{Short}
-use Rattle.cases.proofs.Cases.{bool-else}
-use Rattle.octets.specs.Octets.{be16At, be32At, standsAt}
-use Rattle.octets.proofs.Laws.{be16-append, be32-append, stands-append}
+use Rattle.cases.proofs.Cases.{cond-both}
+use Rattle.octets.specs.Octets.{standsAt}
+use Rattle.octets.proofs.Agree.{Agree, octet-agree, be16-agree, be32-agree, stands-agree, Hangs, hangs-none, hangs-then, hangs-fits}
 use Rattle.field_rules.specs.Field.{Res, ok, no, Width, one, two, four, octetCount, widths, numberAt, numbers, Row, mark, val, again, fields, reach}
-
--- the lists agree in their first e octets
-pub record Agree (e : ℕ) (s t : List ℕ) : Type 0 where
-  pub left : e ≤ length s
-  pub right : e ≤ length t
-  pub same : take e s ≡ take e t
-
-pub agree-less : (d e : ℕ) (s t : List ℕ) → d ≤ e → Agree e s t → Agree d s t
-agree-less d e s t h a =
-    let l = a .left in
-    let r = a .right in
-    record {
-      left = omega arith;
-      right = omega arith;
-      same = sym (take-take d e s h) ∙ ap (take d) (a .same) ∙ take-take d e t h;
-    }
-
--- what is read within the first e octets is read of them alone
-number-front : (w : Width) (s : List ℕ) (at e : ℕ) → at + octetCount w ≤ e → e ≤ length s → numberAt w s at ≡ numberAt w (take e s) at
-number-front one s at e h l =
-    let n = length-take-le e s l in
-    ap (λ (x : List ℕ). getD x at 0) (sym (take-append-drop e s)) ∙ List·getD-append (take e s) (drop e s) 0 at (omega arith)
-number-front two s at e h l =
-    let n = length-take-le e s l in
-    ap (λ (x : List ℕ). be16At x at) (sym (take-append-drop e s)) ∙ be16-append (take e s) (drop e s) at (omega arith)
-number-front four s at e h l =
-    let n = length-take-le e s l in
-    ap (λ (x : List ℕ). be32At x at) (sym (take-append-drop e s)) ∙ be32-append (take e s) (drop e s) at (omega arith)
-
-stands-front : (s m : List ℕ) (at e : ℕ) → at + length m ≤ e → e ≤ length s → standsAt s at m ≡ standsAt (take e s) at m
-stands-front s m at e h l =
-    let n = length-take-le e s l in
-    ap (λ (x : List ℕ). standsAt x at m) (sym (take-append-drop e s)) ∙ stands-append (take e s) (drop e s) at m (omega arith)
 
 module _ (e : ℕ) (s t : List ℕ) (a : Agree e s t) where
   number-agree : (w : Width) (at : ℕ) → at + octetCount w ≤ e → numberAt w s at ≡ numberAt w t at
-  number-agree w at h = number-front w s at e h (a .left) ∙ ap (λ (x : List ℕ). numberAt w x at) (a .same) ∙ sym (number-front w t at e h (a .right))
-
-  pub stands-agree : (m : List ℕ) (at : ℕ) → at + length m ≤ e → standsAt s at m ≡ standsAt t at m
-  stands-agree m at h = stands-front s m at e h (a .left) ∙ ap (λ (x : List ℕ). standsAt x at m) (a .same) ∙ sym (stands-front t m at e h (a .right))
+  number-agree one at h = octet-agree e s t a at (omega arith)
+  number-agree two at h = be16-agree e s t a at h
+  number-agree four at h = be32-agree e s t a at h
 
   pub numbers-agree : (ws : List Width) (at : ℕ) → at + widths ws ≤ e → numbers ws s at ≡ numbers ws t at
   unfolding numbers widths
@@ -63,88 +27,56 @@ module _ (e : ℕ) (s t : List ℕ) (a : Agree e s t) where
   numbers-agree (w ∷ ws) at h =
       ap₂ (λ (x : ℕ) (l : List ℕ). x ∷ l) (number-agree w at (omega arith)) (numbers-agree ws (at + octetCount w) (omega arith))
 
--- ---- what reading hangs on
-
 -- not Short
-pub Whole : {A : Type 0} → Res A → Type 0
+abbrev pub Whole : {A : Type 0} → Res A → Type 0
 Whole r = (p : ℕ) → r ≡ no (Short p) → ⊥
 
--- reading s from a place looks so far, and lists that agree with s so far are read alike
-pub record Hangs {A : Type 0} (look : ℕ) (read : List ℕ → Res A) (s : List ℕ) (at : ℕ) : Type 0 where
-  pub ahead : at ≤ look
-  pub inside : look ≤ length s
-  pub same : (t : List ℕ) → Agree look s t → read t ≡ read s
+-- ---- a field
 
--- ---- a field of n octets, whatever it is: its test, and the numbers known behind it, are of those octets alone
+-- a test of numbers known already, and then the fields behind it
+module _ (refusal : Answer) (rows : List Row) (before s : List ℕ) (at : ℕ) (h : at ≤ length s)
+    (rest : Whole (fields rows before s at) → Hangs (reach rows before s at) (λ (t : List ℕ). fields rows before t at) s at) where
+  test-hangs : (b : Bool) → Whole (cond b (fields rows before s at) (no refusal))
+      → Hangs (cond b (reach rows before s at) at) (λ (t : List ℕ). cond b (fields rows before t at) (no refusal)) s at
+  test-hangs true w = rest w
+  test-hangs false w = hangs-none s (no refusal) at at (omega arith) h
 
-module _ (n at : ℕ) (test : List ℕ → Bool) (known : List ℕ → List ℕ) (refusal : ℕ → Answer) (rows : List Row) where
+-- a field of n octets, whatever it is: its test, and the numbers known behind it, are of those octets alone
+module _ (n at : ℕ) (test : List ℕ → Bool) (known : List ℕ → List ℕ) (refusal : Answer) (rows : List Row) where
   abbrev readField : List ℕ → Res (List ℕ)
-  readField s = cond (ltb (length s) (at + n)) (no (Short at)) (cond (test s) (fields rows (known s) s (at + n)) (no (refusal at)))
+  readField s = cond (ltb (length s) (at + n)) (no (Short at)) (cond (test s) (fields rows (known s) s (at + n)) (no refusal))
 
   abbrev lookField : List ℕ → ℕ
   lookField s = cond (ltb (length s) (at + n)) at (cond (test s) (reach rows (known s) s (at + n)) (at + n))
 
-  field-hangs : ((e : ℕ) (s t : List ℕ) → Agree e s t → at + n ≤ e → (test t ≡ test s) × (known t ≡ known s)) → (s : List ℕ)
+  field-hangs : (s : List ℕ) → ((t : List ℕ) → Agree (at + n) s t → (test t ≡ test s) × (known t ≡ known s))
       → (at + n ≤ length s → Whole (fields rows (known s) s (at + n)) → Hangs (reach rows (known s) s (at + n)) (λ (t : List ℕ). fields rows (known s) t (at + n)) s (at + n))
       → Whole (readField s) → Hangs (lookField s) readField s at
-  unfolding Whole
-  field-hangs alone s rest w =
-      ⊎-elim (λ (l : ltb (length s) (at + n) ≡ true). absurd (w at (simp l)))
-      (λ (l : ltb (length s) (at + n) ≡ false).
+  field-hangs s alone rest =
+      cond-both (λ (x : Res (List ℕ)) (l : ℕ). Whole x → Hangs l readField s at) (ltb (length s) (at + n)) (λ l w. absurd (w at refl)) λ l w.
       let g = ltb-false (length s) (at + n) l in
-      ⊎-elim
-      (λ (k : test s ≡ true).
-      let f : readField s ≡ fields rows (known s) s (at + n) = simp (l, k) in
-      let q : lookField s ≡ reach rows (known s) s (at + n) = simp (l, k) in
-      let x = rest g (λ p z. w p (f ∙ z)) in
-      let y = x .ahead in
-      let i = x .inside in
-      record {
-        ahead = omega arith;
-        inside = omega arith;
-        same = λ t a.
-            let a′ = subst (λ (e : ℕ). Agree e s t) q a in
-            let r = a′ .right in
-            let z = alone (reach rows (known s) s (at + n)) s t a′ y in
-            simp (l, k, le-ltb (length t) (at + n) (omega arith), z .0 ∙ k) (ap (λ (b : List ℕ). fields rows b t (at + n)) (z .1) ∙ x .same t a′);
-      })
-      (λ (k : test s ≡ false).
-      let q : lookField s ≡ at + n = simp (l, k) in
-      record {
-        ahead = omega arith;
-        inside = omega arith;
-        same = λ t a.
-            let a′ = subst (λ (e : ℕ). Agree e s t) q a in
-            let z = alone (at + n) s t a′ (omega arith) in
-            simp (l, k, le-ltb (length t) (at + n) (a′ .right), z .0 ∙ k);
-      })
-      (bool-else (test s)))
-      (bool-else (ltb (length s) (at + n)))
+      let look : ℕ = cond (test s) (reach rows (known s) s (at + n)) (at + n) in
+      hangs-fits s (no (Short at)) (λ (t : List ℕ). on (test t, known t) t) (at + n) look at (omega arith)
+      (hangs-then s (λ (t : List ℕ). (test t, known t)) on (test s, known s) (at + n) look (at + n) refl
+      (record { ahead = omega arith; inside = g; same = λ t a. let z = alone t a in ap₂ (λ (b : Bool) (k : List ℕ). (b, k)) (z .0) (z .1) })
+      (test-hangs refusal rows (known s) s (at + n) g (rest g) (test s) w))
+    where
+      on : Bool × List ℕ → List ℕ → Res (List ℕ)
+      on p t = cond (p .0) (fields rows (p .1) t (at + n)) (no refusal)
 
 -- ---- a segment
 
 pub fields-hang : (rows : List Row) (before s : List ℕ) (at : ℕ) → at ≤ length s → Whole (fields rows before s at)
     → Hangs (reach rows before s at) (λ (t : List ℕ). fields rows before t at) s at
-unfolding fields reach Whole
-fields-hang [] before s at h w = record { ahead = omega arith; inside = h; same = λ t a. refl }
+unfolding fields reach
+fields-hang [] before s at h w = hangs-none s (ok before at) at at (omega arith) h
 fields-hang (mark m refusal ∷ rows) before s at h w =
-    field-hangs (length m) at (λ (t : List ℕ). standsAt t at m) (λ (t : List ℕ). before) refusal rows
-    (λ e x y a i. (sym (stands-agree e x y a m at i), refl))
-    s (λ g v. fields-hang rows before s (at + length m) g v) w
+    field-hangs (length m) at (λ (t : List ℕ). standsAt t at m) (λ (t : List ℕ). before) (refusal at) rows s
+    (λ t a. (sym (stands-agree (at + length m) s t a m at (omega arith)), refl))
+    (λ g v. fields-hang rows before s (at + length m) g v) w
 fields-hang (val ws good refusal ∷ rows) before s at h w =
-    field-hangs (widths ws) at (λ (t : List ℕ). good before (numbers ws t at)) (λ (t : List ℕ). before ++ numbers ws t at) refusal rows
-    (λ e x y a i. let n = sym (numbers-agree e x y a ws at i) in (ap (good before) n, ap (λ (l : List ℕ). before ++ l) n))
-    s (λ g v. fields-hang rows (before ++ numbers ws s at) s (at + widths ws) g v) w
+    field-hangs (widths ws) at (λ (t : List ℕ). good before (numbers ws t at)) (λ (t : List ℕ). before ++ numbers ws t at) (refusal at) rows s
+    (λ t a. let n = sym (numbers-agree (at + widths ws) s t a ws at (omega arith)) in (ap (good before) n, ap (λ (l : List ℕ). before ++ l) n))
+    (λ g v. fields-hang rows (before ++ numbers ws s at) s (at + widths ws) g v) w
 fields-hang (again back good refusal ∷ rows) before s at h w =
-    ⊎-elim
-    (λ (k : good before ≡ true).
-    let f : fields (again back good refusal ∷ rows) before s at ≡ fields rows before s at = simp k in
-    let q : reach (again back good refusal ∷ rows) before s at ≡ reach rows before s at = simp k in
-    let x = fields-hang rows before s at h (λ p z. w p (f ∙ z)) in
-    let y = x .ahead in
-    let i = x .inside in
-    record { ahead = omega arith; inside = omega arith; same = λ t a. let a′ = subst (λ (e : ℕ). Agree e s t) q a in simp k (x .same t a′) })
-    (λ (k : good before ≡ false).
-    let q : reach (again back good refusal ∷ rows) before s at ≡ at = simp k in
-    record { ahead = omega arith; inside = omega arith; same = λ t a. simp k })
-    (bool-else (good before))
+    test-hangs (refusal (at - back)) rows before s at h (fields-hang rows before s at h) (good before) w

@@ -1,4 +1,5 @@
 pub mod Laws
 pub mod Hangs
 pub mod Refused
+pub mod Looks
 pub mod Values

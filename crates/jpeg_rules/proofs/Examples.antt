@@ -9,6 +9,7 @@ use Rattle.jpeg_rules.specs.declared.Walk.{Walk}
 use Rattle.jpeg_rules.specs.declared.Walk.the-variants.{Ends, Refused}
 use Rattle.jpeg_rules.specs.Marker.{classOf, markerOf}
 use Rattle.jpeg_rules.specs.Walk.{segOf, stopsOf, scanFrom, scanOf, tagOf, frameBodyOf, frameOf, scanStepOf, segmentOf, endOf, markOf, turnOf, walkFrom, walkOf}
+use Rattle.jpeg_rules.specs.Look.{turnLook, walkLook}
 
 -- the parts: the resolution's segment, the frame of 8 by 16, a scan with a stuffed FF and a restart marker, and the ends
 unfoldable pub opening : List ℕ
@@ -59,3 +60,10 @@ walk-no-resolution = refl
 pub walk-two-frames : walkOf (opening ++ tag200 ++ frame ++ frame ++ scan ++ closing) 0 400 ≡ Refused (BadLayer 26)
 unfolding walkOf turnOf markerOf classOf segOf scanOf tagOf frameOf frameBodyOf scanStepOf segmentOf endOf standsAt begins be16At opening closing tag200 frame scan
 walk-two-frames = refl
+
+-- a second FF D8 behind scan data is decided by its two octets: FF 00 there would be data, without an end
+pub walk-looks : (walkOf (opening ++ tag200 ++ frame ++ scan ++ opening) 0 400 ≡ Refused (BadLayer 38))
+    × (walkLook (opening ++ tag200 ++ frame ++ scan ++ opening) 0 400 ≡ 40)
+    × (walkOf (opening ++ tag200 ++ frame ++ scan ++ (0xFF ∷ 0x00 ∷ [])) 0 400 ≡ Refused (Short 31))
+unfolding walkOf walkLook turnOf turnLook markerOf classOf segOf scanOf tagOf frameOf frameBodyOf scanStepOf segmentOf endOf standsAt begins be16At opening tag200 frame scan
+walk-looks = (refl, refl, refl)

@@ -6,5 +6,7 @@ pub mod There
 pub mod Tail
 pub mod Back
 pub mod Within
+pub mod LeafHangs
+pub mod Hangs
 pub mod Theorems
 pub mod Examples

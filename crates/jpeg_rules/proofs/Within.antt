@@ -42,7 +42,7 @@ placeOf (BadLength p) = p
 placeOf (BadRes p) = p
 placeOf (BadLayer p) = p
 
-tag-long : (s : List ℕ) (st : Reach) (c n v : ℕ) → tagOf s st c n ≡ Gives v → 12 ≤ be16At s n
+pub tag-long : (s : List ℕ) (st : Reach) (c n v : ℕ) → tagOf s st c n ≡ Gives v → 12 ≤ be16At s n
 unfolding tagOf
 tag-long s st c n v =
     cond-with (λ x. x ≡ Gives v → 12 ≤ be16At s n) (eqb c 0xE1 && eqb (st .res) 0 && leb 12 (be16At s n) && standsAt s (n + 2) g3fax)

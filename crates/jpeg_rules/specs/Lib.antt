@@ -1,3 +1,4 @@
 pub mod Marker
 pub mod Grammar
 pub mod Walk
+pub mod Look

@@ -16,10 +16,10 @@ use Rattle.page_rules.specs.Grammar.{startOf, optionalOf, colourOf, head
 use Rattle.page_rules.proofs.Many.{head, stripe, coded-mask}
 use Rattle.page_rules.specs.Reading.{startRows, segmentRows, stripeRows, spanOf, walked, layersOf, stripeFrom, bodyFrom, zerosOf, endRows, pageOf, roomOf, readOf}
 
-pub end : List ℕ
+unfoldable pub end : List ℕ
 end = 0xFF ∷ 0xD9 ∷ []
 
-pub page : List ℕ
+unfoldable pub page : List ℕ
 unfolding end
 page = startOf head ++ (headOf stripe ++ (coded-mask ++ (end ++ end)))
 
@@ -50,10 +50,10 @@ pub picture : List ℕ
 unfolding J.opening J.tag200 J.frame J.scan J.closing
 picture = J.opening ++ (J.tag200 ++ (J.frame ++ (J.scan ++ J.closing)))
 
-pub colours : Head
+unfoldable pub colours : Head
 colours = record { mask = 8; image = 1; main = 400; width = 100 }
 
-pub typed : ℕ → ℕ → Fields
+unfoldable pub typed : ℕ → ℕ → Fields
 typed t n =
     record {
       type = t;

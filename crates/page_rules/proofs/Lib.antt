@@ -6,8 +6,12 @@ pub mod Layers
 pub mod Back
 pub mod Refused
 pub mod Count
+pub mod Looked
+pub mod Hangs
+pub mod Decided
 pub mod Accepted
 pub mod Named
 pub mod Theorems
 pub mod Many
 pub mod Examples
+pub mod LookExamples
