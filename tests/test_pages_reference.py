@@ -15,6 +15,7 @@ import reference_run
 
 GOOD = 500
 DAMAGED = 2500
+POSITIONS = 140      # more than a reader looks at in one step
 LARGE = 10000        # a page above this is cut only at some octets
 FIRST_CODED = 61     # no coded data of a Mode 1 page stands before this
 RECORD = 28
@@ -112,6 +113,10 @@ def inside(page, lines):
     return True
 
 
+def made(what, words, answer):
+    return "%s: %s" % (what, words), b"".join(map(page_making.part, words.split())), answer
+
+
 def code_pages():
     """(what, page, answer): every marker code at three places of a layer, each time
     followed by 00 04 5A 5A, which is the rest of a segment that can be skipped."""
@@ -122,20 +127,38 @@ def code_pages():
         # before the frame, at 77
         answer = ("refused 11 79" if code == 0x01 else "refused 3 79" if frame
                   else "done 3" if skipped else "refused 11 77")
-        yield "before the frame", "head1 soi fax %s frame scan 12 eoi end" % octets, answer
+        yield made("before the frame", "head1 soi fax %s frame scan 12 eoi end" % octets, answer)
         # in scan data, where its marker is at 101; and outside of it, at 105
         for what, before, at in (("in scan data", "12", 101),
                                  ("behind a scan", "12FFDB0002", 105)):
             taken = skipped or code == 0xDA or (code in data and at == 101)
             answer = ("done 3" if taken else "refused 11 %d" % (at + 2) if code == 0x01
                       else "refused 2 %d" % (at + 2) if code == 0xD9 else "refused 11 %d" % at)
-            yield what, "head1 soi fax frame scan %s%s eoi end" % (before, octets), answer
+            yield made(what, "head1 soi fax frame scan %s%s eoi end" % (before, octets), answer)
 
 
-def check_codes(tally, reader):
-    """The classes of the 256 marker codes."""
-    pages = [("%s: %s" % (what, words), b"".join(map(page_making.part, words.split())), answer)
-             for what, words, answer in code_pages()]
+def position_pages():
+    """(what, page, answer): one pair at every octet of scan data, and one octet at
+    every place behind the end: a reader may well look at many octets at a time."""
+    before = b"".join(map(page_making.part, "head1 soi fax frame scan".split()))
+    end = b"\xff\xd9\xff\xd9\xff\xd9"
+    for k in range(POSITIONS):
+        yield "%d octets of scan data" % k, before + b"\xfe" * k + end, "done 3"
+        yield "scan data of %d octets to the end" % k, before + b"\xfe" * k, "refused 1 100"
+        yield "FF after %d octets to the end" % k, before + b"\xfe" * k + b"\xff", "refused 1 100"
+        for code in (0x00, 0xD0, 0xD7, 0x01, 0x02, 0xCF, 0xD8, 0xFF):
+            data = b"\xfe" * k + bytes([0xFF, code]) + b"\xfe" * (POSITIONS - k)
+            yield "FF %02X in scan data at %d" % (code, k), before + data + end, (
+                "done 3" if code in (0x00, 0xD0, 0xD7)
+                else "refused 11 %d" % (len(before) + k + 2 * (code == 0x01)))
+        zeros = bytearray(POSITIONS)
+        zeros[k] = 1 + k
+        yield "zeros but at %d" % k, before + end + zeros, "refused 12 %d" % (
+            len(before) + len(end) + k)
+
+
+def check_pages(tally, reader, pages):
+    """Pages whose answers are known: (what, page, answer)."""
     answers = reader.lines(lambda k: pages[k][0], [page for _, page, _ in pages])
     for (told, _, answer), lines in zip(pages, answers):
         tally.check(page_making.answer(lines) == answer, "%s: %s, but the reference says %s"
@@ -172,7 +195,8 @@ def check_cuts(tally, reader, cases, rng):
             continue
         sizes = cuts(rng, case.page)
         whole, *answers = reader.lines(
-            lambda k, case=case, sizes=sizes: "%s, cut at %d" % (case.told(), [-1, *sizes][k]),
+            lambda k, case=case, sizes=sizes: "%s, cut at %d"
+            % (case.told(), [len(case.page), *sizes][k]),
             [case.page] + [case.page[:size] for size in sizes])
         wrong = [size for size, lines in zip(sizes, answers)
                  if not is_good_cut(case.page, size, lines, whole)]
@@ -218,7 +242,7 @@ def main():
     cases = page_making.table()
     check_table(tally, reader, cases)
     check_rooms(tally, reader, cases)
-    check_codes(tally, reader)
+    check_pages(tally, reader, [*code_pages(), *position_pages()])
     check_cuts(tally, reader, cases, random.Random(seed))
     check_good(tally, reader, random.Random(seed + 1))
     check_damaged(tally, reader, random.Random(seed + 2))
