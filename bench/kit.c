@@ -44,9 +44,9 @@ static double mean(side *f, const void *work, unsigned calls)
 // The best of each side counts: other work on the machine slows all of them, and none makes one faster.
 void take_turns(side *const sides[], size_t count, const void *work, double round_ns, int rounds, double best[])
 {
-    unsigned calls = 1 + (unsigned)(round_ns / (mean(sides[count - 1], work, 10) + 1));
-    for (size_t k = 0; k < count; k++)
-        best[k] = 1e18;
+    unsigned calls = 1;
+    if (mean(sides[count - 1], work, 1) < round_ns)
+        calls += (unsigned)(round_ns / (mean(sides[count - 1], work, 10) + 1));
     for (int i = 0; i < rounds; i++)
         for (size_t k = 0; k < count; k++) {
             double t = mean(sides[k], work, calls);

@@ -172,7 +172,7 @@ static uint64_t plain_find(const void *work)
 static void time_row(const char *name, side *rattle, side *c, struct question q, size_t octets)
 {
     side *const sides[] = {rattle, c};
-    double best[2];
+    double best[] = {NO_TIME, NO_TIME};
     take_turns(sides, 2, &q, ROUND_NS, ROUNDS, best);
     printf("%-42s %10.1f %10.1f %8.2f %8.2f\n", name, best[0], best[1], best[0] / best[1], (double)octets / best[0]);
 }

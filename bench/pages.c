@@ -13,7 +13,8 @@
 #define LONGEST (16 * MB - 1)
 #define ENDS 256                // octets of a page besides what fills it
 #define DAMAGED 20000
-#define ROUNDS 40
+#define PASSES 6                // over all rows, since a machine can be slow for seconds
+#define ROUNDS 12
 #define ROUND_NS 20000.0
 #define SHEET_SIZE (64 * 3 * RECORD_SIZE)
 
@@ -261,19 +262,6 @@ static void print_ratio(double ratio, double limit)
         printf(" %9.2f%c%5.1f ", ratio, is_over ? '!' : ' ', limit);
 }
 
-// Answers the time of the proved call.
-static double time_row(const char *name, const struct page *p, double octets_limit, double memchr_limit)
-{
-    side *const sides[] = {rattle, by_octets, by_memchr};
-    double best[3];
-    take_turns(sides, 3, p, ROUND_NS, ROUNDS, best);
-    printf("%-34s %10.1f %10.1f %10.1f", name, best[0] / 1e3, best[1] / 1e3, best[2] / 1e3);
-    print_ratio(best[0] / best[1], octets_limit);
-    print_ratio(best[0] / best[2], memchr_limit);
-    printf(" %7.2f\n", (double)p->size / best[0]);
-    return best[0];
-}
-
 struct row {
     const char *name;
     size_t size;
@@ -296,23 +284,54 @@ static const struct row rows[] = {
     {"zeros behind the end", LONGEST, nothing, nothing, nothing, zero_octets, 2.0, 0},
 };
 
+#define ROWS (sizeof rows / sizeof rows[0])
+
+static double best[ROWS + 1][3];    // of each side; the last row is the small page
+static size_t sizes[ROWS + 1];
+
+static void time_page(size_t row, const struct page *p)
+{
+    side *const sides[] = {rattle, by_octets, by_memchr};
+    sizes[row] = p->size;
+    take_turns(sides, 3, p, ROUND_NS, ROUNDS, best[row]);
+}
+
+static void time_all(struct page *p)
+{
+    for (size_t i = 0; i < ROWS; i++) {
+        const struct row *r = &rows[i];
+        make_large(p, r->size, r->optionals, r->segments, r->data, r->behind);
+        expect(r->name, p);
+        time_page(i, p);
+    }
+    make_small(p, 64);
+    time_page(ROWS, p);
+}
+
+static void print_row(size_t row, const char *name, double octets_limit, double memchr_limit)
+{
+    const double *t = best[row];
+    printf("%-34s %10.1f %10.1f %10.1f", name, t[0] / 1e3, t[1] / 1e3, t[2] / 1e3);
+    print_ratio(t[0] / t[1], octets_limit);
+    print_ratio(t[0] / t[2], memchr_limit);
+    printf(" %7.2f\n", (double)sizes[row] / t[0]);
+}
+
 int main(void)
 {
     static struct page p;
-    const size_t count = sizeof rows / sizeof rows[0];
-    double taken[sizeof rows / sizeof rows[0]];
     agree_on_damaged(&p);
-    printf("%-34s %10s %10s %10s %17s %17s %6s\n", "best of many rounds, microseconds", "Rattle", "C octets", "C memchr", "/ octets  limit", "/ memchr  limit",
-           "GB/s");
-    for (size_t i = 0; i < count; i++) {
-        const struct row *r = &rows[i];
-        make_large(&p, r->size, r->optionals, r->segments, r->data, r->behind);
-        expect(r->name, &p);
-        taken[i] = time_row(r->name, &p, r->octets_limit, r->memchr_limit);
-    }
-    make_small(&p, 64);
-    time_row("64 stripes of small layers", &p, 0, 0);
-    printf("\nrandom scan data: 4 MB take %.2f times what 1 MB takes, 16 MB %.2f times\n", taken[1] / taken[0], taken[2] / taken[0]);
-    printf("ratios: Rattle / C, below 1 is faster than C; limits that are passed are marked !: %u; GB/s: octets of the page that the Rattle call reads\n", over);
+    for (size_t i = 0; i <= ROWS; i++)
+        for (size_t k = 0; k < 3; k++)
+            best[i][k] = NO_TIME;
+    for (int pass = 0; pass < PASSES; pass++)
+        time_all(&p);
+    printf("%-34s %10s %10s %10s %17s %17s %6s\n", "best of many rounds, microseconds", "Rattle", "C octets", "C memchr", "/ octets  limit",
+           "/ memchr  limit", "GB/s");
+    for (size_t i = 0; i < ROWS; i++)
+        print_row(i, rows[i].name, rows[i].octets_limit, rows[i].memchr_limit);
+    print_row(ROWS, "64 stripes of small layers", 0, 0);
+    printf("\nrandom scan data: 4 MB take %.2f times what 1 MB takes, 16 MB %.2f times\n", best[1][0] / best[0][0], best[2][0] / best[0][0]);
+    printf("ratios: Rattle / C, below 1 is faster than C; %u over their limits, marked !; GB/s: octets of the page that the Rattle call reads\n", over);
     return 0;
 }

@@ -55,7 +55,10 @@ def fax_strip(folder, pbm, scheme):
     run(["tiffcp", "-c", scheme, "-f", "msb2lsb", "-r", "100000", plain, coded])
     with open(coded, "rb") as file:
         octets = file.read()
-    number = lambda at, size: int.from_bytes(octets[at:at + size], "little")
+
+    def number(at, size):
+        return int.from_bytes(octets[at:at + size], "little")
+
     first = number(4, 4) + 2
     entries = range(first, first + 12 * number(first - 2, 2), 12)
     tags = {number(at, 2): number(at + 8, 4) for at in entries}
@@ -89,7 +92,10 @@ def jpgicc(folder, jpeg):
 def layers(folder):
     coder = os.path.join(folder, "lab_jpeg")
     run(["cc", "-O2", "-o", coder, os.path.join(HERE, "lab_jpeg.c"), "-ljpeg"])
-    lab = lambda octets, *words: run([coder, *words], octets)
+
+    def lab(octets, *words):
+        return run([coder, *words], octets)
+
     mask = strokes(208, 60)
     yield "mask.mh", fax_strip(folder, mask, "g3:1d")
     yield "mask.mr", fax_strip(folder, mask, "g3:2d")
