@@ -1,6 +1,6 @@
 // Times the proved judge and the proved search for a stripe beside the same two in C, on the same sheets in one run.
 // First the two must agree, on the sheets that are timed and on damaged ones: a fast wrong answer is no result.
-#define _POSIX_C_SOURCE 199309L
+#include "kit.h"
 #include "sheet.h"
 
 #include <inttypes.h>
@@ -8,7 +8,6 @@
 #include <stdio.h>
 #include <stdlib.h>
 #include <string.h>
-#include <time.h>
 
 #define DAMAGED 20000
 #define ROUNDS 1000
@@ -21,28 +20,6 @@ struct sheet {
 };
 
 // ---- good sheets
-
-// A generator of its own, so that every run and every machine has the same sheets.
-static uint32_t any(uint32_t below)
-{
-    static uint64_t seed = 0x9e3779b97f4a7c15u;
-    seed ^= seed << 13;
-    seed ^= seed >> 7;
-    seed ^= seed << 17;
-    return (uint32_t)(seed >> 32) % below;
-}
-
-static void put16(uint8_t *p, uint32_t v)
-{
-    p[0] = (uint8_t)(v >> 8);
-    p[1] = (uint8_t)v;
-}
-
-static void put32(uint8_t *p, uint32_t v)
-{
-    put16(p, v >> 16);
-    put16(p + 2, v & 0xffff);
-}
 
 static void put_coded(uint8_t *p, unsigned layer, uint32_t main)
 {
@@ -97,18 +74,6 @@ static void make_bad(struct sheet *s, unsigned stripes, unsigned layers, size_t 
 {
     make_good(s, stripes, layers);
     s->octets[record * RECORD_SIZE + 17] = 1;
-}
-
-// The values at the edges of the rules, and any.
-static uint8_t octet_near(uint8_t v)
-{
-    static const uint8_t edges[] = {0, 1, 2, 3, 4, 8, 15, 16, 63, 64, 128, 255};
-    switch (any(4)) {
-    case 0: return (uint8_t)(v ^ 1u << any(8));
-    case 1: return (uint8_t)(v + 1 - 2 * any(2));
-    case 2: return edges[any(sizeof edges)];
-    default: return (uint8_t)any(256);
-    }
 }
 
 static void damage(struct sheet *s)
@@ -175,60 +140,51 @@ static void agree_on_damaged(void)
 
 // ---- times
 
-typedef uint64_t call(const uint8_t *sheet, size_t octets, uint32_t k);
+struct question {
+    const struct sheet *sheet;
+    uint32_t stripe;
+};
 
-static uint64_t rattle_judge(const uint8_t *sheet, size_t octets, uint32_t k)
+static uint64_t rattle_judge(const void *work)
 {
-    (void)k;
-    return bench_judge(sheet, octets);
+    const struct question *q = work;
+    return bench_judge(q->sheet->octets, q->sheet->size);
 }
 
-static uint64_t plain_judge(const uint8_t *sheet, size_t octets, uint32_t k)
+static uint64_t plain_judge(const void *work)
 {
-    (void)k;
-    return c_judge(sheet, octets);
+    const struct question *q = work;
+    return c_judge(q->sheet->octets, q->sheet->size);
 }
 
-static double now(void)
+static uint64_t rattle_find(const void *work)
 {
-    struct timespec t;
-    clock_gettime(CLOCK_MONOTONIC, &t);
-    return (double)t.tv_sec * 1e9 + (double)t.tv_nsec;
+    const struct question *q = work;
+    return bench_find_stripe(q->sheet->octets, q->sheet->size, q->stripe);
 }
 
-// Where the answers go, so that no call can be left out.
-volatile uint64_t sink;
-
-// The mean of so many calls, in nanoseconds.
-static double mean(call *f, const struct sheet *s, uint32_t k, unsigned calls)
+static uint64_t plain_find(const void *work)
 {
-    double from = now();
-    for (unsigned i = 0; i < calls; i++)
-        sink = f(s->octets, s->size, k);
-    return (now() - from) / calls;
+    const struct question *q = work;
+    return c_find_stripe(q->sheet->octets, q->sheet->size, q->stripe);
 }
 
-// The two take turns, and the best of each counts: other work on the machine slows both, and none makes one faster.
-static void time_row(const char *name, call *rattle, call *c, const struct sheet *s, uint32_t k, size_t octets)
+static void time_row(const char *name, side *rattle, side *c, struct question q, size_t octets)
 {
-    unsigned calls = 1 + (unsigned)(ROUND_NS / (mean(c, s, k, 10) + 1));
-    double best_rattle = 1e18, best_c = 1e18;
-    for (int i = 0; i < ROUNDS; i++) {
-        double a = mean(rattle, s, k, calls), b = mean(c, s, k, calls);
-        best_rattle = a < best_rattle ? a : best_rattle;
-        best_c = b < best_c ? b : best_c;
-    }
-    printf("%-42s %10.1f %10.1f %8.2f %8.2f\n", name, best_rattle, best_c, best_rattle / best_c, (double)octets / best_rattle);
+    side *const sides[] = {rattle, c};
+    double best[] = {NO_TIME, NO_TIME};
+    take_turns(sides, 2, &q, ROUND_NS, ROUNDS, best);
+    printf("%-42s %10.1f %10.1f %8.2f %8.2f\n", name, best[0], best[1], best[0] / best[1], (double)octets / best[0]);
 }
 
 static void time_judge(const char *name, const struct sheet *s, size_t octets)
 {
-    time_row(name, rattle_judge, plain_judge, s, 0, octets);
+    time_row(name, rattle_judge, plain_judge, (struct question){s, 0}, octets);
 }
 
 static void time_find(const char *name, const struct sheet *s, uint32_t k)
 {
-    time_row(name, bench_find_stripe, c_find_stripe, s, k, s->size);
+    time_row(name, rattle_find, plain_find, (struct question){s, k}, s->size);
 }
 
 int main(void)

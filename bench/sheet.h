@@ -4,10 +4,8 @@
 #ifndef BENCH_SHEET_H
 #define BENCH_SHEET_H
 
-#include <stddef.h>
-#include <stdint.h>
+#include "octets.h"
 
-#define RECORD_SIZE 28
 #define MOST_RECORDS 960
 #define REFUSED 4294967296u
 
@@ -16,15 +14,5 @@ uint64_t bench_find_stripe(const uint8_t *sheet, size_t octets, uint32_t k);
 
 uint64_t c_judge(const uint8_t *sheet, size_t octets);
 uint64_t c_find_stripe(const uint8_t *sheet, size_t octets, uint32_t k);
-
-static inline uint32_t be16(const uint8_t *p)
-{
-    return (uint32_t)p[0] << 8 | p[1];
-}
-
-static inline uint32_t be32(const uint8_t *p)
-{
-    return be16(p) << 16 | be16(p + 2);
-}
 
 #endif

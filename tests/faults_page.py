@@ -169,6 +169,21 @@ FAULTS = [
     ("jpeg.c", "an end without a scan", "if (!walk->has_scan) {", "if (false) {"),
     ("jpeg.c", "a marker without FF", "if (walk->page[marker] != 0xFF) {", "if (false) {"),
     ("jpeg.c", "a layer without FF D8", "|| walk->page[start + 1] != 0xD8", ""),
+    # what the driver has to see
+    ("as_library.c", "a refusal changes an octet", "return same;",
+     "if (same.number == 7 && sheet_len > 0) sheet[sheet_len - 1] ^= 1;\n    return same;"),
+    ("as_library.c", "an octet past the result changed", "return same;",
+     "if (sheet_len > same.count * 28) sheet[same.count * 28] ^= 1;\n    return same;"),
+    ("as_library.c", "an octet before the buffer changed", "return same;",
+     "if (same.number == 0) sheet[-1] ^= 1;\n    return same;"),
+    ("as_library.c", "an octet behind the buffer changed", "return same;",
+     "if (same.number == 0) sheet[sheet_len] ^= 1;\n    return same;"),
+    ("as_library.c", "an octet behind the page read", "return same;",
+     "same.place += ((volatile const uint8_t *)page)[page_len] * 0;\n    return same;"),
+    ("as_library.c", "a count with a refusal", "answer.count}", "answer.number + answer.count}"),
+    ("as_library.c", "a place with Done", "answer.place,", "answer.place + !answer.number,"),
+    ("as_library.c", "a null pointer refused", "return same;",
+     "if (page == NULL) same.number = 2;\n    return same;"),
 ]
 
 

@@ -1,14 +1,22 @@
-"""Builds and runs the reference, and runs any other program on a sheet or a page."""
+"""Builds and runs the reference and the library, and runs any other program on a sheet or a page.
+
+LIBRARY names the archive that is tried in place of build/libspirerook.a.
+"""
 
 import os
+import re
 import subprocess
 
 ROOT = os.path.dirname(os.path.dirname(os.path.abspath(__file__)))
 SOURCES = os.path.join(ROOT, "tests", "reference")
+HEADERS = os.path.join(ROOT, "include")
+DRIVER = os.path.join(ROOT, "tests", "driver")
 WARNINGS = ["-std=c11", "-Wall", "-Wextra", "-Wpedantic", "-Werror"]
 SECONDS = 20
 LIST = ("sheet.c", "console.c", "list.c")
-READ = ("page.c", "reading.c", "stripe.c", "jpeg.c", "sheet.c", "console.c", "read.c")
+READ_DRIVER = ("sheet.c", "console.c", os.path.join(DRIVER, "lent.c"),
+               os.path.join(DRIVER, "read.c"))
+READ = ("page.c", "reading.c", "stripe.c", "jpeg.c", "as_library.c") + READ_DRIVER
 
 
 def build(name="reference_list", sources=SOURCES, flags=("-O2",), parts=LIST):
@@ -17,8 +25,41 @@ def build(name="reference_list", sources=SOURCES, flags=("-O2",), parts=LIST):
     os.makedirs(folder, exist_ok=True)
     program = os.path.join(folder, name)
     files = [os.path.join(sources, file) for file in parts]
-    subprocess.run(["cc", *WARNINGS, *flags, "-I", sources, *files, "-o", program], check=True)
+    folders = ["-I", sources, "-I", DRIVER, "-I", HEADERS]
+    subprocess.run(["cc", *WARNINGS, *flags, *folders, *files, "-o", program], check=True)
     return program
+
+
+def library_is_listed():
+    with open(os.path.join(ROOT, "crates.txt"), encoding="utf-8") as lines:
+        return any(re.match(r"\s*spirerook\s*:", line) for line in lines)
+
+
+def build_library_driver(tally):
+    """The driver over the library, or None.
+
+    Only while crates.txt lists no crate of the library may its archive be
+    missing: then the tests run on the reference alone, and say so.
+    """
+    archive = os.environ.get("LIBRARY") or os.path.join(ROOT, "build", "libspirerook.a")
+    if os.path.exists(archive):
+        return build("library_read", parts=READ_DRIVER + (os.path.abspath(archive),))
+    if os.environ.get("LIBRARY") or library_is_listed():
+        tally.check(False, "no %s: make it first" % os.path.relpath(archive, ROOT))
+    else:
+        print("the library is not tried: crates.txt lists no crate 'spirerook' yet")
+    return None
+
+
+def ended(program, octets, words):
+    """(standard output, standard error, how it went wrong or "") of a program."""
+    try:
+        done = subprocess.run([program, *words], input=octets, stdout=subprocess.PIPE,
+                              stderr=subprocess.PIPE, timeout=SECONDS, check=False)
+    except subprocess.TimeoutExpired as late:
+        return late.stdout or b"", b"", "no end after %d seconds" % SECONDS
+    signal = "ended by signal %d" % -done.returncode if done.returncode < 0 else ""
+    return done.stdout, done.stderr, signal
 
 
 def run(program, sheet, *words):
@@ -27,29 +68,26 @@ def run(program, sheet, *words):
     A program that is ended by a signal, or does not end, wrote nothing that a
     test could take for an answer: its output says what happened instead.
     """
-    try:
-        done = subprocess.run([program, *words], input=sheet, stdout=subprocess.PIPE,
-                              stderr=subprocess.PIPE, timeout=SECONDS, check=False)
-    except subprocess.TimeoutExpired:
-        return "no end after %d seconds\n" % SECONDS, ""
-    if done.returncode < 0:
-        return "ended by signal %d\n" % -done.returncode, ""
-    return (done.stdout.decode("ascii", "replace"), done.stderr.decode("ascii", "replace"))
+    printed, told, wrong = ended(program, sheet, words)
+    if wrong:
+        return wrong + "\n", ""
+    return printed.decode("ascii", "replace"), told.decode("ascii", "replace")
 
 
 def read_many(program, pages):
-    """What the reference's reader prints for each (page, room), in one run of it.
+    """What the driver of a reader prints for each (page, room), in one run of it.
 
-    A reader that does not get to the end gives one answer that tells so, which
-    no list of pages expects.
+    A reader that does not get to the end gives an answer that tells so to the
+    page where it stopped, and another to those behind it: no test expects them.
     """
     words = b"".join(len(page).to_bytes(4, "big") + room.to_bytes(4, "big") + page
                      for page, room in pages)
-    printed, told = run(program, words, "many")
-    answers = printed.split(".\n")
-    if answers.pop() != "" or len(answers) != len(pages):
-        return ["no answer to all pages: %s %s" % (printed[-200:], told[:200])] * len(pages)
-    return answers
+    printed, told, wrong = ended(program, words, ["many"])
+    *answers, rest = printed.decode("ascii", "replace").split(".\n")
+    if len(answers) < len(pages):
+        why = wrong or rest[-200:] + told.decode("ascii", "replace")[:200]
+        answers.append("no answer: %s\n" % why)
+    return answers + ["not read\n"] * (len(pages) - len(answers))
 
 
 def answer(listing):

@@ -1,15 +1,13 @@
-"""Holds the reference's reader to tests/pages.md, to cut pages and to random ones.
+"""Holds the reference's reader to tests/pages.md, to cut pages and to random ones,
+and the library to the reference on every one of them: the same answer, and the
+same records octet for octet.
 
-READER names a command that reads a page on standard input and prints the same
-lines; where it is set, its lines are compared with the reference's. SEED makes a
-run again.
+SEED makes a run again; LIBRARY names another archive than build/libspirerook.a.
 """
 
 import collections
 import os
 import random
-import shlex
-import shutil
 import sys
 
 import page_making
@@ -17,9 +15,10 @@ import reference_run
 
 GOOD = 500
 DAMAGED = 2500
+POSITIONS = 140      # more than a reader looks at in one step
 LARGE = 10000        # a page above this is cut only at some octets
-CUTS_COMPARED = 3    # of each page, where READER is set
 FIRST_CODED = 61     # no coded data of a Mode 1 page stands before this
+RECORD = 28
 SANITIZED = ("-O2", "-fsanitize=address,undefined", "-fno-sanitize-recover=all")
 
 
@@ -29,25 +28,38 @@ def room_for(page):
 
 
 class Reader:
-    """The reference, and beside it the reader under test, if there is one."""
+    """The reference, and beside it the library, if there is one."""
 
-    def __init__(self, tally, program, command):
+    def __init__(self, tally):
         self.tally = tally
-        self.program = program
-        self.command = shlex.split(command)
-        if self.command and shutil.which(self.command[0]) is None:
-            tally.check(False, "no program %s" % self.command[0])
-            self.command = []
+        self.reference = reference_run.build("reference_read", flags=SANITIZED,
+                                             parts=reference_run.READ)
+        self.library = reference_run.build_library_driver(tally)
+        self.compared = 0
 
-    def lines(self, pages):
-        return reference_run.read_many(self.program, [(page, room_for(page)) for page in pages])
+    def lines(self, told, pages):
+        """What the reference prints for each page, which the library prints too."""
+        return self.lines_in_rooms(told, [(page, room_for(page)) for page in pages])
 
-    def compare(self, told, page, lines):
-        """The reader under test prints what the reference does."""
-        if self.command:
-            got = reference_run.run(self.command[0], page, *self.command[1:])[0]
-            self.tally.check(got == lines, "%s: the reference %s, the reader %s"
-                             % (told, page_making.answer(lines), page_making.answer(got)))
+    def lines_in_rooms(self, told, pages):
+        """The same for each (page, room); `told` names one of them by its number."""
+        answers = reference_run.read_many(self.reference, pages)
+        if self.library is not None:
+            got = reference_run.read_many(self.library, pages)
+            wrong = [k for k in range(len(pages)) if got[k] != answers[k]]
+            for k in wrong[:5]:
+                self.tally.check(False, "%s: %s" % (told(k), difference(answers[k], got[k])))
+            if not wrong:
+                self.tally.check(True, "")
+            self.compared += len(pages)
+        return answers
+
+
+def difference(expected, got):
+    """The first line where the library does not say what the reference does."""
+    lines = zip(expected.splitlines() + ["no more"], got.splitlines() + ["no more"])
+    first = next((pair for pair in lines if pair[0] != pair[1]), ("", "other line ends"))
+    return "the reference says %s, the library %s" % first
 
 
 def check_table(tally, reader, cases):
@@ -55,7 +67,8 @@ def check_table(tally, reader, cases):
     tally.check([case.number for case in cases] == [str(k + 1) for k in range(len(cases))],
                 "the numbers of the table")
     tally.check(len({case.name for case in cases}) == len(cases), "a name stands twice")
-    answers = reference_run.read_many(reader.program, [(case.page, case.room) for case in cases])
+    answers = reader.lines_in_rooms(lambda k: cases[k].told(),
+                                    [(case.page, case.room) for case in cases])
     for case, lines in zip(cases, answers):
         tally.check(page_making.answer(lines) == case.answer,
                     "%s, but the reference says %s" % (case.told(), page_making.answer(lines)))
@@ -63,8 +76,21 @@ def check_table(tally, reader, cases):
             tally.check(lines == case.lines(), "%s: other records\n%s" % (case.told(), lines))
         if case.answer.startswith("done"):
             tally.check(inside(case.page, lines), "%s: data outside the page" % case.told())
-        if case.room == page_making.ROOM:
-            reader.compare(case.told(), case.page, lines)
+
+
+def check_rooms(tally, reader, cases):
+    """A page whose sheet has R records is read in any room from 28 R on, and in none below."""
+    good = [case for case in cases if case.answer.startswith("done") and len(case.page) <= LARGE]
+    for case in good:
+        least = RECORD * int(case.answer.split()[1])
+        rooms = [0, 1, RECORD, least - RECORD, least - 1, least, least + 1, least + RECORD, 100000]
+        whole, *answers = reader.lines_in_rooms(
+            lambda k, case=case, rooms=rooms: "%s, in room %s" % (case.told(), [least, *rooms][k]),
+            [(case.page, room) for room in [least, *rooms]])
+        wrong = [room for room, lines in zip(rooms, answers)
+                 if lines != (whole if room >= least else "refused 13 0\n")]
+        tally.check(page_making.answer(whole) == case.answer and not wrong,
+                    "%s: in room %s" % (case.told(), wrong))
 
 
 def refusal(lines):
@@ -87,6 +113,10 @@ def inside(page, lines):
     return True
 
 
+def made(what, words, answer):
+    return "%s: %s" % (what, words), b"".join(map(page_making.part, words.split())), answer
+
+
 def code_pages():
     """(what, page, answer): every marker code at three places of a layer, each time
     followed by 00 04 5A 5A, which is the rest of a segment that can be skipped."""
@@ -97,24 +127,42 @@ def code_pages():
         # before the frame, at 77
         answer = ("refused 11 79" if code == 0x01 else "refused 3 79" if frame
                   else "done 3" if skipped else "refused 11 77")
-        yield "before the frame", "head1 soi fax %s frame scan 12 eoi end" % octets, answer
+        yield made("before the frame", "head1 soi fax %s frame scan 12 eoi end" % octets, answer)
         # in scan data, where its marker is at 101; and outside of it, at 105
         for what, before, at in (("in scan data", "12", 101),
                                  ("behind a scan", "12FFDB0002", 105)):
             taken = skipped or code == 0xDA or (code in data and at == 101)
             answer = ("done 3" if taken else "refused 11 %d" % (at + 2) if code == 0x01
                       else "refused 2 %d" % (at + 2) if code == 0xD9 else "refused 11 %d" % at)
-            yield what, "head1 soi fax frame scan %s%s eoi end" % (before, octets), answer
+            yield made(what, "head1 soi fax frame scan %s%s eoi end" % (before, octets), answer)
 
 
-def check_codes(tally, reader):
-    """The classes of the 256 marker codes."""
-    pages = [("%s: %s" % (what, words), b"".join(map(page_making.part, words.split())), answer)
-             for what, words, answer in code_pages()]
-    for (told, page, answer), lines in zip(pages, reader.lines([page for _, page, _ in pages])):
+def position_pages():
+    """(what, page, answer): one pair at every octet of scan data, and one octet at
+    every place behind the end: a reader may well look at many octets at a time."""
+    before = b"".join(map(page_making.part, "head1 soi fax frame scan".split()))
+    end = b"\xff\xd9\xff\xd9\xff\xd9"
+    for k in range(POSITIONS):
+        yield "%d octets of scan data" % k, before + b"\xfe" * k + end, "done 3"
+        yield "scan data of %d octets to the end" % k, before + b"\xfe" * k, "refused 1 100"
+        yield "FF after %d octets to the end" % k, before + b"\xfe" * k + b"\xff", "refused 1 100"
+        for code in (0x00, 0xD0, 0xD7, 0x01, 0x02, 0xCF, 0xD8, 0xFF):
+            data = b"\xfe" * k + bytes([0xFF, code]) + b"\xfe" * (POSITIONS - k)
+            yield "FF %02X in scan data at %d" % (code, k), before + data + end, (
+                "done 3" if code in (0x00, 0xD0, 0xD7)
+                else "refused 11 %d" % (len(before) + k + 2 * (code == 0x01)))
+        zeros = bytearray(POSITIONS)
+        zeros[k] = 1 + k
+        yield "zeros but at %d" % k, before + end + zeros, "refused 12 %d" % (
+            len(before) + len(end) + k)
+
+
+def check_pages(tally, reader, pages):
+    """Pages whose answers are known: (what, page, answer)."""
+    answers = reader.lines(lambda k: pages[k][0], [page for _, page, _ in pages])
+    for (told, _, answer), lines in zip(pages, answers):
         tally.check(page_making.answer(lines) == answer, "%s: %s, but the reference says %s"
                     % (told, answer, page_making.answer(lines)))
-        reader.compare(told, page, lines)
 
 
 def is_good_cut(page, size, lines, whole):
@@ -146,33 +194,33 @@ def check_cuts(tally, reader, cases, rng):
         if case.room != page_making.ROOM or len(case.page) > 16777215:
             continue
         sizes = cuts(rng, case.page)
-        pages = [case.page[:size] for size in sizes]
-        whole, *answers = reader.lines([case.page] + pages)
+        whole, *answers = reader.lines(
+            lambda k, case=case, sizes=sizes: "%s, cut at %d"
+            % (case.told(), [len(case.page), *sizes][k]),
+            [case.page] + [case.page[:size] for size in sizes])
         wrong = [size for size, lines in zip(sizes, answers)
                  if not is_good_cut(case.page, size, lines, whole)]
         tally.check(not wrong, "%s: cut at %s" % (case.told(), wrong[:5]))
         made += len(sizes)
-        for k in rng.sample(range(len(sizes)), min(CUTS_COMPARED, len(sizes))):
-            reader.compare("%s, cut at %d" % (case.told(), sizes[k]), pages[k], answers[k])
     print("%d cut pages" % made)
 
 
 def check_good(tally, reader, rng):
     """Pages that keep every rule give just the records that they were made of."""
     pages = [page_making.random_page(rng) for _ in range(GOOD)]
-    answers = reader.lines([page for page, _ in pages])
+    answers = reader.lines(lambda k: "random page %d" % k, [page for page, _ in pages])
     for k, ((page, expected), lines) in enumerate(zip(pages, answers)):
         tally.check(lines == expected, "random page %d: %s for %s"
                     % (k, page_making.answer(lines), page_making.answer(expected)))
         tally.check(inside(page, lines), "random page %d: data outside the page" % k)
-        reader.compare("random page %d" % k, page, lines)
 
 
 def check_damaged(tally, reader, rng):
     """Damaged pages: an answer within the page, and every refusal is reached."""
     pages = [page_making.damaged(rng, page_making.random_page(rng)[0]) for _ in range(DAMAGED)]
     numbers = collections.Counter()
-    for k, (page, lines) in enumerate(zip(pages, reader.lines(pages))):
+    answers = reader.lines(lambda k: "damaged page %d" % k, pages)
+    for k, (page, lines) in enumerate(zip(pages, answers)):
         refused = refusal(lines)
         if refused is not None:
             holds = refused[1] <= len(page)
@@ -180,7 +228,6 @@ def check_damaged(tally, reader, rng):
             holds = lines[:1].isdigit() and inside(page, lines)
         tally.check(holds, "damaged page %d: %s" % (k, page_making.answer(lines)))
         numbers[refused[0] if refused else 0] += 1
-        reader.compare("damaged page %d" % k, page, lines)
     print("%d damaged pages: %s" % (len(pages), ", ".join(
         "answer %d %d times" % each for each in sorted(numbers.items()))))
     missing = set(range(13)) - set(numbers)
@@ -191,14 +238,16 @@ def main():
     seed = int(os.environ.get("SEED") or random.randrange(2 ** 32))
     print("SEED=%d" % seed)
     tally = reference_run.Tally()
-    program = reference_run.build("reference_read", flags=SANITIZED, parts=reference_run.READ)
-    reader = Reader(tally, program, os.environ.get("READER", ""))
+    reader = Reader(tally)
     cases = page_making.table()
     check_table(tally, reader, cases)
-    check_codes(tally, reader)
+    check_rooms(tally, reader, cases)
+    check_pages(tally, reader, [*code_pages(), *position_pages()])
     check_cuts(tally, reader, cases, random.Random(seed))
     check_good(tally, reader, random.Random(seed + 1))
     check_damaged(tally, reader, random.Random(seed + 2))
+    if reader.library is not None:
+        print("%d pages read by the reference and by the library" % reader.compared)
     return tally.end()
 
 

@@ -1,0 +1,56 @@
+/* Spirerook reads a mixed raster page (T.44, Mode 1) into a table of its layers, the sheet.
+ *
+ * Link build/libspirerook.a.  No call allocates, keeps anything or calls back: a caller lends octets for the time of a call, a length beside each
+ * pointer.  Any octets of any length may be lent; a null pointer with length 0 too.  What is lent for writing may not overlap anything else
+ * that is lent.  All numbers in octets are most significant octet first. */
+#ifndef SPIREROOK_H
+#define SPIREROOK_H
+
+#include <stddef.h>
+#include <stdint.h>
+
+#ifdef __cplusplus
+extern "C" {
+#endif
+
+/* The numbers of the paper.  Reading gives 0 to 13 and 18. */
+enum {
+    SPIREROOK_DONE = 0,         /* the work was done */
+    SPIREROOK_SHORT = 1,        /* a field, or coded data, does not fit whole */
+    SPIREROOK_BAD_MARK = 2,     /* a page marker or ident due is not there */
+    SPIREROOK_BAD_LENGTH = 3,   /* a segment length breaks its rule */
+    SPIREROOK_BAD_VERSION = 4,  /* version not 0 */
+    SPIREROOK_BAD_MODE = 5,     /* mode not 1; in writing, a layer above 3 */
+    SPIREROOK_BAD_CODER = 6,    /* coder octet not listed */
+    SPIREROOK_BAD_RES = 7,      /* main resolution not listed, or a layer's not listed or no divisor of it */
+    SPIREROOK_BAD_WIDTH = 8,    /* page width outside 1 to 32,768 */
+    SPIREROOK_BAD_TYPE = 9,     /* stripe type not taken, or it names a layer whose coder octet is 0 */
+    SPIREROOK_BAD_STRIPE = 10,  /* height, sum of heights, offset or mask length wrong; a 65th stripe; none */
+    SPIREROOK_BAD_LAYER = 11,   /* the walk over a JPEG layer breaks a rule other than 1, 3 and 7 */
+    SPIREROOK_TRAILING = 12,    /* an octet other than 0 after the end */
+    SPIREROOK_NO_ROOM = 13,     /* the output buffer is smaller than the result */
+    SPIREROOK_BAD_SHEET = 14,   /* a rule of the sheet is broken */
+    SPIREROOK_BAD_PLANE = 15,   /* a listed layer is absent, uncoded, out of order, or runs past the samples */
+    SPIREROOK_MISMATCH = 16,    /* in writing, a layer's data and its record disagree, or two masks have different coders */
+    SPIREROOK_BAD_LINE = 17,    /* no such stripe, line or layer */
+    SPIREROOK_TOO_LONG = 18     /* a page of more than 16,777,215 octets */
+};
+
+/* number: one of the above.
+ * place:  of a refusal, the first octet of the field at fault, from 0; it may equal the page's length, where a field is missing at its end.
+ *         Done, NoRoom and TooLong have place 0.
+ * count:  of Done, what was written; a refusal has 0. */
+typedef struct {
+    uint32_t number, place;
+    uint64_t count;
+} spirerook_answer;
+
+/* Reads a page into the sheet: records of 28 octets, three a stripe, and count tells how many.  5,376 octets hold the sheet of any Mode 1 page.
+ * Octets of the buffer past the records stay as they were.  A refusal changes no octet of it: the page is judged first, then the room. */
+spirerook_answer spirerook_read(const uint8_t *page, size_t page_len, uint8_t *sheet, size_t sheet_len);
+
+#ifdef __cplusplus
+}
+#endif
+
+#endif
