@@ -1,0 +1,2 @@
+-- What is proved of writing a page.
+-- Assumes nothing.

@@ -1,0 +1,73 @@
+-- What is said of the pages that are written.
+--
+--   bare r       the record without the start of its coded data: all but octets 18 to 21 of a coded record
+--   Trim ..      in each stripe of a page an absent layer's offsets are 0
+--   Used ..      some coded layer among the records is of a kind
+--   Formed s rs  the octets s are a page with the records rs, in the writer's form
+use Prim.Native.Nat.{ℕ}
+use mathlib.Core.Path.{_≡_}
+use mathlib.Core.Logic.{_≢_}
+use mathlib.Core.Bool.{false, cond}
+use mathlib.Core.List.{List, []}
+use Rattle.sheet_rules.specs.declared.Record.{Record}
+use Rattle.sheet_rules.specs.Judge.{coded}
+use Rattle.sheet_rules.specs.Sentences.{Among, Coded}
+use Rattle.page_rules.specs.declared.Head.{Head}
+use Rattle.page_rules.specs.Kinds.{hasBack, hasFore}
+use Rattle.page_rules.specs.Grammar.{Stripe, Stripes, last, next, Page}
+
+-- the record with another start
+abbrev pub startAt : Record → ℕ → Record
+startAt r start =
+    record {
+      stripe = r .stripe;
+      layer = r .layer;
+      coder = r .coder;
+      x = r .x;
+      y = r .y;
+      width = r .width;
+      height = r .height;
+      res = r .res;
+      base0 = r .base0;
+      base1 = r .base1;
+      base2 = r .base2;
+      octet17 = r .octet17;
+      start = start;
+      len = r .len;
+      octets26 = r .octets26;
+    }
+
+unfoldable pub bare : Record → Record
+bare r = startAt r (cond (coded r) 0 (r .start))
+
+-- ---- the writer's form, of a page
+
+pub record TrimStripe {hd : Head} {k left at : ℕ} {l : List ℕ} {height : ℕ} {rs : List Record} (z : Stripe hd k left at l height rs) : Type 0 where
+  pub back : hasBack (z .fields .type) ≡ false → (z .fields .backX ≡ 0) × (z .fields .backY ≡ 0)
+  pub fore : hasFore (z .fields .type) ≡ false → (z .fields .foreX ≡ 0) × (z .fields .foreY ≡ 0)
+
+unfoldable pub Trim : {hd : Head} {k left at : ℕ} {l : List ℕ} {rs : List Record} → Stripes hd k left at l rs → Type 0
+Trim (last some) = Unit {0}
+Trim (next height few z rest) = TrimStripe z × Trim rest
+
+-- a coded layer among the records: a mask, or an image layer
+pub record UsedMask (rs : List Record) : Type 0 where
+  pub it : Record
+  pub among : Among it rs
+  pub mask : it .layer ≡ 2
+  pub coded : Coded it
+
+pub record UsedImage (rs : List Record) : Type 0 where
+  pub it : Record
+  pub among : Among it rs
+  pub image : it .layer ≢ 2
+  pub coded : Coded it
+
+pub record Formed (s : List ℕ) (rs : List Record) : Type 0 where
+  pub page : Page s rs
+  -- each coder octet is the coder used, or 0 (a page's coded layers have the coder that its octet names)
+  pub mask : page .head .mask ≢ 0 → UsedMask rs
+  pub image : page .head .image ≢ 0 → UsedImage rs
+  pub offsets : Trim (page .striped)
+  pub optionals : page .optionals ≡ []
+  pub padding : page .zeros ≡ 0
