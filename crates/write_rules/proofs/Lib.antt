@@ -1,1 +1,3 @@
+pub mod Agreed
+pub mod Passed
 pub mod Theorems

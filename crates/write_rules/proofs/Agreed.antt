@@ -1,0 +1,90 @@
+-- The tests of one record and the sentences about it say the same.
+-- Assumes nothing.
+use Prim.Native.Nat.{ℕ, _+_, _-_, _%_, _≤_, _<_}
+use native.Mathlib.Omega.{arith}
+use mathlib.Core.Path.{_≡_, refl, sym, ap, subst, _∙_}
+use mathlib.Core.Logic.{_⊎_, inl, inr, _≢_, ⊎-elim}
+use mathlib.Core.Bool.{Bool, true, false, _&&_, _||_, not, cond, false≢true}
+use mathlib.Core.List.{List, [], _∷_, _++_, append-nil}
+use lib.ListN.{length, take, drop, length-drop}
+use lib.Seq.{length-take-le, take-all}
+use lib.Dec.{eqb, ltb}
+use borrow.Author.Tests.{ltb-true, ltb-false}
+use Rattle.octets.specs.Octets.{Octets}
+use Rattle.octets.proofs.Laws.{octets-take, octets-drop}
+use Rattle.cases.proofs.Cases.{cond-with, clash}
+use Rattle.cases.proofs.Says.{Says, says-eq, says-true, says-false, says-and, says-or, says-as}
+use Rattle.answers.specs.declared.Answer.the-variants.{Short, Mismatch}
+use Rattle.field_rules.specs.Field.{Res, ok, no}
+use Rattle.sheet_rules.specs.declared.Record.{Record}
+use Rattle.sheet_rules.specs.Judge.{coded}
+use Rattle.sheet_rules.specs.Sentences.{Coded}
+use Rattle.sheet_rules.proofs.New.{says-coded}
+use Rattle.jpeg_rules.specs.declared.Walk.{Walk}
+use Rattle.jpeg_rules.specs.declared.Walk.the-variants.{Ends, Refused}
+use Rattle.jpeg_rules.specs.Grammar.{Layer}
+use Rattle.jpeg_rules.specs.Walk.{walkOf}
+use Rattle.jpeg_rules.proofs.There.{layer-walk}
+use Rattle.jpeg_rules.proofs.Theorems.{walk-exactly}
+use Rattle.write_rules.specs.declared.Tally.{Tally}
+use Rattle.write_rules.specs.Layer.{dataOf, endsAs, agrees}
+use Rattle.write_rules.specs.Writing.{isMask, counted, matches, recordStep}
+
+-- a choice between two tests
+says-cond : {a b c : Bool} {P Q R : Type 0} → Says a P → Says b Q → Says c R → Says (cond a b c) ((P → Q) × ((P → ⊥) → R))
+says-cond {a = true} p q r = record { told = λ e. (λ x. q .told e, λ x. absurd (x (p .told refl))); shown = λ k. q .shown (k .0 (p .told refl)) }
+says-cond {a = false} p q r =
+    record { told = λ e. (λ x. absurd (false≢true (p .shown x)), λ x. r .told e); shown = λ k. r .shown (k .1 (λ x. false≢true (p .shown x))) }
+
+-- ---- agreement
+
+says-ends : (x : Walk) (r : Record) → Says (endsAs x r) (x ≡ Ends (r .len) (r .width) (r .height) (r .res))
+says-ends (Ends n w h s) r =
+    says-as (says-and (says-and (says-and (says-eq n (r .len)) (says-eq w (r .width))) (says-eq h (r .height))) (says-eq s (r .res)))
+    (λ k. let a = k .0 .0 .0 in let b = k .0 .0 .1 in let c = k .0 .1 in let d = k .1 in cc)
+    (λ e. (((cc, cc), cc), cc))
+says-ends (Refused f) r = says-as says-false (λ k. absurd k) (λ e. clash cc)
+
+module _ (d : List ℕ) (o : Octets d) (r : Record) (h : r .start + r .len ≤ length d) where
+  pub length-data : length (dataOf d r) ≡ r .len
+  length-data = length-take-le (r .len) (drop (r .start) d) (let l = length-drop (r .start) d in omega arith)
+
+  -- the walk of a record's data ends as the record says exactly if they are such a layer
+  pub says-agrees : (main : ℕ) → Says (agrees d main r) (Layer main (dataOf d r) (r .width) (r .height) (r .res))
+  unfolding agrees
+  says-agrees main = says-as (says-ends (walkOf (dataOf d r) 0 main) r) to back
+    where
+      to : walkOf (dataOf d r) 0 main ≡ Ends (r .len) (r .width) (r .height) (r .res) → Layer main (dataOf d r) (r .width) (r .height) (r .res)
+      to e =
+          let y = walk-exactly (dataOf d r) (octets-take (r .len) (drop (r .start) d) (octets-drop (r .start) d o)) 0 main (r .len) (r .width) (r .height) (r .res) .0 e in
+          let n = length-data in
+          subst (λ (l : List ℕ). Layer main l (r .width) (r .height) (r .res)) (take-all (r .len - 0) (dataOf d r) (omega arith)) (y .layer)
+
+      back : Layer main (dataOf d r) (r .width) (r .height) (r .res) → walkOf (dataOf d r) 0 main ≡ Ends (r .len) (r .width) (r .height) (r .res)
+      back y =
+          let n = length-data in
+          let z : 0 + length (dataOf d r) ≡ r .len = omega arith in
+          layer-walk (dataOf d r) 0 main (dataOf d r) [] (r .width) (r .height) (r .res) y (sym (append-nil (dataOf d r)))
+          ∙ ap (λ (k : ℕ). Ends k (r .width) (r .height) (r .res)) z
+
+  -- what is asked of a record
+  abbrev pub Meets : ℕ → Tally → Type 0
+  Meets main t =
+      Coded r → (r .layer ≡ 2 → (t .mask ≡ 0) ⊎ (t .mask ≡ r .coder)) × ((r .layer ≡ 2 → ⊥) → Layer main (dataOf d r) (r .width) (r .height) (r .res))
+
+  pub says-matches : (main : ℕ) (t : Tally) → Says (matches d main t r) (Meets main t)
+  unfolding matches
+  says-matches main t =
+      says-as
+      (says-cond (says-coded r) (says-cond (says-eq (r .layer) 2) (says-or (says-eq (t .mask) 0) (says-eq (t .mask) (r .coder))) (says-agrees main)) (says-true true))
+      (λ k. k .0) (λ k. (k, λ x. refl))
+
+-- ---- one record
+
+pub step-cases : (P : Res Tally → Type 0) (d : List ℕ) (main : ℕ) (t : Tally) (i : ℕ) (r : Record) → (length d < r .start + r .len → P (no (Short i)))
+    → (r .start + r .len ≤ length d → matches d main t r ≡ true → P (ok (counted t r) (i + 1)))
+    → (r .start + r .len ≤ length d → matches d main t r ≡ false → P (no (Mismatch i))) → P (recordStep d main t i r)
+unfolding recordStep
+step-cases P d main t i r short on off =
+    cond-with P (ltb (length d) (r .start + r .len)) (λ e. short (ltb-true (length d) (r .start + r .len) e)) λ e.
+    cond-with P (matches d main t r) (λ m. on (ltb-false (length d) (r .start + r .len) e) m) (λ m. off (ltb-false (length d) (r .start + r .len) e) m)
