@@ -93,9 +93,9 @@ length-head f = refl
 
 -- ---- the state where a stripe begins
 
-record Ready (hd : Head) (k left : ℕ) (st : State) : Type 0 where
-  place : ((k ≡ 0) × (st .stripe ≡ 0) × (st .layer ≡ 0)) ⊎ ((st .stripe + 1 ≡ k) × (st .layer ≡ 3) × (st .main ≡ hd .main) × (st .width ≡ hd .width))
-  left-is : st .left ≡ left
+pub record Ready (hd : Head) (k left : ℕ) (st : State) : Type 0 where
+  pub place : ((k ≡ 0) × (st .stripe ≡ 0) × (st .layer ≡ 0)) ⊎ ((st .stripe + 1 ≡ k) × (st .layer ≡ 3) × (st .main ≡ hd .main) × (st .width ≡ hd .width))
+  pub left-is : st .left ≡ left
 
 -- ---- the mask's record
 
@@ -120,15 +120,15 @@ mask-facts hd k height at n false g c w h small m =
 -- ---- the states behind the three records
 
 module _ (st : State) (r : Record) where
-  after-is-1 : r .layer ≡ 1 → after st r ≡ after1 st r
+  pub after-is-1 : r .layer ≡ 1 → after st r ≡ after1 st r
   unfolding after
   after-is-1 e = simp (eq-eqb (r .layer) 1 e)
 
-  after-is-2 : r .layer ≡ 2 → after st r ≡ after2 st r
+  pub after-is-2 : r .layer ≡ 2 → after st r ≡ after2 st r
   unfolding after
   after-is-2 e = simp (ne-eqb (r .layer) 1 (λ z. omega arith), eq-eqb (r .layer) 2 e)
 
-  after-is-3 : r .layer ≡ 3 → after st r ≡ after3 st r
+  pub after-is-3 : r .layer ≡ 3 → after st r ≡ after3 st r
   unfolding after
   after-is-3 e = simp (ne-eqb (r .layer) 1 (λ z. omega arith), ne-eqb (r .layer) 2 (λ z. omega arith))
 

@@ -1,3 +1,4 @@
 pub mod Agreed
 pub mod Passed
+pub mod Threes
 pub mod Theorems
