@@ -1,4 +1,5 @@
 pub mod Agreed
 pub mod Passed
 pub mod Threes
+pub mod Answered
 pub mod Theorems
