@@ -11,6 +11,7 @@ use lib.Dec.{eqb, ltb}
 use borrow.Author.Tests.{eq-eqb, ne-eqb, le-ltb, ltb-false}
 use Rattle.octets.specs.Octets.{Octets}
 use Rattle.cases.proofs.Cases.{cond-with, clash}
+use Rattle.cases.proofs.Says.{says-eq, says-else}
 use Rattle.answers.specs.declared.Answer.{Answer}
 use Rattle.answers.specs.declared.Answer.the-variants.{Short, BadMode, BadSheet, Mismatch}
 use Rattle.field_rules.specs.Field.{Res, ok, no, bind}
@@ -101,6 +102,20 @@ verdict-there s d o sh w low p =
     let y = pass-there d o (mainOf (records s)) begun 0 (records s) (sheet-plain (records s) sh low) p (λ r m c e. inl refl) in
     let z : 0 + length (records s) ≡ length (records s) = omega arith in
     (y .0, ap (λ (v : Verdict). verdictBy v d (records s)) g ∙ ap (λ (x : Res ℕ). bind x (λ (j e : ℕ). recordsPass d (mainOf (records s)) begun 0 (records s))) m ∙ y .1 ∙ ap (ok (y .0)) z)
+
+-- what passed names its layers, and the masks have one coder
+pub passed-passing : (s d : List ℕ) (u : Tally) → Accepted s d u → Passing d (mainOf (records s)) (records s)
+passed-passing s d u k =
+    let p = k .passed in
+    record {
+      named = λ r m c.
+          record {
+            inside = p .inside r m;
+            layer =
+                ⊎-elim (λ (e : r .layer ≡ 2). inl e) (λ (e : r .layer ≢ 2). inr (p .layer r m c e)) (says-else (says-eq (r .layer) 2));
+          };
+      coders = λ r q m j c w e f. sym (p .mask r m c e) ∙ p .mask q j w f;
+    }
 
 -- a refusal of the sheet, of the mode or of a record, at one of the records or where the next was due
 pub record Refusal (n : ℕ) (a : Answer) : Type 0 where
