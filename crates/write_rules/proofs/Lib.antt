@@ -2,4 +2,5 @@ pub mod Agreed
 pub mod Passed
 pub mod Threes
 pub mod Answered
+pub mod Placed
 pub mod Theorems
