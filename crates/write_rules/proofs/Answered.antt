@@ -152,10 +152,10 @@ verdict-refused s d a q = by (judgeOf s) refl q
 
 -- ---- the size: 26 octets, 39 a stripe, and the coded data
 
-size-first : (r : Record) → r .layer ≡ 1 → sizeIn r ≡ 39 + r .len
+pub size-first : (r : Record) → r .layer ≡ 1 → sizeIn r ≡ 39 + r .len
 size-first r e = ap (λ (b : Bool). only b 39 + r .len) (eq-eqb (r .layer) 1 e)
 
-size-other : (r : Record) → r .layer ≢ 1 → sizeIn r ≡ r .len
+pub size-other : (r : Record) → r .layer ≢ 1 → sizeIn r ≡ r .len
 size-other r e = let z : 0 + r .len ≡ r .len = omega arith in ap (λ (b : Bool). only b 39 + r .len) (ne-eqb (r .layer) 1 e) ∙ z
 
 abbrev pub lengths : List Record → ℕ

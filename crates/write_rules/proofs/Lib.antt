@@ -3,4 +3,5 @@ pub mod Passed
 pub mod Threes
 pub mod Answered
 pub mod Placed
+pub mod Lands
 pub mod Theorems

@@ -42,7 +42,7 @@ plain-tail r rs p =
       start = λ q m. p .start q (List·Memᴰ·tail m);
     }
 
-coder-nonzero : (layer coder : ℕ) → CoderOf layer coder → coder ≢ 0
+pub coder-nonzero : (layer coder : ℕ) → CoderOf layer coder → coder ≢ 0
 coder-nonzero layer coder (inl e) z = omega arith
 coder-nonzero layer coder (inr (e, inl f)) z = omega arith
 coder-nonzero layer coder (inr (e, inr (inl f))) z = omega arith
