@@ -4,4 +4,5 @@ pub mod Threes
 pub mod Answered
 pub mod Placed
 pub mod Lands
+pub mod Written
 pub mod Theorems

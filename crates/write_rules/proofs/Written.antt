@@ -1,0 +1,161 @@
+-- The page that is written: of the grammar, in the writer's form, with the records and the data that were lent.
+-- Assumes nothing.
+use Prim.Native.Nat.{ℕ, zero, suc, _+_, _-_, _*_, _/_, _≤_, _<_}
+use native.Mathlib.Omega.{arith}
+use mathlib.Core.Path.{_≡_, refl, sym, ap, subst, _∙_}
+use mathlib.Core.Logic.{_⊎_, inl, inr, _≢_, ⊎-elim}
+use mathlib.Core.Bool.{Bool, true, false, cond}
+use mathlib.Core.List.{List, [], _∷_, _++_, map, List·Memᴰ·head, List·Memᴰ·tail, List·Memᴰ·cases-cons, List·Memᴰ·not-nil}
+use lib.ListN.{length, take, drop, length-append, replicate}
+use Rattle.octets.specs.Octets.{Octets}
+use Rattle.octets.proofs.Laws.{drop-next, be16-bound, be32-bound}
+use Rattle.cases.proofs.Cases.{clash}
+use Rattle.sheet_rules.specs.declared.Record.{Record}
+use Rattle.sheet_rules.specs.Record.{recordSize, recordAt, recordsFrom, records, nth, sumOf}
+use Rattle.sheet_rules.specs.Sentences.{Among, Coded, CoderOf, Listed, Sheet}
+use Rattle.page_rules.specs.declared.Head.{Head}
+use Rattle.page_rules.specs.Grammar.{startOf, MaskCoder, ImageCoder, GoodHead, no-more, Stripes, Page}
+use Rattle.page_rules.proofs.There.{length-start}
+use Rattle.write_rules.specs.declared.Tally.{Tally}
+use Rattle.write_rules.specs.Layer.{dataOf}
+use Rattle.write_rules.specs.Writing.{begun, mainOf, headBy, stripesBy, pageBy}
+use Rattle.write_rules.specs.Form.{bare, Trim, UsedMask, UsedImage, Formed}
+use Rattle.write_rules.proofs.Agreed.{length-data}
+use Rattle.write_rules.proofs.Passed.{sizeIn, Passed}
+use Rattle.write_rules.proofs.Threes.{Three, Threes, ended, another, sheet-threes}
+use Rattle.write_rules.proofs.Answered.{Low}
+use Rattle.write_rules.proofs.Lands.{Sized, Ready, movedBy, Landed, stripes-land, moved-same, moved-data, length-stripes}
+
+-- ---- the numbers of a sheet's records are small
+
+at-sized : (s : List ℕ) → Octets s → (i : ℕ) → Sized (recordAt s i)
+unfolding recordAt
+at-sized s o i =
+    let x = be16-bound s (i * recordSize + 4) o in
+    let y = be16-bound s (i * recordSize + 6) o in
+    record {
+      base = (o (i * recordSize + 14), o (i * recordSize + 15), o (i * recordSize + 16));
+      offset = (omega arith, omega arith);
+      len = be32-bound s (i * recordSize + 22) o;
+    }
+
+from-sized : (s : List ℕ) → Octets s → (k i : ℕ) (r : Record) → Among r (recordsFrom s k i) → Sized r
+unfolding recordsFrom
+from-sized s o zero i r m = absurd (List·Memᴰ·not-nil m)
+from-sized s o (suc k) i r m = ⊎-elim (λ (e : r ≡ recordAt s i). subst Sized (sym e) (at-sized s o i)) (λ m2. from-sized s o k (i + 1) r m2) (List·Memᴰ·cases-cons m)
+
+pub records-sized : (s : List ℕ) → Octets s → (r : Record) → Among r (records s) → Sized r
+unfolding records
+records-sized s o r m = from-sized s o (length s / recordSize) 0 r m
+
+-- ---- records that are the same but for their starts
+
+pub same-among : (qs rs : List Record) → map bare qs ≡ map bare rs → (r : Record) → Among r rs → (q : Record) × Among q qs × (bare q ≡ bare r)
+same-among [] [] e r m = absurd (List·Memᴰ·not-nil m)
+same-among [] (x ∷ rs) e r m = clash cc
+same-among (y ∷ qs) [] e r m = clash cc
+same-among (y ∷ qs) (x ∷ rs) e r m =
+    let f : bare y ≡ bare x = cc in
+    let g : map bare qs ≡ map bare rs = cc in
+    ⊎-elim (λ (z : r ≡ x). (y, List·Memᴰ·head refl, f ∙ ap bare (sym z)))
+    (λ m2. let k = same-among qs rs g r m2 in (k .0, List·Memᴰ·tail (k .1), k .2))
+    (List·Memᴰ·cases-cons m)
+
+bare-layer : (q r : Record) → bare q ≡ bare r → (q .layer ≡ r .layer) × (q .len ≡ r .len)
+unfolding bare
+bare-layer q r e = (ap (λ (x : Record). x .layer) e, ap (λ (x : Record). x .len) e)
+
+used-mask-same : (qs rs : List Record) → map bare qs ≡ map bare rs → UsedMask rs → UsedMask qs
+used-mask-same qs rs e w =
+    let k = same-among qs rs e (w .it) (w .among) in
+    let b = bare-layer (k .0) (w .it) (k .2) in
+    record { it = k .0; among = k .1; mask = b .0 ∙ w .mask; coded = λ z. w .coded (sym (b .1) ∙ z) }
+
+used-image-same : (qs rs : List Record) → map bare qs ≡ map bare rs → UsedImage rs → UsedImage qs
+used-image-same qs rs e w =
+    let k = same-among qs rs e (w .it) (w .among) in
+    let b = bare-layer (k .0) (w .it) (k .2) in
+    record { it = k .0; among = k .1; image = λ z. w .image (sym (b .0) ∙ z); coded = λ z. w .coded (sym (b .1) ∙ z) }
+
+-- ---- the start of page
+
+mask-coder : (layer coder : ℕ) → CoderOf layer coder → MaskCoder coder
+mask-coder layer coder (inl e) = inr (inl e)
+mask-coder layer coder (inr (f, inl e)) = inr (inr (inl e))
+mask-coder layer coder (inr (f, inr (inl e))) = inr (inr (inr (inl e)))
+mask-coder layer coder (inr (f, inr (inr e))) = inr (inr (inr (inr e)))
+
+head-facts : {hd : Head} {left : ℕ} {rs : List Record} → Threes hd 0 left rs → Listed (hd .main) × ((1 ≤ hd .width) × (hd .width ≤ 32768))
+head-facts (ended p) = absurd (omega arith)
+head-facts (another t more) = (t .listed, t .wide)
+
+module _ (d : List ℕ) (o : Octets d) (rs : List Record) (u : Tally) (sh : Sheet rs) (low : Low rs) (sized : (r : Record) → Among r rs → Sized r)
+    (p : Passed d (mainOf rs) begun u rs) where
+  pub threes : Threes (headBy rs u) 0 65535 rs
+  threes = sheet-threes rs sh low (headBy rs u) refl refl
+
+  pub long : (r : Record) → Among r rs → length (dataOf d r) ≡ r .len
+  long r m = length-data d o r (p .inside r m)
+
+  ready : Ready d (headBy rs u) rs
+  ready = record { sized = sized; long = long; layer = p .layer; mask = p .mask; image = p .image }
+
+  good-head : GoodHead (headBy rs u)
+  good-head =
+      let h = head-facts threes in
+      record {
+        mask =
+            ⊎-elim (λ (e : u .mask ≡ 0). inl e)
+            (λ (w : UsedMask rs).
+            subst MaskCoder (sym (p .mask (w .it) (w .among) (w .coded) (w .mask)))
+            (mask-coder (w .it .layer) (w .it .coder) (sh .unbroken .coder (w .it) (w .among) (w .coded))))
+            (p .maskUsed);
+        image = ⊎-elim (λ (e : u .image ≡ 0). inl e) (λ (w : UsedImage rs). inr (p .image (w .it) (w .among) (w .coded) (w .image))) (p .imageUsed);
+        main = h .0;
+        width = h .1;
+      }
+
+  pub written-same : map bare (movedBy d 22 rs) ≡ map bare rs
+  written-same = moved-same threes d 22
+
+  -- every page that is written has the writer's form
+  pub written-formed : Formed (pageBy d rs u) (movedBy d 22 rs)
+  unfolding pageBy
+  written-formed =
+      let l = stripes-land threes d 22 ready in
+      record {
+        page =
+            record {
+              head = headBy rs u;
+              optionals = [];
+              stripes = stripesBy d rs;
+              zeros = 0;
+              octets = refl;
+              good = good-head;
+              optional = no-more;
+              striped = l .striped;
+            };
+        mask = λ nz. used-mask-same (movedBy d 22 rs) rs written-same (⊎-elim (λ (e : u .mask ≡ 0). absurd (nz e)) (λ (w : UsedMask rs). w) (p .maskUsed));
+        image = λ nz. used-image-same (movedBy d 22 rs) rs written-same (⊎-elim (λ (e : u .image ≡ 0). absurd (nz e)) (λ (w : UsedImage rs). w) (p .imageUsed));
+        offsets = l .trim;
+        optionals = refl;
+        padding = refl;
+      }
+
+  -- the layers' octets are those that were lent
+  pub written-layers : map (dataOf (pageBy d rs u)) (movedBy d 22 rs) ≡ map (dataOf d) rs
+  unfolding pageBy
+  written-layers =
+      let e = drop-next (pageBy d rs u) (startOf (headBy rs u)) (stripesBy d rs ++ (0xFF ∷ 0xD9 ∷ 0xFF ∷ 0xD9 ∷ [])) 0 refl in
+      let n : 0 + length (startOf (headBy rs u)) ≡ 22 = let l = length-start (headBy rs u) in omega arith in
+      moved-data threes d (pageBy d rs u) (0xFF ∷ 0xD9 ∷ 0xFF ∷ 0xD9 ∷ []) 22 long (ap (λ (j : ℕ). drop j (pageBy d rs u)) (sym n) ∙ e)
+
+  pub length-written : length (pageBy d rs u) ≡ u .size
+  unfolding pageBy
+  length-written =
+      let a = length-start (headBy rs u) in
+      let b = length-append (startOf (headBy rs u)) (stripesBy d rs ++ (0xFF ∷ 0xD9 ∷ 0xFF ∷ 0xD9 ∷ [])) in
+      let c = length-append (stripesBy d rs) (0xFF ∷ 0xD9 ∷ 0xFF ∷ 0xD9 ∷ []) in
+      let e = length-stripes threes d long in
+      let f = p .size in
+      omega arith
