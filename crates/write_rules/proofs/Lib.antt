@@ -5,4 +5,6 @@ pub mod Answered
 pub mod Placed
 pub mod Lands
 pub mod Written
+pub mod Sheets
+pub mod Lent
 pub mod Theorems

@@ -1,0 +1,167 @@
+-- A page that was read, lent to the writer with its sheet: its records pass, and give its stripes.
+-- Assumes nothing.
+use Prim.Native.Nat.{ℕ, suc, _+_, _-_, _/_, _%_, _≤_, _<_}
+use native.Mathlib.Omega.{arith}
+use mathlib.Core.Path.{_≡_, refl, sym, ap, ap₂, subst, _∙_}
+use mathlib.Core.Logic.{_⊎_, inl, inr, _≢_, ⊎-elim}
+use mathlib.Core.Bool.{Bool, true, false, not, cond, false≢true}
+use mathlib.Core.List.{List, [], _∷_, _++_, append-assoc, List·Memᴰ·cases-cons, List·Memᴰ·not-nil, List·Memᴰ·append-cases}
+use lib.ListN.{length, take, drop, length-append}
+use lib.Seq.{take-at}
+use lib.Dec.{eqb}
+use borrow.Author.Tests.{eq-eqb, ne-eqb}
+use Rattle.octets.proofs.Laws.{drop-next}
+use Rattle.cases.proofs.Cases.{bool-else}
+use Rattle.sheet_rules.specs.declared.Record.{Record}
+use Rattle.sheet_rules.specs.Record.{nth, sumOf}
+use Rattle.sheet_rules.specs.Judge.{coded}
+use Rattle.sheet_rules.specs.Sentences.{Among, Coded}
+use Rattle.sheet_rules.proofs.Among.{sum-append}
+use Rattle.jpeg_rules.specs.Grammar.{Layer}
+use Rattle.page_rules.specs.declared.Head.{Head}
+use Rattle.page_rules.specs.declared.Coded.{Coded as Data}
+use Rattle.page_rules.specs.declared.Coded.the-variants.{There, Absent}
+use Rattle.page_rules.specs.Kinds.{hasBack, hasMask, hasFore, Colour, Fields, imageRecord, maskRecord}
+use Rattle.page_rules.specs.Grammar.{headOf, TypeOf, Widths, GoodFields, Image, there, absent, Stripe, Stripes, last, next}
+use Rattle.page_rules.proofs.Accepted.{length-head}
+use Rattle.write_rules.specs.Layer.{dataOf}
+use Rattle.write_rules.specs.Writing.{typeBy, colourBy, fieldsBy, stripeBy, stripesBy}
+use Rattle.write_rules.specs.Form.{TrimStripe, Trim}
+use Rattle.write_rules.proofs.Passed.{sizeIn}
+use Rattle.write_rules.proofs.Answered.{size-first, size-other}
+
+-- ---- what a page's record says of itself
+
+pub record Lent (hd : Head) (r : Record) : Type 0 where
+  pub low : r .layer ≤ 3
+  pub mask : Coded r → r .layer ≡ 2 → r .coder ≡ hd .mask
+  pub image : Coded r → r .layer ≢ 2 → hd .image ≢ 0
+  pub base : (r .base0 < 256) × (r .base1 < 256) × (r .base2 < 256)
+  pub offset : (r .x ≤ 65535) × (r .y ≤ 65535)
+
+image-lent : (hd : Head) (k l at : ℕ) (base : Colour) (x y : ℕ) (b : Bool) (o : List ℕ) (c : Data) → Image (hd .main) at b o c → l ≤ 3 → l ≢ 2 → (b ≡ true → hd .image ≢ 0)
+    → (base .c0 < 256) × (base .c1 < 256) × (base .c2 < 256) → (b ≡ true → (x ≤ 65535) × (y ≤ 65535)) → Lent hd (imageRecord hd k l base x y c)
+unfolding imageRecord
+image-lent hd k l at base x y b o c (there z) low n i w f =
+    record { low = low; mask = λ d e. absurd (n e); image = λ d e. i refl; base = w; offset = f refl }
+image-lent hd k l at base x y b o c absent low n i w f =
+    record { low = low; mask = λ d e. absurd (n e); image = λ d e. absurd (d refl); base = w; offset = (omega arith, omega arith) }
+
+mask-lent : (hd : Head) (k height at n : ℕ) (b : Bool) → (b ≡ false → n ≡ 0) → Lent hd (maskRecord hd k height (cond b (hd .mask) 0) (cond b at 0) n)
+unfolding maskRecord
+mask-lent hd k height at n true z =
+    record { low = omega arith; mask = λ d e. refl; image = λ d e. absurd (e refl); base = (omega arith, omega arith, omega arith); offset = (omega arith, omega arith) }
+mask-lent hd k height at n false z =
+    record { low = omega arith; mask = λ d e. absurd (d (z refl)); image = λ d e. absurd (e refl); base = (omega arith, omega arith, omega arith); offset = (omega arith, omega arith) }
+
+stripe-lent : (hd : Head) (k left at : ℕ) (l : List ℕ) (height : ℕ) (rs : List Record) → Stripe hd k left at l height rs → (r : Record) → Among r rs → Lent hd r
+stripe-lent hd k left at l height rs z r m =
+    let f = z .fields in
+    let g = z .good in
+    let w = z .widths in
+    let m′ = subst (λ (x : List Record). Among r x) (z .records) m in
+    ⊎-elim
+    (λ (y : r ≡ imageRecord hd k 1 (f .back) (f .backX) (f .backY) (z .backIs)).
+    subst (Lent hd) (sym y)
+    (image-lent hd k 1 (at + 39 + length (z .mask)) (f .back) (f .backX) (f .backY) (hasBack (f .type)) (z .back) (z .backIs) (z .backThere) (omega arith) (λ e. omega arith)
+    (λ e. g .imageCoder (inl e)) (w .back) (g .back)))
+    (λ m2.
+    ⊎-elim
+    (λ (y : r ≡ maskRecord hd k (f .height) (cond (hasMask (f .type)) (hd .mask) 0) (cond (hasMask (f .type)) (at + 39) 0) (f .maskLength)).
+    subst (Lent hd) (sym y) (mask-lent hd k (f .height) (at + 39) (f .maskLength) (hasMask (f .type)) (g .mask .1)))
+    (λ m3.
+    ⊎-elim
+    (λ (y : r ≡ imageRecord hd k 3 (f .fore) (f .foreX) (f .foreY) (z .foreIs)).
+    subst (Lent hd) (sym y)
+    (image-lent hd k 3 (at + 39 + length (z .mask) + length (z .back)) (f .fore) (f .foreX) (f .foreY) (hasFore (f .type)) (z .fore) (z .foreIs) (z .foreThere) (omega arith)
+    (λ e. omega arith) (λ e. g .imageCoder (inr e)) (w .fore) (g .fore)))
+    (λ m4. absurd (List·Memᴰ·not-nil m4))
+    (List·Memᴰ·cases-cons m3))
+    (List·Memᴰ·cases-cons m2))
+    (List·Memᴰ·cases-cons m′)
+
+pub stripes-lent : {hd : Head} {k left at : ℕ} {l : List ℕ} {rs : List Record} → Stripes hd k left at l rs → (r : Record) → Among r rs → Lent hd r
+stripes-lent (last some) r m = absurd (List·Memᴰ·not-nil m)
+stripes-lent {hd} {k} {left} {at} (next {l = l} {rs = rs} height few z rest) r m =
+    ⊎-elim (λ m1. stripe-lent hd k left at l height rs z r m1) (λ m2. stripes-lent rest r m2) (List·Memᴰ·append-cases rs m)
+
+-- ---- the second record is layer 2 of the first stripe: it has the page's main resolution and width
+
+second-is : (hd : Head) (k left at : ℕ) (l : List ℕ) (height : ℕ) (rs sr : List Record) → Stripe hd k left at l height rs
+    → (nth (rs ++ sr) 1 .res ≡ hd .main) × (nth (rs ++ sr) 1 .width ≡ hd .width)
+unfolding maskRecord
+second-is hd k left at l height rs sr z =
+    subst (λ (x : List Record). (nth (x ++ sr) 1 .res ≡ hd .main) × (nth (x ++ sr) 1 .width ≡ hd .width)) (sym (z .records)) (refl, refl)
+
+pub stripes-main : {hd : Head} {left at : ℕ} {l : List ℕ} {rs : List Record} → Stripes hd 0 left at l rs → (nth rs 1 .res ≡ hd .main) × (nth rs 1 .width ≡ hd .width)
+stripes-main (last some) = absurd (omega arith)
+stripes-main {hd} {left} {at} (next {l = l} {rs = rs} {sr = sr} height few z rest) = second-is hd 0 left at l height rs sr z
+
+-- ---- what is read of an image layer and of a mask
+
+coded-image : (hd : Head) (k l at : ℕ) (base : Colour) (x y : ℕ) (b : Bool) (o : List ℕ) (c : Data) → Image (hd .main) at b o c → coded (imageRecord hd k l base x y c) ≡ b
+unfolding imageRecord
+coded-image hd k l at base x y b o c (there z) = ap not (ne-eqb (length o) 0 (λ e. let a = ap length (z .octets) in omega arith))
+coded-image hd k l at base x y b o c absent = refl
+
+coded-mask : (hd : Head) (k height c at n : ℕ) (b : Bool) → (b ≡ true → n ≡ 0 → ⊥) × (b ≡ false → n ≡ 0) → coded (maskRecord hd k height c at n) ≡ b
+unfolding maskRecord
+coded-mask hd k height c at n true m = ap not (ne-eqb n 0 (m .0 refl))
+coded-mask hd k height c at n false m = ap not (eq-eqb n 0 (m .1 refl))
+
+image-data : (hd : Head) (s : List ℕ) (k l at : ℕ) (base : Colour) (x y : ℕ) (b : Bool) (o more : List ℕ) (c : Data) → Image (hd .main) at b o c → drop at s ≡ o ++ more
+    → dataOf s (imageRecord hd k l base x y c) ≡ o
+unfolding imageRecord
+image-data hd s k l at base x y b o more c (there z) e = ap (take (length o)) e ∙ take-at o more (length o) refl
+image-data hd s k l at base x y b o more c absent e = refl
+
+no-octets : (o : List ℕ) → length o ≡ 0 → [] ≡ o
+no-octets [] e = refl
+no-octets (x ∷ o) e = absurd (omega arith)
+
+mask-data : (hd : Head) (s : List ℕ) (k height c at n : ℕ) (b : Bool) (o more : List ℕ) → length o ≡ n → (b ≡ false → n ≡ 0) → drop at s ≡ o ++ more
+    → dataOf s (maskRecord hd k height c (cond b at 0) n) ≡ o
+unfolding maskRecord
+mask-data hd s k height c at n true o more l z e = ap (take n) e ∙ take-at o more n l
+mask-data hd s k height c at n false o more l z e = ap (λ (j : ℕ). take j s) (z refl) ∙ no-octets o (l ∙ z refl)
+
+-- ---- their octets are as many as the writer counts
+
+image-size : (hd : Head) (k l at : ℕ) (base : Colour) (x y : ℕ) (b : Bool) (o : List ℕ) (c : Data) → Image (hd .main) at b o c → imageRecord hd k l base x y c .len ≡ length o
+unfolding imageRecord
+image-size hd k l at base x y b o c (there z) = refl
+image-size hd k l at base x y b o c absent = refl
+
+image-layer : (hd : Head) (k l : ℕ) (base : Colour) (x y : ℕ) (c : Data) → imageRecord hd k l base x y c .layer ≡ l
+unfolding imageRecord
+image-layer hd k l base x y (There a n w h r) = refl
+image-layer hd k l base x y Absent = refl
+
+stripe-size : (hd : Head) (k left at : ℕ) (l : List ℕ) (height : ℕ) (rs : List Record) → Stripe hd k left at l height rs → sumOf sizeIn rs ≡ length l
+unfolding sumOf maskRecord
+stripe-size hd k left at l height rs z =
+    let f = z .fields in
+    let r1 : Record = imageRecord hd k 1 (f .back) (f .backX) (f .backY) (z .backIs) in
+    let r3 : Record = imageRecord hd k 3 (f .fore) (f .foreX) (f .foreY) (z .foreIs) in
+    let l3 = image-layer hd k 3 (f .fore) (f .foreX) (f .foreY) (z .foreIs) in
+    let s1 = size-first r1 (image-layer hd k 1 (f .back) (f .backX) (f .backY) (z .backIs)) in
+    let s3 = size-other r3 (λ e. omega arith) in
+    let e1 = image-size hd k 1 (at + 39 + length (z .mask)) (f .back) (f .backX) (f .backY) (hasBack (f .type)) (z .back) (z .backIs) (z .backThere) in
+    let e3 = image-size hd k 3 (at + 39 + length (z .mask) + length (z .back)) (f .fore) (f .foreX) (f .foreY) (hasFore (f .type)) (z .fore) (z .foreIs) (z .foreThere) in
+    let n = z .size in
+    let a1 = ap length (z .octets) in
+    let a2 = length-append (headOf f) (z .mask ++ (z .back ++ z .fore)) in
+    let a3 = length-append (z .mask) (z .back ++ z .fore) in
+    let a4 = length-append (z .back) (z .fore) in
+    let a5 = length-head f in
+    ap (sumOf sizeIn) (z .records) ∙ omega arith
+
+pub stripes-size : {hd : Head} {k left at : ℕ} {l : List ℕ} {rs : List Record} → Stripes hd k left at l rs → sumOf sizeIn rs ≡ length l
+unfolding sumOf
+stripes-size (last some) = refl
+stripes-size {hd} {k} {left} {at} (next {l = l} {more = more} {rs = rs} {sr = sr} height few z rest) =
+    let a = sum-append sizeIn rs sr in
+    let b = stripe-size hd k left at l height rs z in
+    let c = stripes-size rest in
+    let e = length-append l more in
+    omega arith
