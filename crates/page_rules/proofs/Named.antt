@@ -44,13 +44,13 @@ module _ (hd : Head) (s : List ℕ) (k left at : ℕ) (l tail : List ℕ) (heigh
   opened : drop at s ≡ headOf (z .fields) ++ (z .mask ++ (z .back ++ (z .fore ++ tail)))
   opened = e ∙ ap (λ (x : List ℕ). x ++ tail) (z .octets) ∙ simp append-assoc
 
-  at-mask : drop (at + 39) s ≡ z .mask ++ (z .back ++ (z .fore ++ tail))
+  pub at-mask : drop (at + 39) s ≡ z .mask ++ (z .back ++ (z .fore ++ tail))
   at-mask = ap (λ (j : ℕ). drop (at + j) s) (sym (length-head (z .fields))) ∙ drop-next s (headOf (z .fields)) (z .mask ++ (z .back ++ (z .fore ++ tail))) at opened
 
-  at-back : drop (at + 39 + length (z .mask)) s ≡ z .back ++ (z .fore ++ tail)
+  pub at-back : drop (at + 39 + length (z .mask)) s ≡ z .back ++ (z .fore ++ tail)
   at-back = drop-next s (z .mask) (z .back ++ (z .fore ++ tail)) (at + 39) at-mask
 
-  at-fore : drop (at + 39 + length (z .mask) + length (z .back)) s ≡ z .fore ++ tail
+  pub at-fore : drop (at + 39 + length (z .mask) + length (z .back)) s ≡ z .fore ++ tail
   at-fore = drop-next s (z .back) (z .fore ++ tail) (at + 39 + length (z .mask)) at-back
 
   sizes : at + 39 + length (z .mask) + length (z .back) + length (z .fore) ≤ length s

@@ -99,17 +99,17 @@ stripes-main {hd} {left} {at} (next {l = l} {rs = rs} {sr = sr} height few z res
 
 -- ---- what is read of an image layer and of a mask
 
-coded-image : (hd : Head) (k l at : ℕ) (base : Colour) (x y : ℕ) (b : Bool) (o : List ℕ) (c : Data) → Image (hd .main) at b o c → coded (imageRecord hd k l base x y c) ≡ b
+pub coded-image : (hd : Head) (k l at : ℕ) (base : Colour) (x y : ℕ) (b : Bool) (o : List ℕ) (c : Data) → Image (hd .main) at b o c → coded (imageRecord hd k l base x y c) ≡ b
 unfolding imageRecord
 coded-image hd k l at base x y b o c (there z) = ap not (ne-eqb (length o) 0 (λ e. let a = ap length (z .octets) in omega arith))
 coded-image hd k l at base x y b o c absent = refl
 
-coded-mask : (hd : Head) (k height c at n : ℕ) (b : Bool) → (b ≡ true → n ≡ 0 → ⊥) × (b ≡ false → n ≡ 0) → coded (maskRecord hd k height c at n) ≡ b
+pub coded-mask : (hd : Head) (k height c at n : ℕ) (b : Bool) → (b ≡ true → n ≡ 0 → ⊥) × (b ≡ false → n ≡ 0) → coded (maskRecord hd k height c at n) ≡ b
 unfolding maskRecord
 coded-mask hd k height c at n true m = ap not (ne-eqb n 0 (m .0 refl))
 coded-mask hd k height c at n false m = ap not (eq-eqb n 0 (m .1 refl))
 
-image-data : (hd : Head) (s : List ℕ) (k l at : ℕ) (base : Colour) (x y : ℕ) (b : Bool) (o more : List ℕ) (c : Data) → Image (hd .main) at b o c → drop at s ≡ o ++ more
+pub image-data : (hd : Head) (s : List ℕ) (k l at : ℕ) (base : Colour) (x y : ℕ) (b : Bool) (o more : List ℕ) (c : Data) → Image (hd .main) at b o c → drop at s ≡ o ++ more
     → dataOf s (imageRecord hd k l base x y c) ≡ o
 unfolding imageRecord
 image-data hd s k l at base x y b o more c (there z) e = ap (take (length o)) e ∙ take-at o more (length o) refl
@@ -119,7 +119,7 @@ no-octets : (o : List ℕ) → length o ≡ 0 → [] ≡ o
 no-octets [] e = refl
 no-octets (x ∷ o) e = absurd (omega arith)
 
-mask-data : (hd : Head) (s : List ℕ) (k height c at n : ℕ) (b : Bool) (o more : List ℕ) → length o ≡ n → (b ≡ false → n ≡ 0) → drop at s ≡ o ++ more
+pub mask-data : (hd : Head) (s : List ℕ) (k height c at n : ℕ) (b : Bool) (o more : List ℕ) → length o ≡ n → (b ≡ false → n ≡ 0) → drop at s ≡ o ++ more
     → dataOf s (maskRecord hd k height c (cond b at 0) n) ≡ o
 unfolding maskRecord
 mask-data hd s k height c at n true o more l z e = ap (take n) e ∙ take-at o more n l

@@ -7,4 +7,5 @@ pub mod Lands
 pub mod Written
 pub mod Sheets
 pub mod Lent
+pub mod Again
 pub mod Theorems
