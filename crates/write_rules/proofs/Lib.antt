@@ -8,4 +8,5 @@ pub mod Written
 pub mod Sheets
 pub mod Lent
 pub mod Again
+pub mod Into
 pub mod Theorems

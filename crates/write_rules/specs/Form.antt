@@ -1,20 +1,23 @@
 -- What is said of the pages that are written.
 --
---   bare r       the record without the start of its coded data: all but octets 18 to 21 of a coded record
---   Trim ..      in each stripe of a page an absent layer's offsets are 0
---   Used ..      some coded layer among the records is of a kind
---   Formed s rs  the octets s are a page with the records rs, in the writer's form
+--   bare r         the record without the start of its coded data: all but octets 18 to 21 of a coded record
+--   Lands rs d l   the octets l are a page whose sheet is that of the records rs, but for octets 18 to 21 of coded records; and the data of each
+--                  is the data that the buffer d has for it
+--   Trim ..        in each stripe of a page an absent layer's offsets are 0
+--   UsedMask, UsedImage   some mask, or some image layer, among the records is coded
+--   Formed s rs    the octets s are a page with the records rs, in the writer's form
 use Prim.Native.Nat.{ℕ}
 use mathlib.Core.Path.{_≡_}
 use mathlib.Core.Logic.{_≢_}
 use mathlib.Core.Bool.{false, cond}
-use mathlib.Core.List.{List, []}
+use mathlib.Core.List.{List, [], map}
 use Rattle.sheet_rules.specs.declared.Record.{Record}
 use Rattle.sheet_rules.specs.Judge.{coded}
 use Rattle.sheet_rules.specs.Sentences.{Among, Coded}
 use Rattle.page_rules.specs.declared.Head.{Head}
 use Rattle.page_rules.specs.Kinds.{hasBack, hasFore}
 use Rattle.page_rules.specs.Grammar.{Stripe, Stripes, last, next, Page}
+use Rattle.write_rules.specs.Layer.{dataOf}
 
 -- the record with another start
 abbrev pub startAt : Record → ℕ → Record
@@ -39,6 +42,14 @@ startAt r start =
 
 unfoldable pub bare : Record → Record
 bare r = startAt r (cond (coded r) 0 (r .start))
+
+-- ---- what is written from records and a buffer
+
+pub record Lands (rs : List Record) (d l : List ℕ) : Type 0 where
+  pub records : List Record
+  pub page : Page l records
+  pub same : map bare records ≡ map bare rs
+  pub layers : map (dataOf l) records ≡ map (dataOf d) rs
 
 -- ---- the writer's form, of a page
 

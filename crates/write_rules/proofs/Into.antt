@@ -1,0 +1,117 @@
+-- What the buffer holds where the call answers Done.
+-- Assumes nothing.
+use Prim.Native.Nat.{ℕ, _+_, _*_, _≤_}
+use native.Mathlib.Omega.{arith}
+use mathlib.Core.Path.{_≡_, refl, sym, ap, ap₂, subst, _∙_}
+use mathlib.Core.Logic.{_⊎_, ⊎-elim}
+use mathlib.Core.List.{List, map}
+use lib.ListN.{length, take, drop}
+use lib.Seq.{take-at}
+use lib.Dec.{ltb}
+use borrow.Author.Tests.{le-ltb, ltb-false}
+use Rattle.octets.specs.Octets.{Octets, putAt}
+use Rattle.octets.proofs.Laws.{put-rest, put-length}
+use Rattle.cases.proofs.Cases.{cond-with, clash}
+use Rattle.answers.specs.declared.Answer.{Answer}
+use Rattle.answers.specs.declared.Answer.the-variants.{Done, Short, BadMode, BadSheet, Mismatch}
+use Rattle.field_rules.specs.Field.{Res, ok, no}
+use Rattle.sheet_rules.specs.declared.Record.{Record}
+use Rattle.sheet_rules.specs.Record.{records}
+use Rattle.sheet_rules.specs.Sentences.{Among, stripeCount}
+use Rattle.page_rules.specs.Grammar.{Page}
+use Rattle.page_rules.proofs.Theorems.{page-once}
+use Rattle.write_rules.specs.declared.Tally.{Tally}
+use Rattle.write_rules.specs.Writing.{headBy, verdictOf, pageBy, sizeAnswer, answerBy, writeOf, intoBy, writeInto}
+use Rattle.write_rules.specs.Form.{Lands, Formed}
+use Rattle.write_rules.proofs.Passed.{Passed}
+use Rattle.write_rules.proofs.Threes.{sheet-threes}
+use Rattle.write_rules.proofs.Answered.{Accepted, verdict-back, Refusal, verdict-refused, lengths, size-threes}
+use Rattle.write_rules.proofs.Lands.{Sized, movedBy}
+use Rattle.write_rules.proofs.Written.{written-same, written-formed, written-layers, length-written}
+
+pub tally-size : (s d : List ℕ) (u : Tally) → Accepted s d u → u .size ≡ 26 + stripeCount (records s) * 39 + lengths (records s)
+tally-size s d u k =
+    let t = sheet-threes (records s) (k .sheet) (k .three) (headBy (records s) u) refl refl in
+    let e = size-threes t (k .sheet .complete .count) in
+    let p = k .passed .size in
+    omega arith
+
+pub size-done : (room size n : ℕ) → sizeAnswer room size ≡ Done n → (n ≡ size) × (size ≤ 16777215) × (size ≤ room)
+unfolding sizeAnswer
+size-done room size n =
+    cond-with (λ x. x ≡ Done n → (n ≡ size) × (size ≤ 16777215) × (size ≤ room)) (ltb 16777215 size) (λ t q. clash cc) λ t.
+    cond-with (λ x. x ≡ Done n → (n ≡ size) × (size ≤ 16777215) × (size ≤ room)) (ltb room size) (λ u q. clash cc)
+    (λ u q. let z : size ≡ n = cc in (sym z, ltb-false 16777215 size t, ltb-false room size u))
+
+pub refusal-not-done : {A : Type 0} (n m : ℕ) (a : Answer) → Refusal m a → a ≡ Done n → A
+refusal-not-done n m a k q =
+    ⊎-elim (λ (y : a ≡ BadSheet (k .place)). clash cc)
+    (⊎-elim (λ (y : a ≡ BadMode (k .place)). clash cc) (⊎-elim (λ (y : a ≡ Short (k .place)). clash cc) (λ (y : a ≡ Mismatch (k .place)). clash cc)))
+    (k .is)
+
+pub record Into (s d p : List ℕ) (n : ℕ) : Type 0 where
+  pub u : Tally
+  pub accepted : Accepted s d u
+  pub size : u .size ≡ n
+  pub short : n ≤ 16777215
+  pub fits : n ≤ length p
+  pub into : writeInto s d p ≡ putAt p 0 (pageBy d (records s) u)
+
+pub done-into : (s d p : List ℕ) → Octets d → (n : ℕ) → writeOf s d (length p) ≡ Done n → Into s d p n
+unfolding writeOf answerBy writeInto intoBy
+done-into s d p o n = by (verdictOf s d) refl
+  where
+    by : (r : Res Tally) → verdictOf s d ≡ r → answerBy (length p) r ≡ Done n → Into s d p n
+    by (ok u m) e q =
+        let z = size-done (length p) (u .size) n q in
+        let z0 = z .0 in
+        let z1 = z .1 in
+        let z2 = z .2 in
+        record {
+          u = u;
+          accepted = verdict-back s d o u m e;
+          size = sym z0;
+          short = omega arith;
+          fits = omega arith;
+          into = ap (intoBy p d (records s)) e ∙ simp (le-ltb 16777215 (u .size) z1, le-ltb (length p) (u .size) z2);
+        }
+    by (no a) e q = refusal-not-done n (length (records s)) a (verdict-refused s d a e) q
+
+module _ (s d p : List ℕ) (o : Octets d) (sized : (r : Record) → Among r (records s) → Sized r) (n : ℕ) (k : Into s d p n) where
+  pub into-length : length (pageBy d (records s) (k .u)) ≡ n
+  into-length =
+      let a = k .accepted in length-written d o (records s) (k .u) (a .sheet) (a .three) sized (a .passed) ∙ k .size
+
+  pub into-page : take n (writeInto s d p) ≡ pageBy d (records s) (k .u)
+  unfolding putAt
+  into-page = ap (take n) (k .into) ∙ take-at (pageBy d (records s) (k .u)) (drop (0 + length (pageBy d (records s) (k .u))) p) n into-length
+
+  pub into-size : length (take n (writeInto s d p)) ≡ n
+  into-size = ap length into-page ∙ into-length
+
+  pub into-kept : (drop n (writeInto s d p) ≡ drop n p) × (length (writeInto s d p) ≡ length p)
+  into-kept =
+      let l = into-length in
+      let f = k .fits in
+      let z : 0 + length (pageBy d (records s) (k .u)) ≡ n = omega arith in (
+        ap₂ (λ (j : ℕ) (x : List ℕ). drop j x) (sym z) (k .into) ∙ put-rest p 0 (pageBy d (records s) (k .u)) (omega arith) ∙ ap (λ (j : ℕ). drop j p) z,
+        ap length (k .into) ∙ put-length p 0 (pageBy d (records s) (k .u)) (omega arith),
+      )
+
+  pub into-lands : Lands (records s) d (take n (writeInto s d p))
+  into-lands =
+      let a = k .accepted in
+      subst (Lands (records s) d) (sym into-page)
+      (record {
+        records = movedBy d 22 (records s);
+        page = written-formed d o (records s) (k .u) (a .sheet) (a .three) sized (a .passed) .page;
+        same = written-same d o (records s) (k .u) (a .sheet) (a .three) sized (a .passed);
+        layers = written-layers d o (records s) (k .u) (a .sheet) (a .three) sized (a .passed);
+      })
+
+  pub into-formed : (rs : List Record) → Page (take n (writeInto s d p)) rs → Formed (take n (writeInto s d p)) rs
+  into-formed rs y =
+      let a = k .accepted in
+      let f : Formed (take n (writeInto s d p)) (movedBy d 22 (records s)) =
+      subst (λ (l : List ℕ). Formed l (movedBy d 22 (records s))) (sym into-page) (written-formed d o (records s) (k .u) (a .sheet) (a .three) sized (a .passed)) in
+      subst (Formed (take n (writeInto s d p))) (page-once (take n (writeInto s d p)) (movedBy d 22 (records s)) rs (f .page) y) f
