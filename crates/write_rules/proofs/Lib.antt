@@ -9,4 +9,5 @@ pub mod Sheets
 pub mod Lent
 pub mod Again
 pub mod Into
+pub mod Trips
 pub mod Theorems

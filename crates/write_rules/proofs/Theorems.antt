@@ -6,7 +6,7 @@ use mathlib.Core.Path.{_≡_, refl, sym, ap, subst, _∙_}
 use mathlib.Core.Logic.{_↔_, _⊎_, inl, inr}
 use mathlib.Core.Bool.{Bool, true, false, cond}
 use mathlib.Core.List.{List, map}
-use lib.ListN.{length, take, drop, length-append, length-replicate, replicate, length-map}
+use lib.ListN.{length, take, drop, length-map}
 use lib.Dec.{ltb}
 use borrow.Author.Tests.{le-ltb}
 use Rattle.octets.specs.Octets.{Octets, putAt}
@@ -23,12 +23,16 @@ use Rattle.page_rules.proofs.Named.{Named}
 use Rattle.page_rules.proofs.There.{page-there}
 use Rattle.page_rules.proofs.Back.{page-back}
 use Rattle.write_rules.specs.declared.Tally.{Tally}
-use Rattle.write_rules.specs.Writing.{mainOf, verdictOf, pageBy, sizeAnswer, answerBy, writeOf, intoBy, writeInto}
+use Rattle.write_rules.specs.Writing.{begun, mainOf, verdictOf, pageBy, sizeAnswer, answerBy, writeOf, intoBy, writeInto}
 use Rattle.write_rules.specs.Layer.{dataOf}
 use Rattle.write_rules.specs.Form.{bare, Lands, Formed}
+use Rattle.write_rules.proofs.Passed.{Passed}
 use Rattle.write_rules.proofs.Answered.{Accepted, verdict-back, verdict-there, passed-passing, Refusal, verdict-refused, lengths}
 use Rattle.write_rules.proofs.Written.{records-sized}
 use Rattle.write_rules.proofs.Into.{tally-size, size-done, refusal-not-done, Into, done-into, into-page, into-size, into-kept, into-lands, into-formed}
+use Rattle.write_rules.proofs.Sheets.{sheet-back, sheet-whole}
+use Rattle.write_rules.proofs.Again.{page-again}
+use Rattle.write_rules.proofs.Trips.{length-page, trip-sheet, trip-low, trip-passing, sheet-sized, trip-size}
 
 -- ---- the call answers Done with n octets exactly if the sheet is one that the judge accepts and has no layer above 3; each coded record's data is in
 -- the buffer, and in an image layer is a JPEG layer of the record's size and resolution; the coded masks have one coder; and n is 26 octets, 39 a
@@ -131,3 +135,64 @@ write-read s d p os o n q k t h =
 pub write-formed : (s d p : List ℕ) → Octets s → Octets d → (n : ℕ) → writeOf s d (length p) ≡ Done n → (rs : List Record) → Page (take n (writeInto s d p)) rs
     → Formed (take n (writeInto s d p)) rs
 write-formed s d p os o n q = into-formed s d p o (records-sized s os) n (done-into s d p o n q)
+
+-- ---- a page of at most 16,777,215 octets can be written from its sheet and itself, into a buffer as long as it is
+
+lent-done : (s : List ℕ) → Octets s → (rs : List Record) (y : Page s rs) → length s ≤ 16777215 → (room : ℕ) → length s ≤ room
+    → writeOf (sheetOf rs) s room ≡ Done (26 + length (y .stripes))
+lent-done s o rs y short room fits =
+    let l = length-page s rs y in
+    let p = trip-passing s rs y short in
+    let small : 26 + length (y .stripes) ≤ 16777215 = omega arith in
+    let holds : 26 + length (y .stripes) ≤ room = omega arith in
+    let w : Writable rs s room (26 + length (y .stripes)) =
+    record { sheet = trip-sheet s rs y short; three = trip-low s rs y short; named = p .named; coders = p .coders; size = trip-size s rs y short; short = small; holds = holds } in
+    write-done (sheetOf rs) s o room (26 + length (y .stripes)) .1
+    (sheet-whole rs, subst (λ (x : List Record). Writable x s room (26 + length (y .stripes))) (sym (sheet-back rs)) w)
+
+-- a page in the writer's form comes back octet for octet
+
+pub formed-again : (s : List ℕ) → Octets s → (rs : List Record) → Formed s rs → length s ≤ 16777215 → (p : List ℕ) → length s ≤ length p
+    → (writeOf (sheetOf rs) s (length p) ≡ Done (length s)) × (writeInto (sheetOf rs) s p ≡ putAt p 0 s)
+formed-again s o rs f short p fits =
+    let l = length-page s rs (f .page) in
+    let lo : length (f .page .optionals) ≡ 0 = ap length (f .optionals) in
+    let lz = f .padding in
+    let z : 26 + length (f .page .stripes) ≡ length s = omega arith in
+    let q : writeOf (sheetOf rs) s (length p) ≡ Done (length s) = lent-done s o rs (f .page) short (length p) fits ∙ ap Done z in
+    let k = done-into (sheetOf rs) s p o (length s) q in
+    let e : pageBy s (records (sheetOf rs)) (k .u) ≡ s =
+    ap (λ (x : List Record). pageBy s x (k .u)) (sheet-back rs)
+    ∙ page-again s rs f (k .u) (subst (λ (x : List Record). Passed s (mainOf x) begun (k .u) x) (sheet-back rs) (k .accepted .passed)) in
+    (q, k .into ∙ ap (putAt p 0) e)
+
+-- for every page that is read: writing its sheet from the page itself and reading again gives the same sheet, but for octets 18 to 21 of coded
+-- records, and the same layers
+
+pub record Again (s : List ℕ) (rs : List Record) (p : List ℕ) : Type 0 where
+  pub count : ℕ
+  pub done : writeOf (sheetOf rs) s (length p) ≡ Done count
+  pub most : count ≤ length s
+  pub records : List Record
+  pub read : pageOf (take count (writeInto (sheetOf rs) s p)) ≡ ok records count
+  pub same : map bare records ≡ map bare rs
+  pub layers : map (dataOf (take count (writeInto (sheetOf rs) s p))) records ≡ map (dataOf s) rs
+
+pub read-write-read : (s : List ℕ) → Octets s → (rs : List Record) (n : ℕ) → pageOf s ≡ ok rs n → length s ≤ 16777215 → (p : List ℕ) → length s ≤ length p → Again s rs p
+read-write-read s o rs n e short p fits =
+    let y = page-back s o rs n e .0 in
+    let l = length-page s rs y in
+    let c : ℕ = 26 + length (y .stripes) in
+    let q = lent-done s o rs y short (length p) fits in
+    let i = done-into (sheetOf rs) s p o (26 + length (y .stripes)) q in
+    let k = into-lands (sheetOf rs) s p o (sheet-sized s rs y short) (26 + length (y .stripes)) i in
+    let m = into-size (sheetOf rs) s p o (sheet-sized s rs y short) (26 + length (y .stripes)) i in
+    record {
+      count = 26 + length (y .stripes);
+      done = q;
+      most = omega arith;
+      records = k .records;
+      read = page-there (take (26 + length (y .stripes)) (writeInto (sheetOf rs) s p)) (k .records) (k .page) ∙ ap (ok (k .records)) m;
+      same = k .same ∙ ap (map bare) (sheet-back rs);
+      layers = k .layers ∙ ap (map (dataOf s)) (sheet-back rs);
+    }

@@ -1,0 +1,79 @@
+-- A page that was read: its sheet and itself are what the writer asks for.
+-- Assumes nothing.
+use Prim.Native.Nat.{ℕ, _+_, _*_, _≤_, _<_}
+use native.Mathlib.Omega.{arith}
+use mathlib.Core.Path.{_≡_, refl, sym, ap, subst, _∙_}
+use mathlib.Core.Logic.{_⊎_, inl, inr, ⊎-elim}
+use mathlib.Core.Bool.{Bool, true, false}
+use mathlib.Core.List.{List, [], _∷_, _++_}
+use lib.ListN.{length, length-append, length-replicate, replicate}
+use Rattle.cases.proofs.Cases.{bool-else}
+use Rattle.sheet_rules.specs.declared.Record.{Record}
+use Rattle.sheet_rules.specs.Record.{records, sheetOf, sumOf}
+use Rattle.sheet_rules.specs.Judge.{coded}
+use Rattle.sheet_rules.specs.Sentences.{Among, Sheet, stripeCount}
+use Rattle.sheet_rules.proofs.New.{says-coded}
+use Rattle.page_rules.specs.declared.Head.{Head}
+use Rattle.page_rules.specs.Grammar.{startOf, Page}
+use Rattle.page_rules.proofs.There.{length-start}
+use Rattle.page_rules.proofs.Accepted.{page-accepted}
+use Rattle.page_rules.proofs.Named.{Named, page-named}
+use Rattle.write_rules.specs.Writing.{mainOf}
+use Rattle.write_rules.proofs.Passed.{sizeIn, Passing}
+use Rattle.write_rules.proofs.Threes.{sheet-threes}
+use Rattle.write_rules.proofs.Answered.{Low, lengths, size-threes}
+use Rattle.write_rules.proofs.Placed.{uncoded-is}
+use Rattle.write_rules.proofs.Lands.{Sized}
+use Rattle.write_rules.proofs.Lent.{Lent, stripes-lent, stripes-main, stripes-size}
+use Rattle.write_rules.proofs.Sheets.{sheet-back}
+
+-- the octets of a page
+pub length-page : (s : List ℕ) (rs : List Record) (y : Page s rs) → length s ≡ 26 + length (y .optionals) + length (y .stripes) + y .zeros
+length-page s rs y =
+    let close : List ℕ = 0xFF ∷ 0xD9 ∷ 0xFF ∷ 0xD9 ∷ replicate (y .zeros) 0 in
+    let a = ap length (y .octets) in
+    let b = length-append (startOf (y .head)) (y .optionals ++ (y .stripes ++ close)) in
+    let c = length-append (y .optionals) (y .stripes ++ close) in
+    let d = length-append (y .stripes) close in
+    let e = length-replicate {A = ℕ} (y .zeros) 0 in
+    let f = length-start (y .head) in
+    omega arith
+
+module _ (s : List ℕ) (rs : List Record) (y : Page s rs) (short : length s ≤ 16777215) where
+  lent : (r : Record) → Among r rs → Lent (y .head) r
+  lent = stripes-lent (y .striped)
+
+  pub trip-sheet : Sheet rs
+  trip-sheet = page-accepted s rs y short
+
+  pub trip-low : Low rs
+  trip-low r m = lent r m .low
+
+  pub trip-passing : Passing s (mainOf rs) rs
+  trip-passing =
+      record {
+        named = λ r m c. subst (λ (j : ℕ). Named j s r) (sym (stripes-main (y .striped) .0)) (page-named s rs y r m c);
+        coders = λ r q m j c w e f. lent r m .mask c e ∙ sym (lent q j .mask w f);
+      }
+
+  small : (r : Record) → Among r rs → r .len < 4294967296
+  small r m =
+      ⊎-elim
+      (λ (e : coded r ≡ true). let n = page-named s rs y r m (says-coded r .told e) .inside in omega arith)
+      (λ (e : coded r ≡ false). let z = uncoded-is r e in omega arith)
+      (bool-else (coded r))
+
+  trip-sized : (r : Record) → Among r rs → Sized r
+  trip-sized r m = let k = lent r m in record { base = k .base; offset = k .offset; len = small r m }
+
+  -- of the records that its sheet is cut into
+  pub sheet-sized : (r : Record) → Among r (records (sheetOf rs)) → Sized r
+  sheet-sized r m = trip-sized r (subst (Among r) (sheet-back rs) m)
+
+  pub trip-size : 26 + length (y .stripes) ≡ 26 + stripeCount rs * 39 + lengths rs
+  trip-size =
+      let m = stripes-main (y .striped) in
+      let t = sheet-threes rs trip-sheet trip-low (y .head) (sym (m .0)) (sym (m .1)) in
+      let a = size-threes t (trip-sheet .complete .count) in
+      let b = stripes-size (y .striped) in
+      omega arith
