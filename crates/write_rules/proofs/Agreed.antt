@@ -88,3 +88,8 @@ unfolding recordStep
 step-cases P d main t i r short on off =
     cond-with P (ltb (length d) (r .start + r .len)) (λ e. short (ltb-true (length d) (r .start + r .len) e)) λ e.
     cond-with P (matches d main t r) (λ m. on (ltb-false (length d) (r .start + r .len) e) m) (λ m. off (ltb-false (length d) (r .start + r .len) e) m)
+
+-- a record that passes is counted
+pub step-next : (d : List ℕ) (main : ℕ) (t : Tally) (i : ℕ) (r : Record) (v : Tally) (n : ℕ) → recordStep d main t i r ≡ ok v n → n ≡ i + 1
+step-next d main t i r v n =
+    step-cases (λ x. x ≡ ok v n → n ≡ i + 1) d main t i r (λ h q. clash cc) (λ h m q. let z : i + 1 ≡ n = cc in sym z) (λ h m q. clash cc)

@@ -1,39 +1,44 @@
--- The verdict: what is known where it is given, when it is, and its refusals; and the page's size.
+-- The verdict: what is known where it is given, and its refusals, each exactly where the sentences have it.
 -- Assumes nothing.
-use Prim.Native.Nat.{ℕ, zero, suc, _+_, _-_, _*_, _/_, _≤_, _<_}
+use Prim.Native.Nat.{ℕ, suc, _+_, _≤_, _<_}
 use native.Mathlib.Omega.{arith}
+use native.Mathlib.Numerals.{add-one}
 use mathlib.Core.Path.{_≡_, refl, sym, ap, subst, _∙_}
 use mathlib.Core.Logic.{_⊎_, inl, inr, _≢_, ⊎-elim}
-use mathlib.Core.Bool.{Bool, true, false, cond}
-use mathlib.Core.List.{List, [], _∷_, List·Memᴰ·head, List·Memᴰ·tail, List·Memᴰ·cases-cons, List·Memᴰ·not-nil}
-use lib.ListN.{length}
-use lib.Dec.{eqb, ltb}
-use borrow.Author.Tests.{eq-eqb, ne-eqb, le-ltb, ltb-false}
+use mathlib.Core.Bool.{Bool, true, false, cond, false≢true}
+use mathlib.Core.List.{List, [], _∷_, _++_, append-nil, List·Memᴰ·head, List·Memᴰ·tail, List·Memᴰ·cases-cons, List·Memᴰ·not-nil, Memᴰ·append-left}
+use lib.ListN.{length, take, drop, take-append-drop}
+use lib.Seq.{length-take-le, take-suc, split-at}
+use lib.Dec.{ltb}
+use borrow.Author.Tests.{le-ltb, lt-ltb, ltb-true, ltb-false}
 use Rattle.octets.specs.Octets.{Octets}
 use Rattle.cases.proofs.Cases.{cond-with, clash}
-use Rattle.cases.proofs.Says.{says-eq, says-else}
 use Rattle.answers.specs.declared.Answer.{Answer}
 use Rattle.answers.specs.declared.Answer.the-variants.{Short, BadMode, BadSheet, Mismatch}
 use Rattle.field_rules.specs.Field.{Res, ok, no, bind}
 use Rattle.sheet_rules.specs.declared.Record.{Record}
 use Rattle.sheet_rules.specs.declared.Verdict.{Verdict}
 use Rattle.sheet_rules.specs.declared.Verdict.the-variants.{Good, Bad}
-use Rattle.sheet_rules.specs.Record.{recordSize, records, rest, nth, only, sumOf}
+use Rattle.sheet_rules.specs.Record.{blank, records, rest, nth}
 use Rattle.sheet_rules.specs.Judge.{judgeOf, answerOf}
-use Rattle.sheet_rules.specs.Sentences.{Among, Coded, Sheet, stripeCount}
+use Rattle.sheet_rules.specs.Sentences.{Among, Coded, Sheet, stripeCount, BadSheetAt}
+use Rattle.sheet_rules.proofs.Among.{among-new, among-old, all-more, pair-more}
 use Rattle.sheet_rules.proofs.Fold.{begun-unbroken, unbroken-begun}
-use Rattle.sheet_rules.proofs.Cut.{length-records}
-use Rattle.sheet_rules.proofs.Theorems.{sheet-accepted, refused-few}
-use Rattle.page_rules.specs.declared.Head.{Head}
+use Rattle.sheet_rules.proofs.Theorems.{sheet-accepted, sheet-refused}
+use Rattle.jpeg_rules.specs.Grammar.{Layer}
 use Rattle.write_rules.specs.declared.Tally.{Tally}
+use Rattle.write_rules.specs.Layer.{dataOf}
 use Rattle.write_rules.specs.Writing.{modeFrom, begun, recordsPass, mainOf, verdictBy, verdictOf}
-use Rattle.write_rules.proofs.Passed.{Plain, sizeIn, Passed, pass-back, Passing, pass-there, RecordRefusal, pass-refused}
-use Rattle.write_rules.proofs.Threes.{Three, Threes, ended, another, sheet-threes}
+use Rattle.write_rules.specs.Sentences.{Fine, Low, ModeAt, ShortAt, MismatchAt, Sound, Gives}
+use Rattle.write_rules.specs.Form.{UsedMask}
+use Rattle.write_rules.proofs.Agreed.{Meets, says-matches, step-cases}
+use Rattle.write_rules.proofs.Passed.{Plain, coder-nonzero, Passed, pass-back, pass-there, passed-fine, Stops, pass-stops, pass-fault}
+
+-- a record before a place is one of all
+among-take : (rs : List Record) (i : ℕ) (r : Record) → Among r (take i rs) → Among r rs
+among-take rs i r m = subst (Among r) (take-append-drop i rs) (Memᴰ·append-left (drop i rs) m)
 
 -- ---- the mode
-
-abbrev pub Low : List Record → Type 0
-Low rs = (r : Record) → Among r rs → r .layer ≤ 3
 
 mode-low : (i : ℕ) (rs : List Record) (k n : ℕ) → modeFrom i rs ≡ ok k n → Low rs
 unfolding modeFrom
@@ -43,21 +48,55 @@ mode-low i (x ∷ rs) k n =
     (λ t q r m.
     ⊎-elim (λ (e : r ≡ x). subst (λ (y : Record). y .layer ≤ 3) (sym e) (ltb-false 3 (x .layer) t)) (λ m2. mode-low (i + 1) rs k n q r m2) (List·Memᴰ·cases-cons m))
 
-mode-there : (i : ℕ) (rs : List Record) → Low rs → modeFrom i rs ≡ ok (i + length rs) (i + length rs)
+-- the records before are passed
+mode-passes : (i : ℕ) (rs qs : List Record) → Low rs → modeFrom i (rs ++ qs) ≡ modeFrom (i + length rs) qs
 unfolding modeFrom
-mode-there i [] low = let z : i ≡ i + 0 = omega arith in ap (λ (j : ℕ). ok j j) z
-mode-there i (x ∷ rs) low =
+mode-passes i [] qs low = let z : i ≡ i + 0 = omega arith in ap (λ (j : ℕ). modeFrom j qs) z
+mode-passes i (x ∷ rs) qs low =
     let z : i + 1 + length rs ≡ i + suc (length rs) = omega arith in
-    ap (λ (b : Bool). cond b (no (BadMode i)) (modeFrom (i + 1) rs)) (le-ltb 3 (x .layer) (low x (List·Memᴰ·head refl)))
-    ∙ mode-there (i + 1) rs (λ r m. low r (List·Memᴰ·tail m))
-    ∙ ap (λ (j : ℕ). ok j j) z
+    ap (λ (b : Bool). cond b (no (BadMode i)) (modeFrom (i + 1) (rs ++ qs))) (le-ltb 3 (x .layer) (low x (List·Memᴰ·head refl)))
+    ∙ mode-passes (i + 1) rs qs (λ r m. low r (List·Memᴰ·tail m))
+    ∙ ap (λ (j : ℕ). modeFrom j qs) z
 
-mode-refused : (i : ℕ) (rs : List Record) (a : Answer) → modeFrom i rs ≡ no a → (j : ℕ) × (a ≡ BadMode j) × (j < i + length rs)
+mode-there : (rs : List Record) → Low rs → modeFrom 0 rs ≡ ok (length rs) (length rs)
 unfolding modeFrom
-mode-refused i [] a = λ q. clash cc
-mode-refused i (x ∷ rs) a =
-    cond-with (λ y. y ≡ no a → (j : ℕ) × (a ≡ BadMode j) × (j < i + length (x ∷ rs))) (ltb 3 (x .layer)) (λ t q. (i, cc, omega arith))
-    (λ t q. let k = mode-refused (i + 1) rs a q in let h = k .2 in (k .0, k .1, omega arith))
+mode-there rs low =
+    let z : 0 + length rs ≡ length rs = omega arith in
+    ap (modeFrom 0) (sym (append-nil rs)) ∙ mode-passes 0 rs [] low ∙ ap (λ (j : ℕ). ok j j) z
+
+mode-fault : (rs : List Record) (i : ℕ) → ModeAt rs i → modeFrom 0 rs ≡ no (BadMode i)
+unfolding modeFrom
+mode-fault rs i k =
+    let w = k .within in
+    let l = length-take-le i rs (omega arith) in
+    let z : 0 + length (take i rs) ≡ i = omega arith in
+    ap (modeFrom 0) (split-at rs i blank w)
+    ∙ mode-passes 0 (take i rs) (nth rs i ∷ drop (suc i) rs) (k .before)
+    ∙ ap (λ (j : ℕ). modeFrom j (nth rs i ∷ drop (suc i) rs)) z
+    ∙ ap (λ (b : Bool). cond b (no (BadMode i)) (modeFrom (i + 1) (drop (suc i) rs))) (lt-ltb 3 (nth rs i .layer) (k .above))
+
+mode-at : (i : ℕ) (rs : List Record) (a : Answer) → modeFrom i rs ≡ no a → (j : ℕ) × (a ≡ BadMode (i + j)) × ModeAt rs j
+unfolding modeFrom
+mode-at i [] a = λ q. clash cc
+mode-at i (x ∷ rs) a =
+    cond-with (λ y. y ≡ no a → (j : ℕ) × (a ≡ BadMode (i + j)) × ModeAt (x ∷ rs) j) (ltb 3 (x .layer))
+    (λ t q.
+    let z : i ≡ i + 0 = omega arith in
+    let e : BadMode i ≡ a = cc in
+    (0, sym e ∙ ap BadMode z, record { within = omega arith; before = λ r m. absurd (List·Memᴰ·not-nil m); above = ltb-true 3 (x .layer) t }))
+    (λ t q.
+    let k = mode-at (i + 1) rs a q in
+    let w = k .2 .within in
+    let z : i + 1 + k .0 ≡ i + suc (k .0) = omega arith in (
+      suc (k .0),
+      k .1 ∙ ap BadMode z,
+      record {
+        within = omega arith;
+        before = λ r m.
+            ⊎-elim (λ (e : r ≡ x). subst (λ (y : Record). y .layer ≤ 3) (sym e) (ltb-false 3 (x .layer) t)) (λ m2. k .2 .before r m2) (List·Memᴰ·cases-cons m);
+        above = k .2 .above;
+      },
+    ))
 
 -- ---- the verdict
 
@@ -77,6 +116,11 @@ sheet-plain rs s low =
       start = λ r m z. s .unbroken .uncoded r m z .1;
     }
 
+-- of the records before one too
+plain-take : (rs : List Record) (i : ℕ) → Plain rs → Plain (take i rs)
+plain-take rs i p =
+    record { low = λ r m. p .low r (among-take rs i r m); coder = λ r m. p .coder r (among-take rs i r m); start = λ r m. p .start r (among-take rs i r m) }
+
 pub verdict-back : (s d : List ℕ) → Octets d → (u : Tally) (n : ℕ) → verdictOf s d ≡ ok u n → Accepted s d u
 unfolding verdictOf verdictBy bind
 verdict-back s d o u n q = by (judgeOf s) refl q
@@ -93,94 +137,161 @@ verdict-back s d o u n q = by (judgeOf s) refl q
     by (Good m k) g q = pass m k g (modeFrom 0 (records s)) refl q
     by (Bad i) g q = clash cc
 
-pub verdict-there : (s d : List ℕ) → Octets d → Sheet (records s) → rest s ≡ 0 → Low (records s) → Passing d (mainOf (records s)) (records s)
-    → (u : Tally) × (verdictOf s d ≡ ok u (length (records s)))
-unfolding verdictOf verdictBy bind
-verdict-there s d o sh w low p =
-    let g = sheet-accepted s (length (records s)) (stripeCount (records s)) .1 (record { sheet = sh; whole = w; count = refl; stripes = refl }) in
-    let m = mode-there 0 (records s) low in
-    let y = pass-there d o (mainOf (records s)) begun 0 (records s) (sheet-plain (records s) sh low) p (λ r m c e. inl refl) in
+pub accepted-sound : (s d : List ℕ) (u : Tally) → Accepted s d u → Sound s d
+accepted-sound s d u k =
+    record { sheet = k .sheet; whole = k .whole; low = k .three; fine = passed-fine d (mainOf (records s)) begun u (records s) (k .passed) }
+
+-- ---- from the sentences to the verdict
+
+module _ (s d : List ℕ) (sh : Sheet (records s)) (w : rest s ≡ 0) where
+  judged : judgeOf s ≡ Good (length (records s)) (stripeCount (records s))
+  judged = sheet-accepted s (length (records s)) (stripeCount (records s)) .1 (record { sheet = sh; whole = w; count = refl; stripes = refl })
+
+  pub verdict-mode : (i : ℕ) → ModeAt (records s) i → verdictOf s d ≡ no (BadMode i)
+  unfolding verdictOf verdictBy bind
+  verdict-mode i k =
+      ap (λ (v : Verdict). verdictBy v d (records s)) judged
+      ∙ ap (λ (x : Res ℕ). bind x (λ (j e : ℕ). recordsPass d (mainOf (records s)) begun 0 (records s))) (mode-fault (records s) i k)
+
+  pub verdict-passes : Low (records s) → verdictOf s d ≡ recordsPass d (mainOf (records s)) begun 0 (records s)
+  unfolding verdictOf verdictBy bind
+  verdict-passes low =
+      ap (λ (v : Verdict). verdictBy v d (records s)) judged
+      ∙ ap (λ (x : Res ℕ). bind x (λ (j e : ℕ). recordsPass d (mainOf (records s)) begun 0 (records s))) (mode-there (records s) low)
+
+pub verdict-sheet : (s d : List ℕ) (i : ℕ) → BadSheetAt s i → verdictOf s d ≡ no (BadSheet i)
+unfolding verdictOf verdictBy answerOf
+verdict-sheet s d i k = ap (λ (v : Verdict). verdictBy v d (records s)) (sheet-refused s i .1 k)
+
+pub verdict-there : (s d : List ℕ) → Octets d → Sound s d → (u : Tally) × (verdictOf s d ≡ ok u (length (records s)))
+verdict-there s d o k =
+    let y = pass-there d o (mainOf (records s)) begun 0 (records s) (sheet-plain (records s) (k .sheet) (k .low)) (k .fine) (λ r m c e. inl refl) in
     let z : 0 + length (records s) ≡ length (records s) = omega arith in
-    (y .0, ap (λ (v : Verdict). verdictBy v d (records s)) g ∙ ap (λ (x : Res ℕ). bind x (λ (j e : ℕ). recordsPass d (mainOf (records s)) begun 0 (records s))) m ∙ y .1 ∙ ap (ok (y .0)) z)
+    (y .0, verdict-passes s d (k .sheet) (k .whole) (k .low) ∙ y .1 ∙ ap (ok (y .0)) z)
 
--- what passed names its layers, and the masks have one coder
-pub passed-passing : (s d : List ℕ) (u : Tally) → Accepted s d u → Passing d (mainOf (records s)) (records s)
-passed-passing s d u k =
-    let p = k .passed in
-    record {
-      named = λ r m c.
-          record {
-            inside = p .inside r m;
-            layer =
-                ⊎-elim (λ (e : r .layer ≡ 2). inl e) (λ (e : r .layer ≢ 2). inr (p .layer r m c e)) (says-else (says-eq (r .layer) 2));
-          };
-      coders = λ r q m j c w e f. sym (p .mask r m c e) ∙ p .mask q j w f;
-    }
+-- ---- a record at fault
 
--- a refusal of the sheet, of the mode or of a record, at one of the records or where the next was due
-pub record Refusal (n : ℕ) (a : Answer) : Type 0 where
+module _ (d : List ℕ) (o : Octets d) (main : ℕ) (rs : List Record) (p : Plain rs) where
+  -- the records before one pass where they are fine
+  before : (i : ℕ) → i < length rs → Fine main d (take i rs) → (u : Tally) × (recordsPass d main begun 0 (take i rs) ≡ ok u i)
+  before i h f =
+      let y = pass-there d o main begun 0 (take i rs) (plain-take rs i p) f (λ r m c e. inl refl) in
+      let l = length-take-le i rs (omega arith) in
+      let z : 0 + length (take i rs) ≡ i = omega arith in
+      (y .0, y .1 ∙ ap (ok (y .0)) z)
+
+  -- with one more record they are fine exactly if it fits and matches
+  fine-more : (i : ℕ) (u : Tally) → i < length rs → Passed d main begun u (take i rs) → (h : nth rs i .start + nth rs i .len ≤ length d) → Meets d o (nth rs i) h main u
+      → Fine main d (take (i + 1) rs)
+  fine-more i u w q h m =
+      subst (Fine main d) (sym (rw add-one (take-suc rs i blank w)))
+      (record {
+        fits = all-more (take i rs) (nth rs i) (λ r. Coded r → r .start + r .len ≤ length d) (λ r k c. q .inside r k) (λ c. h);
+        layers =
+            all-more (take i rs) (nth rs i) (λ r. Coded r → r .layer ≢ 2 → Layer main (dataOf d r) (r .width) (r .height) (r .res)) (q .layer) (λ c. m c .1);
+        coders =
+            pair-more (take i rs) (nth rs i) (λ r q. Coded r → Coded q → r .layer ≡ 2 → q .layer ≡ 2 → r .coder ≡ q .coder)
+            (λ r x j k c v e f. sym (q .mask r j c e) ∙ q .mask x k v f)
+            (λ r j c v e f. same r j c e v f)
+            (λ r j v c f e. sym (same r j c e v f))
+            (λ c v e f. refl);
+      })
+    where
+      same : (r : Record) → Among r (take i rs) → Coded r → r .layer ≡ 2 → Coded (nth rs i) → nth rs i .layer ≡ 2 → r .coder ≡ nth rs i .coder
+      same r j c e v f =
+          ⊎-elim
+          (λ (z : u .mask ≡ 0). absurd (coder-nonzero (r .layer) (r .coder) (plain-take rs i p .coder r j c) (sym (q .mask r j c e) ∙ z)))
+          (λ (z : u .mask ≡ nth rs i .coder). sym (q .mask r j c e) ∙ z)
+          (m v .0 f)
+
+  meets-fine : (i : ℕ) (u : Tally) → i < length rs → Passed d main begun u (take i rs) → (h : nth rs i .start + nth rs i .len ≤ length d) → Fine main d (take (i + 1) rs)
+      → Meets d o (nth rs i) h main u
+  meets-fine i u w q h f =
+      let g : Fine main d (take i rs ++ (nth rs i ∷ [])) = subst (Fine main d) (rw add-one (take-suc rs i blank w)) f in
+      let new : Among (nth rs i) (take i rs ++ (nth rs i ∷ [])) = among-new (take i rs) (nth rs i) in
+      λ c. (
+        λ e.
+            ⊎-elim (λ (z : u .mask ≡ 0). inl z)
+            (λ (y : UsedMask (take i rs)).
+            inr
+            (q .mask (y .it) (y .among) (y .coded) (y .mask) ∙ g .coders (y .it) (nth rs i) (among-old (take i rs) (nth rs i) (y .it) (y .among)) new (y .coded) c (y .mask) e))
+            (q .maskUsed),
+        g .layers (nth rs i) new c,
+      )
+
+  pub short-there : (i : ℕ) → ShortAt main d rs i → recordsPass d main begun 0 rs ≡ no (Short i)
+  short-there i k =
+      let b = before i (k .within) (k .before) in
+      pass-fault d main begun (b .0) 0 i rs i (Short i) (k .within) (b .1)
+      (step-cases (λ x. x ≡ no (Short i)) d main (b .0) i (nth rs i) (λ h. refl) (λ h m. let s = k .short in absurd (omega arith)) (λ h m. let s = k .short in absurd (omega arith)))
+
+  pub mismatch-there : (i : ℕ) → MismatchAt main d rs i → recordsPass d main begun 0 rs ≡ no (Mismatch i)
+  mismatch-there i k =
+      let b = before i (k .within) (k .before) in
+      let q = pass-back d o main begun (b .0) 0 i (take i rs) (plain-take rs i p) (b .1) in
+      pass-fault d main begun (b .0) 0 i rs i (Mismatch i) (k .within) (b .1)
+      (step-cases (λ x. x ≡ no (Mismatch i)) d main (b .0) i (nth rs i)
+      (λ h. let s = k .fits in absurd (omega arith))
+      (λ h m. absurd (k .broken (fine-more i (b .0) (k .within) q h (says-matches d o (nth rs i) h main (b .0) .told m))))
+      (λ h m. refl))
+
+  -- the other way
+  pub fault-at : (a : Answer) → recordsPass d main begun 0 rs ≡ no a → (i : ℕ) × (((a ≡ Short i) × ShortAt main d rs i) ⊎ ((a ≡ Mismatch i) × MismatchAt main d rs i))
+  fault-at a e =
+      let k = pass-stops d main begun 0 rs a e in
+      let z : 0 + k .j ≡ k .j = omega arith in
+      let q = pass-back d o main begun (k .u) 0 (0 + k .j) (take (k .j) rs) (plain-take rs (k .j) p) (k .passed) in
+      let f = passed-fine d main begun (k .u) (take (k .j) rs) q in (
+        k .j,
+        step-cases (λ x. x ≡ no a → ((a ≡ Short (k .j)) × ShortAt main d rs (k .j)) ⊎ ((a ≡ Mismatch (k .j)) × MismatchAt main d rs (k .j))) d main (k .u) (0 + k .j) (nth rs (k .j))
+            (λ h y. let w : Short (0 + k .j) ≡ a = cc in inl (sym w ∙ ap Short z, record { within = k .within; before = f; short = h }))
+            (λ h m y. clash cc)
+            (λ h m y.
+            let w : Mismatch (0 + k .j) ≡ a = cc in
+            inr (
+              sym w ∙ ap Mismatch z,
+              record {
+                within = k .within;
+                before = f;
+                fits = h;
+                broken = λ g. false≢true (sym m ∙ says-matches d o (nth rs (k .j)) h main (k .u) .shown (meets-fine (k .j) (k .u) (k .within) q h g));
+              },
+            ))
+            (k .stops),
+      )
+
+-- ---- a refusal of the verdict: of the sheet, of the mode or of a record
+
+pub record Refusal (s d : List ℕ) (room : ℕ) (a : Answer) : Type 0 where
   pub place : ℕ
-  pub is : (a ≡ BadSheet place) ⊎ (a ≡ BadMode place) ⊎ (a ≡ Short place) ⊎ (a ≡ Mismatch place)
-  pub most : place ≤ n
+  pub is : ((a ≡ BadSheet place) × Gives s d room (BadSheet place)) ⊎ ((a ≡ BadMode place) × Gives s d room (BadMode place))
+      ⊎ ((a ≡ Short place) × Gives s d room (Short place)) ⊎ ((a ≡ Mismatch place) × Gives s d room (Mismatch place))
 
-pub verdict-refused : (s d : List ℕ) (a : Answer) → verdictOf s d ≡ no a → Refusal (length (records s)) a
-unfolding verdictOf verdictBy bind answerOf records
-verdict-refused s d a q = by (judgeOf s) refl q
+pub verdict-refused : (s d : List ℕ) → Octets d → (room : ℕ) (a : Answer) → verdictOf s d ≡ no a → Refusal s d room a
+unfolding verdictOf verdictBy bind answerOf Gives
+verdict-refused s d o room a q = by (judgeOf s) refl q
   where
-    pass : (x : Res ℕ) → modeFrom 0 (records s) ≡ x
-        → bind x (λ (j e : ℕ). recordsPass d (mainOf (records s)) begun 0 (records s)) ≡ no a → Refusal (length (records s)) a
-    pass (ok j e) h q =
-        let k = pass-refused d (mainOf (records s)) begun 0 (records s) a q in
-        let m = k .most in
+    pass : (m k : ℕ) → judgeOf s ≡ Good m k → (x : Res ℕ) → modeFrom 0 (records s) ≡ x
+        → bind x (λ (j e : ℕ). recordsPass d (mainOf (records s)) begun 0 (records s)) ≡ no a → Refusal s d room a
+    pass m k g (ok j e) h q =
+        let y = sheet-accepted s m k .0 g in
+        let low = mode-low 0 (records s) j e h in
+        let f = fault-at d o (mainOf (records s)) (records s) (sheet-plain (records s) (y .sheet) low) a q in
         record {
-          place = k .place;
-          is = ⊎-elim (λ (y : a ≡ Short (k .place)). inr (inr (inl y))) (λ (y : a ≡ Mismatch (k .place)). inr (inr (inr y))) (k .is);
-          most = omega arith;
+          place = f .0;
+          is =
+              ⊎-elim
+              (λ (z : (a ≡ Short (f .0)) × ShortAt (mainOf (records s)) d (records s) (f .0)). inr (inr (inl (z .0, (y .sheet, y .whole, low, z .1)))))
+              (λ (z : (a ≡ Mismatch (f .0)) × MismatchAt (mainOf (records s)) d (records s) (f .0)). inr (inr (inr (z .0, (y .sheet, y .whole, low, z .1)))))
+              (f .1);
         }
-    pass (no b) h q =
-        let k = mode-refused 0 (records s) b h in
-        let m = k .2 in
+    pass m k g (no b) h q =
+        let y = sheet-accepted s m k .0 g in
+        let f = mode-at 0 (records s) b h in
         let e : b ≡ a = cc in
-        record { place = k .0; is = inr (inl (sym e ∙ k .1)); most = omega arith }
+        let z : 0 + f .0 ≡ f .0 = omega arith in
+        record { place = f .0; is = inr (inl (sym e ∙ f .1 ∙ ap BadMode z, (y .sheet, y .whole, f .2))) }
 
-    by : (v : Verdict) → judgeOf s ≡ v → verdictBy v d (records s) ≡ no a → Refusal (length (records s)) a
-    by (Good m k) g q = pass (modeFrom 0 (records s)) refl q
-    by (Bad i) g q =
-        let f = refused-few s i g .1 in
-        let l = length-records s (length s / recordSize) 0 in
-        record { place = i; is = inl cc; most = omega arith }
-
--- ---- the size: 26 octets, 39 a stripe, and the coded data
-
-pub size-first : (r : Record) → r .layer ≡ 1 → sizeIn r ≡ 39 + r .len
-size-first r e = ap (λ (b : Bool). only b 39 + r .len) (eq-eqb (r .layer) 1 e)
-
-pub size-other : (r : Record) → r .layer ≢ 1 → sizeIn r ≡ r .len
-size-other r e = let z : 0 + r .len ≡ r .len = omega arith in ap (λ (b : Bool). only b 39 + r .len) (ne-eqb (r .layer) 1 e) ∙ z
-
-abbrev pub lengths : List Record → ℕ
-lengths rs = sumOf (λ (r : Record). r .len) rs
-
-count-more : (a b c : Record) (rs : List Record) → 0 < length rs → stripeCount (a ∷ b ∷ c ∷ rs) ≡ stripeCount rs
-count-more a b c rs h =
-    let z : length (a ∷ b ∷ c ∷ rs) - 1 ≡ suc (suc (suc (length rs - 1))) = omega arith in
-    ap (λ (j : ℕ). nth (a ∷ b ∷ c ∷ rs) j .stripe + 1) z
-
-pub size-threes : {hd : Head} {k left : ℕ} {rs : List Record} → Threes hd k left rs → 0 < length rs → sumOf sizeIn rs + k * 39 ≡ stripeCount rs * 39 + lengths rs
-unfolding sumOf
-size-threes (ended p) h = absurd (omega arith)
-size-threes {k = k} (another {a = a} {b = b} {c = c} y (ended p)) h =
-    let l = y .layers in
-    let ea = size-first a (l .0) in
-    let eb = size-other b (λ z. omega arith) in
-    let ec = size-other c (λ z. omega arith) in
-    let s = y .stripes .2 in
-    omega arith
-size-threes {k = k} (another {a = a} {b = b} {c = c} y (another {a = a′} {b = b′} {c = c′} {rs = rs} z more)) h =
-    let l = y .layers in
-    let ea = size-first a (l .0) in
-    let eb = size-other b (λ w. omega arith) in
-    let ec = size-other c (λ w. omega arith) in
-    let i = size-threes (another z more) (omega arith) in
-    let n = count-more a b c (a′ ∷ b′ ∷ c′ ∷ rs) (omega arith) in
-    omega arith
+    by : (v : Verdict) → judgeOf s ≡ v → verdictBy v d (records s) ≡ no a → Refusal s d room a
+    by (Good m k) g q = pass m k g (modeFrom 0 (records s)) refl q
+    by (Bad i) g q = let e : BadSheet i ≡ a = cc in record { place = i; is = inl (sym e, sheet-refused s i .0 g) }

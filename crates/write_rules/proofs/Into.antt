@@ -17,24 +17,23 @@ use Rattle.answers.specs.declared.Answer.the-variants.{Done, Short, BadMode, Ba
 use Rattle.field_rules.specs.Field.{Res, ok, no}
 use Rattle.sheet_rules.specs.declared.Record.{Record}
 use Rattle.sheet_rules.specs.Record.{records}
-use Rattle.sheet_rules.specs.Sentences.{Among, stripeCount}
+use Rattle.sheet_rules.specs.Sentences.{Among}
 use Rattle.page_rules.specs.Grammar.{Page}
 use Rattle.page_rules.proofs.Theorems.{page-once}
 use Rattle.write_rules.specs.declared.Tally.{Tally}
 use Rattle.write_rules.specs.Writing.{headBy, verdictOf, pageBy, sizeAnswer, answerBy, writeOf, intoBy, writeInto}
 use Rattle.write_rules.specs.Form.{Lands, Formed}
+use Rattle.write_rules.specs.Sentences.{sizeOf, Gives}
 use Rattle.write_rules.proofs.Passed.{Passed}
 use Rattle.write_rules.proofs.Threes.{sheet-threes}
-use Rattle.write_rules.proofs.Answered.{Accepted, verdict-back, Refusal, verdict-refused, lengths, size-threes}
+use Rattle.write_rules.proofs.Answered.{Accepted, verdict-back, Refusal, verdict-refused}
+use Rattle.write_rules.proofs.Sizes.{size-threes}
 use Rattle.write_rules.proofs.Lands.{Sized, movedBy}
 use Rattle.write_rules.proofs.Written.{written-same, written-formed, written-layers, length-written}
 
-pub tally-size : (s d : List ℕ) (u : Tally) → Accepted s d u → u .size ≡ 26 + stripeCount (records s) * 39 + lengths (records s)
+pub tally-size : (s d : List ℕ) (u : Tally) → Accepted s d u → u .size ≡ sizeOf (records s)
 tally-size s d u k =
-    let t = sheet-threes (records s) (k .sheet) (k .three) (headBy (records s) u) refl refl in
-    let e = size-threes t (k .sheet .complete .count) in
-    let p = k .passed .size in
-    omega arith
+    k .passed .size ∙ size-threes (sheet-threes (records s) (k .sheet) (k .three) (headBy (records s) u) refl refl) (k .sheet .complete .count)
 
 pub size-done : (room size n : ℕ) → sizeAnswer room size ≡ Done n → (n ≡ size) × (size ≤ 16777215) × (size ≤ room)
 unfolding sizeAnswer
@@ -43,10 +42,12 @@ size-done room size n =
     cond-with (λ x. x ≡ Done n → (n ≡ size) × (size ≤ 16777215) × (size ≤ room)) (ltb room size) (λ u q. clash cc)
     (λ u q. let z : size ≡ n = cc in (sym z, ltb-false 16777215 size t, ltb-false room size u))
 
-pub refusal-not-done : {A : Type 0} (n m : ℕ) (a : Answer) → Refusal m a → a ≡ Done n → A
-refusal-not-done n m a k q =
-    ⊎-elim (λ (y : a ≡ BadSheet (k .place)). clash cc)
-    (⊎-elim (λ (y : a ≡ BadMode (k .place)). clash cc) (⊎-elim (λ (y : a ≡ Short (k .place)). clash cc) (λ (y : a ≡ Mismatch (k .place)). clash cc)))
+pub refusal-not-done : {A : Type 0} (s d : List ℕ) (room n : ℕ) (a : Answer) → Refusal s d room a → a ≡ Done n → A
+refusal-not-done s d room n a k q =
+    ⊎-elim (λ (y : (a ≡ BadSheet (k .place)) × Gives s d room (BadSheet (k .place))). let e = y .0 in clash cc)
+    (⊎-elim (λ (y : (a ≡ BadMode (k .place)) × Gives s d room (BadMode (k .place))). let e = y .0 in clash cc)
+    (⊎-elim (λ (y : (a ≡ Short (k .place)) × Gives s d room (Short (k .place))). let e = y .0 in clash cc)
+    (λ (y : (a ≡ Mismatch (k .place)) × Gives s d room (Mismatch (k .place))). let e = y .0 in clash cc)))
     (k .is)
 
 pub record Into (s d p : List ℕ) (n : ℕ) : Type 0 where
@@ -75,7 +76,7 @@ done-into s d p o n = by (verdictOf s d) refl
           fits = omega arith;
           into = ap (intoBy p d (records s)) e ∙ simp (le-ltb 16777215 (u .size) z1, le-ltb (length p) (u .size) z2);
         }
-    by (no a) e q = refusal-not-done n (length (records s)) a (verdict-refused s d a e) q
+    by (no a) e q = refusal-not-done s d (length p) n a (verdict-refused s d o (length p) a e) q
 
 module _ (s d p : List ℕ) (o : Octets d) (sized : (r : Record) → Among r (records s) → Sized r) (n : ℕ) (k : Into s d p n) where
   pub into-length : length (pageBy d (records s) (k .u)) ≡ n

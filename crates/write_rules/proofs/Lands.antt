@@ -25,7 +25,7 @@ use Rattle.write_rules.specs.Writing.{typeBy, fieldsBy, stripeBy, stripe
 use Rattle.write_rules.specs.Form.{bare, TrimStripe, Trim}
 use Rattle.write_rules.proofs.Passed.{sizeIn, coder-nonzero}
 use Rattle.write_rules.proofs.Threes.{Three, Threes, ended, another}
-use Rattle.write_rules.proofs.Answered.{size-first, size-other}
+use Rattle.write_rules.proofs.Sizes.{size-first, size-other}
 use Rattle.write_rules.proofs.Placed.{cons-same, uncoded-is, contents-coded, contents-empty, back-bit, mask-bit, fore-bit, type-by, type-small, placedAt, bare-placed, data-placed, imageIs, image-made, image-record, mask-record}
 
 -- the numbers of a record that a stripe's fields hold

@@ -28,7 +28,7 @@ use Rattle.write_rules.specs.Layer.{dataOf}
 use Rattle.write_rules.specs.Writing.{typeBy, colourBy, fieldsBy, stripeBy, stripesBy}
 use Rattle.write_rules.specs.Form.{TrimStripe, Trim}
 use Rattle.write_rules.proofs.Passed.{sizeIn}
-use Rattle.write_rules.proofs.Answered.{size-first, size-other}
+use Rattle.write_rules.proofs.Sizes.{size-first, size-other}
 
 -- ---- what a page's record says of itself
 

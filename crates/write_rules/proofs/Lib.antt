@@ -1,13 +1,15 @@
 pub mod Agreed
 pub mod Passed
 pub mod Threes
+pub mod Sizes
 pub mod Answered
 pub mod Placed
 pub mod Lands
 pub mod Written
+pub mod Into
+pub mod Exactly
 pub mod Sheets
 pub mod Lent
 pub mod Again
-pub mod Into
 pub mod Trips
 pub mod Theorems

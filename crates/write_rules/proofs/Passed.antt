@@ -1,32 +1,33 @@
 -- The records one by one: what is known where all of them passed, that they pass where it holds, and where they are refused.
 -- Assumes nothing.
-use Prim.Native.Nat.{ℕ, _+_, _%_, _≤_, _<_}
+use Prim.Native.Nat.{ℕ, suc, _+_, _%_, _≤_, _<_}
 use native.Mathlib.Omega.{arith}
-use mathlib.Core.Path.{_≡_, refl, sym, ap, subst, _∙_}
+use mathlib.Core.Path.{_≡_, refl, sym, ap, ap₂, subst, _∙_}
 use mathlib.Core.Logic.{_⊎_, inl, inr, _≢_, ⊎-elim}
 use mathlib.Core.Bool.{Bool, true, false, _&&_, not, cond, false≢true}
 use mathlib.Core.List.{List, [], _∷_, _++_, List·Memᴰ, List·Memᴰ·head, List·Memᴰ·tail, List·Memᴰ·cases-cons, List·Memᴰ·not-nil}
-use lib.ListN.{length}
+use lib.ListN.{length, take, drop}
+use lib.Seq.{split-at}
 use lib.Dec.{eqb}
 use borrow.Author.Tests.{eq-eqb, ne-eqb, eqb-true, eqb-false}
 use Rattle.octets.specs.Octets.{Octets}
-use Rattle.cases.proofs.Cases.{cond-with, bool-else, clash}
-use Rattle.cases.proofs.Says.{Says}
+use Rattle.cases.proofs.Cases.{clash}
+use Rattle.cases.proofs.Says.{Says, says-eq, says-else}
 use Rattle.answers.specs.declared.Answer.{Answer}
 use Rattle.answers.specs.declared.Answer.the-variants.{Short, Mismatch}
 use Rattle.field_rules.specs.Field.{Res, ok, no, bind}
 use Rattle.sheet_rules.specs.declared.Record.{Record}
-use Rattle.sheet_rules.specs.Record.{only, sumOf}
+use Rattle.sheet_rules.specs.Record.{blank, nth, only, sumOf}
 use Rattle.sheet_rules.specs.Judge.{coded}
 use Rattle.sheet_rules.specs.Sentences.{Among, Coded, Uncoded, CoderOf}
 use Rattle.sheet_rules.proofs.New.{says-coded}
 use Rattle.jpeg_rules.specs.Grammar.{Layer}
-use Rattle.page_rules.proofs.Named.{Named}
 use Rattle.write_rules.specs.declared.Tally.{Tally}
 use Rattle.write_rules.specs.Layer.{dataOf}
 use Rattle.write_rules.specs.Writing.{isMask, counted, matches, recordStep, recordsPass}
 use Rattle.write_rules.specs.Form.{UsedMask, UsedImage}
-use Rattle.write_rules.proofs.Agreed.{Meets, says-matches, step-cases}
+use Rattle.write_rules.specs.Sentences.{Fine}
+use Rattle.write_rules.proofs.Agreed.{Meets, says-matches, step-cases, step-next}
 
 -- what the judge has said of each record, and the mode
 pub record Plain (rs : List Record) : Type 0 where
@@ -34,8 +35,8 @@ pub record Plain (rs : List Record) : Type 0 where
   pub coder : (r : Record) → Among r rs → Coded r → CoderOf (r .layer) (r .coder)
   pub start : (r : Record) → Among r rs → Uncoded r → r .start ≡ 0
 
-plain-tail : (r : Record) (rs : List Record) → Plain (r ∷ rs) → Plain rs
-plain-tail r rs p =
+plain-tail : {r : Record} {rs : List Record} → Plain (r ∷ rs) → Plain rs
+plain-tail p =
     record {
       low = λ q m. p .low q (List·Memᴰ·tail m);
       coder = λ q m. p .coder q (List·Memᴰ·tail m);
@@ -176,20 +177,16 @@ pass-back d o main t u i n (r ∷ rs) p =
     step-cases (λ x. bind x (λ (v : Tally) (j : ℕ). recordsPass d main v j rs) ≡ ok u n → Passed d main t u (r ∷ rs)) d main t i r
     (λ h q. clash cc)
     (λ h m q.
-    passed-more d o main t u r rs p h (says-matches d o r h main t .told m) (pass-back d o main (counted t r) u (i + 1) n rs (plain-tail r rs p) q))
+    passed-more d o main t u r rs p h (says-matches d o r h main t .told m) (pass-back d o main (counted t r) u (i + 1) n rs (plain-tail p) q))
     (λ h m q. clash cc)
 
--- ---- they pass where every coded record names a layer of the buffer and the masks have one coder
+-- ---- they pass where they are fine
 
-pub record Passing (d : List ℕ) (main : ℕ) (rs : List Record) : Type 0 where
-  pub named : (r : Record) → Among r rs → Coded r → Named main d r
-  pub coders : (r q : Record) → Among r rs → Among q rs → Coded r → Coded q → r .layer ≡ 2 → q .layer ≡ 2 → r .coder ≡ q .coder
+fine-tail : {main : ℕ} {d : List ℕ} {r : Record} {rs : List Record} → Fine main d (r ∷ rs) → Fine main d rs
+fine-tail k =
+    record { fits = λ q m. k .fits q (List·Memᴰ·tail m); layers = λ q m. k .layers q (List·Memᴰ·tail m); coders = λ q w m j. k .coders q w (List·Memᴰ·tail m) (List·Memᴰ·tail j) }
 
-passing-tail : (d : List ℕ) (main : ℕ) (r : Record) (rs : List Record) → Passing d main (r ∷ rs) → Passing d main rs
-passing-tail d main r rs k =
-    record { named = λ q m. k .named q (List·Memᴰ·tail m); coders = λ q w m j. k .coders q w (List·Memᴰ·tail m) (List·Memᴰ·tail j) }
-
-pub pass-there : (d : List ℕ) → Octets d → (main : ℕ) (t : Tally) (i : ℕ) (rs : List Record) → Plain rs → Passing d main rs
+pub pass-there : (d : List ℕ) → Octets d → (main : ℕ) (t : Tally) (i : ℕ) (rs : List Record) → Plain rs → Fine main d rs
     → ((r : Record) → Among r rs → Coded r → r .layer ≡ 2 → (t .mask ≡ 0) ⊎ (t .mask ≡ r .coder))
     → (u : Tally) × (recordsPass d main t i rs ≡ ok u (i + length rs))
 unfolding recordsPass bind
@@ -198,10 +195,10 @@ pass-there d o main t i (r ∷ rs) p k c =
     step-cases (λ x. (u : Tally) × (bind x (λ (v : Tally) (j : ℕ). recordsPass d main v j rs) ≡ ok u (i + length (r ∷ rs)))) d main t i r
     (λ h. absurd (not-short h))
     (λ h m.
-    let y = pass-there d o main (counted t r) (i + 1) rs (plain-tail r rs p) (passing-tail d main r rs k) coders in
+    let y = pass-there d o main (counted t r) (i + 1) rs (plain-tail p) (fine-tail k) coders in
     let z : i + 1 + length rs ≡ i + length (r ∷ rs) = omega arith in
     (y .0, y .1 ∙ ap (ok (y .0)) z))
-    (λ h m. absurd (false≢true (sym m ∙ says-matches d o r h main t .shown (meets h))))
+    (λ h m. absurd (false≢true (sym m ∙ says-matches d o r h main t .shown (λ y. (c r here y, k .layers r here y)))))
   where
     here : Among r (r ∷ rs)
     here = List·Memᴰ·head refl
@@ -209,41 +206,66 @@ pass-there d o main t i (r ∷ rs) p k c =
     not-short : length d < r .start + r .len → ⊥
     not-short h =
         ⊎-elim
-        (λ (e : coded r ≡ true). let n = k .named r here (says-coded r .told e) .inside in omega arith)
-        (λ (e : coded r ≡ false).
-        let z : r .len ≡ 0 = uncoded e in
-        let s = p .start r here z in
-        omega arith)
-        (bool-else (coded r))
-      where
-        uncoded : coded r ≡ false → r .len ≡ 0
-        uncoded e =
-            ⊎-elim (λ (f : eqb (r .len) 0 ≡ true). eqb-true (r .len) 0 f) (λ (f : eqb (r .len) 0 ≡ false). absurd (false≢true (sym e ∙ ap not f))) (bool-else (eqb (r .len) 0))
-
-    meets : (h : r .start + r .len ≤ length d) → Meets d o r h main t
-    meets h y = (λ e. c r here y e, λ e. ⊎-elim (λ (z : r .layer ≡ 2). absurd (e z)) (λ (z : Layer main (dataOf d r) (r .width) (r .height) (r .res)). z) (k .named r here y .layer))
+        (λ (z : Uncoded r). let s = p .start r here z in omega arith)
+        (λ (y : Coded r). let n = k .fits r here y in omega arith)
+        (says-else (says-eq (r .len) 0))
 
     coders : (q : Record) → Among q rs → Coded q → q .layer ≡ 2 → (counted t r .mask ≡ 0) ⊎ (counted t r .mask ≡ q .coder)
     coders q m y e =
         mask-cases t r (λ j. (j ≡ 0) ⊎ (j ≡ q .coder)) (λ z f. inr (k .coders r q here (List·Memᴰ·tail m) z y f e)) (c q (List·Memᴰ·tail m) y e)
 
--- ---- a refusal is Short or Mismatch at one of the records
+-- and where all passed they are fine
+pub passed-fine : (d : List ℕ) (main : ℕ) (t u : Tally) (rs : List Record) → Passed d main t u rs → Fine main d rs
+passed-fine d main t u rs p =
+    record { fits = λ r m c. p .inside r m; layers = p .layer; coders = λ r q m j c w e f. sym (p .mask r m c e) ∙ p .mask q j w f }
 
-pub record RecordRefusal (from upto : ℕ) (a : Answer) : Type 0 where
-  pub place : ℕ
-  pub is : (a ≡ Short place) ⊎ (a ≡ Mismatch place)
-  pub least : from ≤ place
-  pub most : place < upto
+-- ---- where they stop: those before pass, and the record does not
 
-pub pass-refused : (d : List ℕ) (main : ℕ) (t : Tally) (i : ℕ) (rs : List Record) (a : Answer) → recordsPass d main t i rs ≡ no a → RecordRefusal i (i + length rs) a
+pub record Stops (d : List ℕ) (main : ℕ) (t : Tally) (i : ℕ) (rs : List Record) (a : Answer) : Type 0 where
+  pub j : ℕ
+  pub within : j < length rs
+  pub u : Tally
+  pub passed : recordsPass d main t i (take j rs) ≡ ok u (i + j)
+  pub stops : recordStep d main u (i + j) (nth rs j) ≡ no a
+
+pub pass-stops : (d : List ℕ) (main : ℕ) (t : Tally) (i : ℕ) (rs : List Record) (a : Answer) → recordsPass d main t i rs ≡ no a → Stops d main t i rs a
 unfolding recordsPass bind
-pass-refused d main t i [] a = λ q. clash cc
-pass-refused d main t i (r ∷ rs) a =
-    step-cases (λ x. bind x (λ (v : Tally) (j : ℕ). recordsPass d main v j rs) ≡ no a → RecordRefusal i (i + length (r ∷ rs)) a) d main t i r
-    (λ h q. record { place = i; is = inl cc; least = omega arith; most = omega arith })
-    (λ h m q.
-    let k = pass-refused d main (counted t r) (i + 1) rs a q in
-    let l = k .least in
-    let u = k .most in
-    record { place = k .place; is = k .is; least = omega arith; most = omega arith })
-    (λ h m q. record { place = i; is = inr cc; least = omega arith; most = omega arith })
+pass-stops d main t i [] a q = clash cc
+pass-stops d main t i (r ∷ rs) a q = by (λ v n. pass-stops d main v n rs a) (recordStep d main t i r) refl q
+  where
+    by : ((v : Tally) (n : ℕ) → recordsPass d main v n rs ≡ no a → Stops d main v n rs a) → (x : Res Tally) → recordStep d main t i r ≡ x → bind x (λ (v : Tally) (j : ℕ). recordsPass d main v j rs) ≡ no a → Stops d main t i (r ∷ rs) a
+    by more (ok v n) e h =
+        let m = step-next d main t i r v n e in
+        let k = more v n h in
+        let w = k .within in
+        let z : n + k .j ≡ i + suc (k .j) = omega arith in
+        record {
+          j = suc (k .j);
+          within = omega arith;
+          u = k .u;
+          passed = ap (λ (x : Res Tally). bind x (λ (v : Tally) (j : ℕ). recordsPass d main v j (take (k .j) rs))) e ∙ k .passed ∙ ap (ok (k .u)) z;
+          stops = ap (λ (m : ℕ). recordStep d main (k .u) m (nth rs (k .j))) (sym z) ∙ k .stops;
+        }
+    by more (no b) e h =
+        let z : i ≡ i + 0 = omega arith in
+        let f : b ≡ a = cc in
+        record { j = 0; within = omega arith; u = t; passed = ap (ok t) z; stops = ap (λ (m : ℕ). recordStep d main t m r) (sym z) ∙ e ∙ ap no f }
+
+-- the other way
+pub pass-append : (d : List ℕ) (main : ℕ) (t u : Tally) (i n : ℕ) (ps qs : List Record) → recordsPass d main t i ps ≡ ok u n → recordsPass d main t i (ps ++ qs) ≡ recordsPass d main u n qs
+unfolding recordsPass bind
+pass-append d main t u i n [] qs q = let a : t ≡ u = cc in let b : i ≡ n = cc in ap₂ (λ (x : Tally) (j : ℕ). recordsPass d main x j qs) a b
+pass-append d main t u i n (p ∷ ps) qs q = by (λ v m. pass-append d main v u m n ps qs) (recordStep d main t i p) q
+  where
+    by : ((v : Tally) (m : ℕ) → recordsPass d main v m ps ≡ ok u n → recordsPass d main v m (ps ++ qs) ≡ recordsPass d main u n qs) → (x : Res Tally) → bind x (λ (v : Tally) (j : ℕ). recordsPass d main v j ps) ≡ ok u n
+        → bind x (λ (v : Tally) (j : ℕ). recordsPass d main v j (ps ++ qs)) ≡ recordsPass d main u n qs
+    by more (ok v m) h = more v m h
+    by more (no b) h = clash cc
+
+pub pass-fault : (d : List ℕ) (main : ℕ) (t u : Tally) (i n : ℕ) (rs : List Record) (j : ℕ) (a : Answer) → j < length rs → recordsPass d main t i (take j rs) ≡ ok u n
+    → recordStep d main u n (nth rs j) ≡ no a → recordsPass d main t i rs ≡ no a
+unfolding recordsPass bind
+pass-fault d main t u i n rs j a h p e =
+    ap (recordsPass d main t i) (split-at rs j blank h)
+    ∙ pass-append d main t u i n (take j rs) (nth rs j ∷ drop (suc j) rs) p
+    ∙ ap (λ (x : Res Tally). bind x (λ (v : Tally) (k : ℕ). recordsPass d main v k (drop (suc j) rs))) e

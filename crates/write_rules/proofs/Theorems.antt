@@ -26,70 +26,19 @@ use Rattle.write_rules.specs.declared.Tally.{Tally}
 use Rattle.write_rules.specs.Writing.{begun, mainOf, verdictOf, pageBy, sizeAnswer, answerBy, writeOf, intoBy, writeInto}
 use Rattle.write_rules.specs.Layer.{dataOf}
 use Rattle.write_rules.specs.Form.{bare, Lands, Formed}
+use Rattle.write_rules.specs.Sentences.{Fine, Low, sizeOf, Sound, Gives}
 use Rattle.write_rules.proofs.Passed.{Passed}
-use Rattle.write_rules.proofs.Answered.{Accepted, verdict-back, verdict-there, passed-passing, Refusal, verdict-refused, lengths}
+use Rattle.write_rules.proofs.Exactly.{write-gives, gives-write}
 use Rattle.write_rules.proofs.Written.{records-sized}
-use Rattle.write_rules.proofs.Into.{tally-size, size-done, refusal-not-done, Into, done-into, into-page, into-size, into-kept, into-lands, into-formed}
+use Rattle.write_rules.proofs.Into.{Into, done-into, into-page, into-size, into-kept, into-lands, into-formed}
 use Rattle.write_rules.proofs.Sheets.{sheet-back, sheet-whole}
 use Rattle.write_rules.proofs.Again.{page-again}
-use Rattle.write_rules.proofs.Trips.{length-page, trip-sheet, trip-low, trip-passing, sheet-sized, trip-size}
+use Rattle.write_rules.proofs.Trips.{length-page, trip-sheet, trip-low, trip-fine, sheet-sized, trip-size}
 
--- ---- the call answers Done with n octets exactly if the sheet is one that the judge accepts and has no layer above 3; each coded record's data is in
--- the buffer, and in an image layer is a JPEG layer of the record's size and resolution; the coded masks have one coder; and n is 26 octets, 39 a
--- stripe and the coded data, at most 16,777,215, and the page's buffer holds so many
+-- ---- each answer is given exactly when the sentences have it
 
-pub record Writable (rs : List Record) (d : List ℕ) (room n : ℕ) : Type 0 where
-  pub sheet : Sheet rs
-  pub three : (r : Record) → Among r rs → r .layer ≤ 3
-  pub named : (r : Record) → Among r rs → Coded r → Named (mainOf rs) d r
-  pub coders : (r q : Record) → Among r rs → Among q rs → Coded r → Coded q → r .layer ≡ 2 → q .layer ≡ 2 → r .coder ≡ q .coder
-  pub size : n ≡ 26 + stripeCount rs * 39 + lengths rs
-  pub short : n ≤ 16777215
-  pub holds : n ≤ room
-
-pub write-done : (s d : List ℕ) → Octets d → (room n : ℕ) → writeOf s d room ≡ Done n ↔ (rest s ≡ 0) × Writable (records s) d room n
-unfolding writeOf answerBy sizeAnswer
-write-done s d o room n = (by (verdictOf s d) refl, back)
-  where
-    by : (r : Res Tally) → verdictOf s d ≡ r → answerBy room r ≡ Done n → (rest s ≡ 0) × Writable (records s) d room n
-    by (ok u m) e q =
-        let k = verdict-back s d o u m e in
-        let p = passed-passing s d u k in
-        let z = size-done room (u .size) n q in
-        let z0 = z .0 in
-        let z1 = z .1 in
-        let z2 = z .2 in
-        let y = tally-size s d u k in
-        (k .whole, record { sheet = k .sheet; three = k .three; named = p .named; coders = p .coders; size = z0 ∙ y; short = omega arith; holds = omega arith })
-    by (no a) e q = refusal-not-done n (length (records s)) a (verdict-refused s d a e) q
-
-    back : (rest s ≡ 0) × Writable (records s) d room n → answerBy room (verdictOf s d) ≡ Done n
-    back x =
-        let w = x .1 in
-        let y = verdict-there s d o (w .sheet) (x .0) (w .three) (record { named = w .named; coders = w .coders }) in
-        let k = verdict-back s d o (y .0) (length (records s)) (y .1) in
-        let z = tally-size s d (y .0) k in
-        let ws = w .size in
-        let wh = w .short in
-        let wr = w .holds in
-        let e : y .0 .size ≡ n = omega arith in
-        ap (answerBy room) (y .1) ∙ ap (sizeAnswer room) e ∙ simp (le-ltb 16777215 n wh, le-ltb room n wr)
-
--- ---- any other answer is one of the refusals that the paper's order for writing names: BadSheet, BadMode, Short and Mismatch at a record's number,
--- at most the number of records; or TooLong or NoRoom, whose place is 0
-
-pub WriteRefusal : ℕ → Answer → Type 0
-WriteRefusal n a = Refusal n a ⊎ ((a ≡ TooLong) ⊎ (a ≡ NoRoom))
-
-pub write-refused : (s d : List ℕ) (room : ℕ) → ((n : ℕ) → writeOf s d room ≡ Done n → ⊥) → WriteRefusal (length (records s)) (writeOf s d room)
-unfolding writeOf answerBy sizeAnswer WriteRefusal
-write-refused s d room = by (verdictOf s d) refl
-  where
-    by : (r : Res Tally) → verdictOf s d ≡ r → ((n : ℕ) → answerBy room r ≡ Done n → ⊥) → WriteRefusal (length (records s)) (answerBy room r)
-    by (ok u m) e =
-        cond-with (λ x. ((n : ℕ) → x ≡ Done n → ⊥) → WriteRefusal (length (records s)) x) (ltb 16777215 (u .size)) (λ t h. inr (inl refl)) λ t.
-        cond-with (λ x. ((n : ℕ) → x ≡ Done n → ⊥) → WriteRefusal (length (records s)) x) (ltb room (u .size)) (λ v h. inr (inr refl)) (λ v h. absurd (h (u .size) refl))
-    by (no a) e = λ h. inl (verdict-refused s d a e)
+pub write-exactly : (s d : List ℕ) → Octets d → (room : ℕ) (a : Answer) → writeOf s d room ≡ a ↔ Gives s d room a
+write-exactly s d o room a = (λ e. subst (Gives s d room) e (write-gives s d o room), gives-write s d o room a)
 
 -- ---- what is written: n octets in front, and the octets past them as they were; a refusal changes nothing
 
@@ -140,15 +89,18 @@ write-formed s d p os o n q = into-formed s d p o (records-sized s os) n (done-i
 
 lent-done : (s : List ℕ) → Octets s → (rs : List Record) (y : Page s rs) → length s ≤ 16777215 → (room : ℕ) → length s ≤ room
     → writeOf (sheetOf rs) s room ≡ Done (26 + length (y .stripes))
+unfolding Gives
 lent-done s o rs y short room fits =
     let l = length-page s rs y in
-    let p = trip-passing s rs y short in
-    let small : 26 + length (y .stripes) ≤ 16777215 = omega arith in
-    let holds : 26 + length (y .stripes) ≤ room = omega arith in
-    let w : Writable rs s room (26 + length (y .stripes)) =
-    record { sheet = trip-sheet s rs y short; three = trip-low s rs y short; named = p .named; coders = p .coders; size = trip-size s rs y short; short = small; holds = holds } in
-    write-done (sheetOf rs) s o room (26 + length (y .stripes)) .1
-    (sheet-whole rs, subst (λ (x : List Record). Writable x s room (26 + length (y .stripes))) (sym (sheet-back rs)) w)
+    let e = sheet-back rs in
+    let k : Sound (sheetOf rs) s =
+    record {
+      sheet = subst Sheet (sym e) (trip-sheet s rs y short);
+      whole = sheet-whole rs;
+      low = subst Low (sym e) (trip-low s rs y short);
+      fine = subst (λ (x : List Record). Fine (mainOf x) s x) (sym e) (trip-fine s rs y short);
+    } in
+    write-exactly (sheetOf rs) s o room (Done (26 + length (y .stripes))) .1 (k, trip-size s rs y short ∙ ap sizeOf (sym e), omega arith, omega arith)
 
 -- a page in the writer's form comes back octet for octet
 

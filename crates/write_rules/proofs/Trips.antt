@@ -11,17 +11,20 @@ use Rattle.cases.proofs.Cases.{bool-else}
 use Rattle.sheet_rules.specs.declared.Record.{Record}
 use Rattle.sheet_rules.specs.Record.{records, sheetOf, sumOf}
 use Rattle.sheet_rules.specs.Judge.{coded}
-use Rattle.sheet_rules.specs.Sentences.{Among, Sheet, stripeCount}
+use Rattle.sheet_rules.specs.Sentences.{Among, Sheet}
 use Rattle.sheet_rules.proofs.New.{says-coded}
+use Rattle.jpeg_rules.specs.Grammar.{Layer}
 use Rattle.page_rules.specs.declared.Head.{Head}
 use Rattle.page_rules.specs.Grammar.{startOf, Page}
 use Rattle.page_rules.proofs.There.{length-start}
 use Rattle.page_rules.proofs.Accepted.{page-accepted}
 use Rattle.page_rules.proofs.Named.{Named, page-named}
+use Rattle.write_rules.specs.Layer.{dataOf}
 use Rattle.write_rules.specs.Writing.{mainOf}
-use Rattle.write_rules.proofs.Passed.{sizeIn, Passing}
+use Rattle.write_rules.specs.Sentences.{Fine, Low, sizeOf}
+use Rattle.write_rules.proofs.Passed.{sizeIn}
 use Rattle.write_rules.proofs.Threes.{sheet-threes}
-use Rattle.write_rules.proofs.Answered.{Low, lengths, size-threes}
+use Rattle.write_rules.proofs.Sizes.{size-threes}
 use Rattle.write_rules.proofs.Placed.{uncoded-is}
 use Rattle.write_rules.proofs.Lands.{Sized}
 use Rattle.write_rules.proofs.Lent.{Lent, stripes-lent, stripes-main, stripes-size}
@@ -49,10 +52,14 @@ module _ (s : List ℕ) (rs : List Record) (y : Page s rs) (short : length s ≤
   pub trip-low : Low rs
   trip-low r m = lent r m .low
 
-  pub trip-passing : Passing s (mainOf rs) rs
-  trip-passing =
+  pub trip-fine : Fine (mainOf rs) s rs
+  trip-fine =
+      let e = sym (stripes-main (y .striped) .0) in
       record {
-        named = λ r m c. subst (λ (j : ℕ). Named j s r) (sym (stripes-main (y .striped) .0)) (page-named s rs y r m c);
+        fits = λ r m c. page-named s rs y r m c .inside;
+        layers = λ r m c n.
+            subst (λ (j : ℕ). Layer j (dataOf s r) (r .width) (r .height) (r .res)) e
+            (⊎-elim (λ (z : r .layer ≡ 2). absurd (n z)) (λ (z : Layer (y .head .main) (dataOf s r) (r .width) (r .height) (r .res)). z) (page-named s rs y r m c .layer));
         coders = λ r q m j c w e f. lent r m .mask c e ∙ sym (lent q j .mask w f);
       }
 
@@ -70,10 +77,8 @@ module _ (s : List ℕ) (rs : List Record) (y : Page s rs) (short : length s ≤
   pub sheet-sized : (r : Record) → Among r (records (sheetOf rs)) → Sized r
   sheet-sized r m = trip-sized r (subst (Among r) (sheet-back rs) m)
 
-  pub trip-size : 26 + length (y .stripes) ≡ 26 + stripeCount rs * 39 + lengths rs
+  pub trip-size : 26 + length (y .stripes) ≡ sizeOf rs
   trip-size =
       let m = stripes-main (y .striped) in
-      let t = sheet-threes rs trip-sheet trip-low (y .head) (sym (m .0)) (sym (m .1)) in
-      let a = size-threes t (trip-sheet .complete .count) in
-      let b = stripes-size (y .striped) in
-      omega arith
+      ap (λ (n : ℕ). 26 + n) (sym (stripes-size (y .striped)))
+      ∙ size-threes (sheet-threes rs trip-sheet trip-low (y .head) (sym (m .0)) (sym (m .1))) (trip-sheet .complete .count)

@@ -23,7 +23,7 @@ use Rattle.write_rules.specs.Form.{bare, Trim, UsedMask, UsedImage, Form
 use Rattle.write_rules.proofs.Agreed.{length-data}
 use Rattle.write_rules.proofs.Passed.{sizeIn, Passed}
 use Rattle.write_rules.proofs.Threes.{Three, Threes, ended, another, sheet-threes}
-use Rattle.write_rules.proofs.Answered.{Low}
+use Rattle.write_rules.specs.Sentences.{Low}
 use Rattle.write_rules.proofs.Lands.{Sized, Ready, movedBy, Landed, stripes-land, moved-same, moved-data, length-stripes}
 
 -- ---- the numbers of a sheet's records are small

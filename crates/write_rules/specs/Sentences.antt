@@ -1,0 +1,85 @@
+-- Writing as sentences: when each answer is given (01, "Numbers that a call returns"), without the steps of Writing.antt.
+--
+--   Fine main d rs    each coded record of rs has its data in the buffer d; an image layer's data is a JPEG layer of the record's width, height and
+--                     resolution; and the coded masks have one coder
+--   ModeAt rs i       the record i is the first above layer 3
+--   ShortAt ..        those before the record i are fine, and its data passes the end of the buffer
+--   MismatchAt ..     those before the record i are fine, its data is there, and with it they are not fine
+--   sizeOf rs         26 octets, 39 a stripe, and the coded data
+--   Sound s d         the octets s are a sheet without a layer above 3, and its records are fine
+--   Gives s d room a  the call answers a
+use Prim.Native.Nat.{ℕ, _+_, _*_, _≤_, _<_}
+use mathlib.Core.Path.{_≡_}
+use mathlib.Core.Logic.{_≢_}
+use mathlib.Core.List.{List}
+use lib.ListN.{length, take}
+use Rattle.answers.specs.declared.Answer.{Answer}
+use Rattle.answers.specs.declared.Answer.the-variants.{Done, Short, BadMark, BadLength, BadVersion, BadMode, BadCoder, BadRes, BadWidth, BadType, BadStripe, BadLayer, Trailing, NoRoom, BadSheet, BadPlane, Mismatch, BadLine, TooLong}
+use Rattle.sheet_rules.specs.declared.Record.{Record}
+use Rattle.sheet_rules.specs.Record.{records, rest, nth, sumOf}
+use Rattle.sheet_rules.specs.Sentences.{Among, Coded, Sheet, stripeCount, BadSheetAt}
+use Rattle.jpeg_rules.specs.Grammar.{Layer}
+use Rattle.write_rules.specs.Layer.{dataOf}
+use Rattle.write_rules.specs.Writing.{mainOf}
+
+pub record Fine (main : ℕ) (d : List ℕ) (rs : List Record) : Type 0 where
+  pub fits : (r : Record) → Among r rs → Coded r → r .start + r .len ≤ length d
+  pub layers : (r : Record) → Among r rs → Coded r → r .layer ≢ 2 → Layer main (dataOf d r) (r .width) (r .height) (r .res)
+  pub coders : (r q : Record) → Among r rs → Among q rs → Coded r → Coded q → r .layer ≡ 2 → q .layer ≡ 2 → r .coder ≡ q .coder
+
+-- every N is 3
+abbrev pub Low : List Record → Type 0
+Low rs = (r : Record) → Among r rs → r .layer ≤ 3
+
+-- ---- the record at fault
+
+pub record ModeAt (rs : List Record) (i : ℕ) : Type 0 where
+  pub within : i < length rs
+  pub before : Low (take i rs)
+  pub above : 3 < nth rs i .layer
+
+pub record ShortAt (main : ℕ) (d : List ℕ) (rs : List Record) (i : ℕ) : Type 0 where
+  pub within : i < length rs
+  pub before : Fine main d (take i rs)
+  pub short : length d < nth rs i .start + nth rs i .len
+
+pub record MismatchAt (main : ℕ) (d : List ℕ) (rs : List Record) (i : ℕ) : Type 0 where
+  pub within : i < length rs
+  pub before : Fine main d (take i rs)
+  pub fits : nth rs i .start + nth rs i .len ≤ length d
+  pub broken : Fine main d (take (i + 1) rs) → ⊥
+
+-- ---- the answers, in the paper's order
+
+unfoldable pub sizeOf : List Record → ℕ
+unfolding sumOf
+sizeOf rs = 26 + stripeCount rs * 39 + sumOf (λ (r : Record). r .len) rs
+
+pub record Sound (s d : List ℕ) : Type 0 where
+  pub sheet : Sheet (records s)
+  pub whole : rest s ≡ 0
+  pub low : Low (records s)
+  pub fine : Fine (mainOf (records s)) d (records s)
+
+unfoldable pub Gives : List ℕ → List ℕ → ℕ → Answer → Type 0
+unfolding sizeOf
+Gives s d room (BadSheet i) = BadSheetAt s i
+Gives s d room (BadMode i) = Sheet (records s) × (rest s ≡ 0) × ModeAt (records s) i
+Gives s d room (Short i) = Sheet (records s) × (rest s ≡ 0) × Low (records s) × ShortAt (mainOf (records s)) d (records s) i
+Gives s d room (Mismatch i) = Sheet (records s) × (rest s ≡ 0) × Low (records s) × MismatchAt (mainOf (records s)) d (records s) i
+Gives s d room TooLong = Sound s d × (16777215 < sizeOf (records s))
+Gives s d room NoRoom = Sound s d × (sizeOf (records s) ≤ 16777215) × (room < sizeOf (records s))
+Gives s d room (Done n) = Sound s d × (n ≡ sizeOf (records s)) × (n ≤ 16777215) × (n ≤ room)
+-- writing gives no other
+Gives s d room (BadMark i) = ⊥
+Gives s d room (BadLength i) = ⊥
+Gives s d room (BadVersion i) = ⊥
+Gives s d room (BadCoder i) = ⊥
+Gives s d room (BadRes i) = ⊥
+Gives s d room (BadWidth i) = ⊥
+Gives s d room (BadType i) = ⊥
+Gives s d room (BadStripe i) = ⊥
+Gives s d room (BadLayer i) = ⊥
+Gives s d room (Trailing i) = ⊥
+Gives s d room (BadPlane i) = ⊥
+Gives s d room BadLine = ⊥
