@@ -8,11 +8,12 @@
 --   Standing out s p         reading stands at a place of a page, and the scratch is there
 --   StripeTurned ..          a stripe is passed, or the body is refused in it
 --   Turned ..                a segment is passed, or the body ends or is refused
+--   Opened out s             the start of page is fine, and the scratch is there
 --   Bodied ..                the body is read with its records, which are laid in front, or refused
 use Prim.Native.Nat.{ℕ, suc, _+_, _-_, _*_, _≤_, _<_}
 use mathlib.Core.Bool.{cond}
 use mathlib.Core.Path.{_≡_}
-use mathlib.Core.List.{List, _++_}
+use mathlib.Core.List.{List, [], _++_}
 use lib.ListN.{length, getD}
 use lib.Dec.{eqb}
 use Rattle.octets.specs.Octets.{be32At, putAt}
@@ -128,3 +129,20 @@ abbrev pub Turned : Head → Place → List ℕ → List ℕ → Turn → List �
 Turned hd p s out (Go q) out′ = Passed hd p s out q out′
 Turned hd p s out (Stop (Stripes count next)) out′ = Over hd p s out count next out′
 Turned hd p s out (Stop (Stopped a)) out′ = Refuses hd p s out a out′
+
+pub record Opened (out s : List ℕ) : Type 0 where
+  pub long : 22 ≤ length s
+  pub small : length s ≤ 16777215
+  pub room : length out ≡ 5376
+
+pub record BodyRead (hd : Head) (s out : List ℕ) (count next : ℕ) (out′ : List ℕ) : Type 0 where
+  pub records : List Record
+  pub same : bodyFrom (length s) hd 0 65535 [] s 22 ≡ ok records next
+  pub laid : out′ ≡ putAt out 0 (sheetOf records)
+  pub counted : count * 3 ≡ length records
+  pub few : count ≤ 64
+  pub inside : next ≤ length s
+
+abbrev pub Bodied : Head → List ℕ → List ℕ → Body → List ℕ → Type 0
+Bodied hd s out (Stripes count next) out′ = BodyRead hd s out count next out′
+Bodied hd s out (Stopped a) out′ = bodyFrom (length s) hd 0 65535 [] s 22 ≡ no a

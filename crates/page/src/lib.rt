@@ -5,7 +5,7 @@ ghost use Prim.Native.Nat.{_+_, _≤_};
 ghost use lib.ListN.{length, getD};
 ghost use Rattle.octets.specs.Octets.{be32At};
 ghost use Rattle.layers.specs.Layers.{layersIn};
-ghost use Rattle.page.specs.Steps.{Laying, stepOf, laidOf, Ready, Striped, endedOf, StripeTurned, Standing, Turned};
+ghost use Rattle.page.specs.Steps.{Laying, stepOf, laidOf, Ready, Striped, endedOf, StripeTurned, Standing, Turned, Opened, Bodied};
 use answers::Answer;
 use layers::Layers;
 use page_rules::Head;
@@ -114,5 +114,27 @@ fn body_turn(out: &mut [u8], s: &[u8], hd: Head, p: Place) -> Turn
             left: p.left,
         }),
         Segment::Stripe { size } => stripe_turn(out, s, hd, p, size),
+    }
+}
+
+// Each turn passes eight octets at least, so that the loop ends.
+fn read_body(out: &mut [u8], s: &[u8], hd: Head) -> Body
+    requires { ⌜ Opened (now out) (now s) ⌝ }
+    ensures { λ r. ⌜ Bodied hd (now (s .entry)) (now (out .entry)) r (now (out .exit)) ⌝ }
+{
+    let mut p = Place {
+        at: 22,
+        stripe: 0,
+        left: 65535,
+    };
+    loop {
+        match body_turn(out, s, hd, p) {
+            Turn::Go(q) => {
+                p = q;
+            }
+            Turn::Stop(b) => {
+                return b;
+            }
+        }
     }
 }
