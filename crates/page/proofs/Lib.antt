@@ -4,3 +4,4 @@ pub mod Stripe
 pub mod Turns
 pub mod Segments
 pub mod Loop
+pub mod Whole

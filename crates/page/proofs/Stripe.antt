@@ -91,7 +91,7 @@ module _ (hd : Head) (k : ℕ) (f : Fields) (s : List ℕ) (at : ℕ) where
 
 -- ---- what a verdict on fields tells of their reading
 
-judged-no : {A : Type 0} (x : Res A) (a : Answer) → judgedOf x ≡ Refused a → x ≡ no a
+pub judged-no : {A : Type 0} (x : Res A) (a : Answer) → judgedOf x ≡ Refused a → x ≡ no a
 unfolding judgedOf
 judged-no (ok v n) a e = clash cc
 judged-no (no b) a e = let p : b ≡ a = cc in ap no p

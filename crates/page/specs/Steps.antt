@@ -10,21 +10,25 @@
 --   Turned ..                a segment is passed, or the body ends or is refused
 --   Opened out s             the start of page is fine, and the scratch is there
 --   Bodied ..                the body is read with its records, which are laid in front, or refused
+--   Lent out s               a page that is not too long, and the scratch
+--   restOf hd s              the page behind its start
+--   Judges x out r out′      the verdict is that of a reading x, and its records are laid in front
+--   Emits laid n d a e       so many stripes of what is laid, put in front of a sheet that has room for them
 use Prim.Native.Nat.{ℕ, suc, _+_, _-_, _*_, _≤_, _<_}
 use mathlib.Core.Bool.{cond}
 use mathlib.Core.Path.{_≡_}
 use mathlib.Core.List.{List, [], _++_}
-use lib.ListN.{length, getD}
-use lib.Dec.{eqb}
+use lib.ListN.{length, getD, take, drop}
+use lib.Dec.{eqb, ltb}
 use Rattle.octets.specs.Octets.{be32At, putAt}
 use Rattle.answers.specs.declared.Answer.{Answer}
-use Rattle.answers.specs.declared.Answer.the-variants.{BadStripe}
-use Rattle.field_rules.specs.Field.{Res, ok, no}
+use Rattle.answers.specs.declared.Answer.the-variants.{Done, BadStripe, NoRoom}
+use Rattle.field_rules.specs.Field.{Res, ok, no, bind, fields}
 use Rattle.sheet_rules.specs.declared.Record.{Record}
 use Rattle.sheet_rules.specs.Record.{sheetOf}
 use Rattle.page_rules.specs.declared.Head.{Head}
 use Rattle.page_rules.specs.Grammar.{recordsOf}
-use Rattle.page_rules.specs.Reading.{stripeFrom, bodyFrom}
+use Rattle.page_rules.specs.Reading.{stripeFrom, bodyFrom, zerosOf, endRows}
 use Rattle.layers.specs.declared.Layers.{Layers}
 use Rattle.layers.specs.declared.Layers.the-variants.{Read, Broken}
 use Rattle.stripe_records.specs.Places.{fieldsAt}
@@ -33,6 +37,8 @@ use Rattle.page.specs.declared.Body.{Body}
 use Rattle.page.specs.declared.Body.the-variants.{Stripes, Stopped}
 use Rattle.page.specs.declared.Turn.{Turn}
 use Rattle.page.specs.declared.Turn.the-variants.{Go, Stop}
+use Rattle.page.specs.declared.Verdict.{Verdict}
+use Rattle.page.specs.declared.Verdict.the-variants.{Sheet, Bad}
 use Rattle.page.specs.declared.Step.{Step}
 use Rattle.page.specs.declared.Step.the-variants.{Next, Fault}
 
@@ -146,3 +152,29 @@ pub record BodyRead (hd : Head) (s out : List ℕ) (count next : ℕ) (out′ : 
 abbrev pub Bodied : Head → List ℕ → List ℕ → Body → List ℕ → Type 0
 Bodied hd s out (Stripes count next) out′ = BodyRead hd s out count next out′
 Bodied hd s out (Stopped a) out′ = bodyFrom (length s) hd 0 65535 [] s 22 ≡ no a
+
+pub record Lent (out s : List ℕ) : Type 0 where
+  pub small : length s ≤ 16777215
+  pub room : length out ≡ 5376
+
+unfoldable pub restOf : Head → List ℕ → Res (List Record)
+unfolding bind
+restOf hd s =
+    bind (bodyFrom (length s) hd 0 65535 [] s 22) (λ (rs : List Record) (m : ℕ).
+    bind (fields endRows [] s m) (λ (es : List ℕ) (e : ℕ). bind (zerosOf (drop e s) e) (λ (z end : ℕ). ok rs end)))
+
+pub record Judged (x : Res (List Record)) (out : List ℕ) (stripes : ℕ) (out′ : List ℕ) : Type 0 where
+  pub records : List Record
+  pub end : ℕ
+  pub same : x ≡ ok records end
+  pub laid : out′ ≡ putAt out 0 (sheetOf records)
+  pub counted : stripes * 3 ≡ length records
+  pub few : stripes ≤ 64
+
+abbrev pub Judges : Res (List Record) → List ℕ → Verdict → List ℕ → Type 0
+Judges x out (Sheet stripes) out′ = Judged x out stripes out′
+Judges x out (Bad a) out′ = x ≡ no a
+
+pub record Emits (laid : List ℕ) (stripes : ℕ) (d : List ℕ) (a : Answer) (e : List ℕ) : Type 0 where
+  pub answers : a ≡ cond (ltb (length d) (stripes * 84)) NoRoom (Done (stripes * 3))
+  pub holds : e ≡ cond (ltb (length d) (stripes * 84)) d (putAt d 0 (take (stripes * 84) laid))

@@ -3,9 +3,6 @@ use Prim.Native.Nat.{_-_}
 use lib.ListN.{length}
 use Rattle.page.proofs.read_body.Statement.{statement}
 use Rattle.page.proofs.read_body.Tie as tie
-use Rattle.page.proofs.read_body.Reads as reads
-use Rattle.page.proofs.read_body.Lts as lts
-use Rattle.page.proofs.body_turn.Reads as body-turn-reads
 
 abbrev Inv-loop : tie.InvT-loop
 Inv-loop out₀ s hd p₀ out p = Going hd s out₀ p out
@@ -13,35 +10,27 @@ Inv-loop out₀ s hd p₀ out p = Going hd s out₀ p out
 abbrev μ-loop : tie.MeasureT-loop
 μ-loop out₀ s hd p₀ out p = length s - p .at
 
--- src/lib.rt:130:5
 loop-holds : tie.Need-loop-holds Inv-loop μ-loop
 loop-holds c = search looping
 
--- src/lib.rt:131:15
 body-turn-requires : tie.Need-body-turn-requires Inv-loop μ-loop
 body-turn-requires c κs = search looping
 
--- src/lib.rt:132:22
 enum-known-q : tie.Need-enum-known-q Inv-loop μ-loop
 enum-known-q c = search looping
 
--- src/lib.rt:130:5
 loop-less : tie.Need-loop-less Inv-loop μ-loop
 loop-less c = search looping
 
--- src/lib.rt:130:5
 loop-again : tie.Need-loop-again Inv-loop μ-loop
 loop-again c = search looping
 
--- src/lib.rt:135:24
 enum-known-b : tie.Need-enum-known-b Inv-loop μ-loop
 enum-known-b c = search looping
 
--- src/lib.rt:136:17
 same-length : tie.Need-same-length Inv-loop μ-loop
 same-length c = search looping
 
--- src/lib.rt:136:17
 returns : tie.Need-returns Inv-loop μ-loop
 returns c = search looping
 
