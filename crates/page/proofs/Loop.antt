@@ -3,7 +3,7 @@
 use Prim.Native.Nat.{ℕ, zero, suc, _+_, _-_, _*_, _≤_, _<_}
 use native.Mathlib.Omega.{arith}
 use mathlib.Core.Path.{_≡_, refl, sym, ap, subst, _∙_}
-use mathlib.Core.List.{List, [], _∷_, _++_, append-assoc}
+use mathlib.Core.List.{List, [], _∷_, _++_}
 use lib.ListN.{length, length-append}
 use borrow.Author.Needs.{needs}
 use Rattle.octets.specs.Octets.{putAt}
@@ -11,7 +11,8 @@ use Rattle.octets.proofs.Laws.{put-put, put-nothing, put-length}
 use Rattle.answers.specs.declared.Answer.{Answer}
 use Rattle.field_rules.specs.Field.{Res, ok, no}
 use Rattle.sheet_rules.specs.declared.Record.{Record}
-use Rattle.sheet_rules.specs.Record.{encode, sheetOf}
+use Rattle.sheet_rules.specs.Record.{sheetOf}
+use Rattle.sheet_rules.proofs.Cut.{sheet-append, sheet-length}
 use Rattle.page_rules.specs.declared.Head.{Head}
 use Rattle.page_rules.specs.Reading.{bodyFrom}
 use Rattle.page.specs.declared.Place.{Place}
@@ -20,18 +21,6 @@ use Rattle.page.specs.declared.Body.the-variants.{Stripes, Stopped}
 use Rattle.page.specs.declared.Turn.{Turn}
 use Rattle.page.specs.declared.Turn.the-variants.{Go, Stop}
 use Rattle.page.specs.Steps.{Onward, Standing, bodyAt, Passed, Over, Refuses, Turned, Opened, BodyRead, Bodied}
-
--- ---- the octets of records
-
-pub sheet-append : (rs sr : List Record) → sheetOf (rs ++ sr) ≡ sheetOf rs ++ sheetOf sr
-unfolding sheetOf
-sheet-append [] sr = refl
-sheet-append (r ∷ rs) sr = ap (λ (l : List ℕ). encode r ++ l) (sheet-append rs sr) ∙ sym (append-assoc (encode r) (sheetOf rs) (sheetOf sr))
-
-pub sheet-length : (rs : List Record) → length (sheetOf rs) ≡ length rs * 28
-unfolding sheetOf encode
-sheet-length [] = refl
-sheet-length (r ∷ rs) = let i = sheet-length rs in let l = length-append (encode r) (sheetOf rs) in let e : length (encode r) ≡ 28 = refl in omega arith
 
 -- ---- the invariant
 

@@ -18,6 +18,7 @@ use Rattle.field_rules.specs.Field.{Res, ok, no, bind, fields}
 use Rattle.field_rules.proofs.Refused.{rowsSize, fields-end}
 use Rattle.sheet_rules.specs.declared.Record.{Record}
 use Rattle.sheet_rules.specs.Record.{sheetOf}
+use Rattle.sheet_rules.proofs.Cut.{sheet-length}
 use Rattle.page_rules.specs.declared.Head.{Head}
 use Rattle.page_rules.specs.Reading.{startRows, headFrom, bodyFrom, zerosOf, endRows, pageOf, roomOf, readOf, intoOf, readInto, Reads}
 use Rattle.segment.specs.declared.Judged.the-variants.{Fine, Refused}
@@ -30,7 +31,6 @@ use Rattle.page.specs.declared.Verdict.the-variants.{Sheet, Bad}
 use Rattle.page.specs.Steps.{Opened, BodyRead, Bodied, Lent, restOf, Judged, Judges, Emits}
 use Rattle.page.proofs.Kept.{head-kept}
 use Rattle.page.proofs.Stripe.{judged-no, judged-ok}
-use Rattle.page.proofs.Loop.{sheet-length}
 
 -- ---- judge_rest
 
