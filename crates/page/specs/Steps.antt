@@ -1,7 +1,8 @@
 -- A page read step by step: what each step is promised to come to, in the words of `page_rules`.
 --
 --   Laying out s k at        a scratch with room for stripe k, whose fields stand at a place of a page and are whole
---   stepOf, laidOf           what a stripe's layers come to, and the scratch afterwards
+--   layersAt hd s at         the layers of a stripe whose fields stand at a place
+--   stepOf, laidOf           what they come to, and the scratch afterwards
 --   Ready out s k left at    a stripe's ident has been read: what is known before its length is judged
 --   Striped ..               a stripe is read with its records, which are laid, or refused, and the scratch is as it was
 --   endedOf p                what the body comes to at its first FF D9
@@ -29,6 +30,7 @@ use Rattle.sheet_rules.specs.Record.{sheetOf}
 use Rattle.page_rules.specs.declared.Head.{Head}
 use Rattle.page_rules.specs.Grammar.{recordsOf}
 use Rattle.page_rules.specs.Reading.{stripeFrom, bodyFrom, zerosOf, endRows}
+use Rattle.layers.specs.Layers.{layersIn}
 use Rattle.layers.specs.declared.Layers.{Layers}
 use Rattle.layers.specs.declared.Layers.the-variants.{Read, Broken}
 use Rattle.stripe_records.specs.Places.{fieldsAt}
@@ -46,6 +48,9 @@ pub record Laying (out s : List ℕ) (k at : ℕ) : Type 0 where
   pub holds : k * 84 + 84 ≤ length out
   pub whole : at + 31 ≤ length s
   pub small : length s ≤ 16777215
+
+abbrev pub layersAt : Head → List ℕ → ℕ → Layers
+layersAt hd s at = layersIn s (hd .main) (getD s at 0) (be32At s (at + 27)) (at + 31)
 
 unfoldable pub stepOf : List ℕ → ℕ → Layers → Step
 stepOf s at (Read back fore e) = Next e (be32At s (at + 23))

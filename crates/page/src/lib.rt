@@ -1,13 +1,11 @@
 // A Mode 1 page read into a sheet: a verdict on the whole page, which lays the records into a scratch of its own; then the room; then the sheet.
 // So a refusal changes nothing that was lent.
 ghost use mathlib.Core.Path.{_≡_};
-ghost use Prim.Native.Nat.{_+_, _*_, _≤_};
-ghost use lib.ListN.{length, getD};
-ghost use Rattle.octets.specs.Octets.{be32At};
+ghost use Prim.Native.Nat.{_*_, _≤_};
+ghost use lib.ListN.{length};
 ghost use Rattle.page_rules.specs.Reading.{pageOf, Reads};
 ghost use Rattle.segment.specs.Judged.{headAt};
-ghost use Rattle.layers.specs.Layers.{layersIn};
-ghost use Rattle.page.specs.Steps.{Laying, stepOf, laidOf, Ready, Striped, endedOf, StripeTurned, Standing, Turned, Opened, Bodied, restOf, Judges, Lent, Emits};
+ghost use Rattle.page.specs.Steps.{Laying, layersAt, stepOf, laidOf, Ready, Striped, endedOf, StripeTurned, Standing, Turned, Opened, Bodied, restOf, Judges, Lent, Emits};
 use answers::Answer;
 use layers::Layers;
 use page_rules::Head;
@@ -48,8 +46,8 @@ pub enum Step {
 // The layers of stripe k, whose fields stand at `at` and are fine; its records are laid where all of it is read.
 fn stripe_layers(out: &mut [u8], s: &[u8], hd: Head, k: u16, at: u32) -> Step
     requires { ⌜ Laying (now out) (now s) k at ⌝ }
-    ensures step { λ r. ⌜ r ≡ stepOf (now (s .entry)) at (layersIn (now (s .entry)) (hd .main) (getD (now (s .entry)) at 0) (be32At (now (s .entry)) (at + 27)) (at + 31)) ⌝ }
-    ensures laid { λ _. ⌜ now (out .exit) ≡ laidOf (now (out .entry)) (now (s .entry)) hd k at (layersIn (now (s .entry)) (hd .main) (getD (now (s .entry)) at 0) (be32At (now (s .entry)) (at + 27)) (at + 31)) ⌝ }
+    ensures step { λ r. ⌜ r ≡ stepOf (now (s .entry)) at (layersAt hd (now (s .entry)) at) ⌝ }
+    ensures laid { λ _. ⌜ now (out .exit) ≡ laidOf (now (out .entry)) (now (s .entry)) hd k at (layersAt hd (now (s .entry)) at) ⌝ }
 {
     let t = segment::octet(s, at);
     let mask = segment::four(s, at + 27);
