@@ -20,7 +20,7 @@ use Rattle.layers.specs.Layers.{Inside, layersIn}
 use Rattle.stripe_records.specs.Places.{Room, fieldsAt}
 use Rattle.page.specs.declared.Step.{Step}
 use Rattle.page.specs.declared.Step.the-variants.{Next, Fault}
-use Rattle.page.specs.Steps.{Laying, stepOf, laidOf}
+use Rattle.page.specs.Steps.{Laying, layersAt, stepOf, laidOf}
 
 -- ---- stripe_layers
 module _ (out s : List ℕ) (k at : ℕ) (l : Laying out s k at) where
@@ -31,25 +31,25 @@ module _ (out s : List ℕ) (k at : ℕ) (l : Laying out s k at) where
   stripe-room = let w = l .whole in let m = l .small in record { holds = l .holds; near = omega arith }
 
 module _ (s : List ℕ) (hd : Head) (k at : ℕ) {t mask : ℕ} (e : t ≡ getD s at 0) (f : mask ≡ be32At s (at + 27)) {r : Layers} (g : r ≡ layersIn s (hd .main) t mask (at + 31)) where
-  is : layersIn s (hd .main) (getD s at 0) (be32At s (at + 27)) (at + 31) ≡ r
+  is : layersAt hd s at ≡ r
   is = sym (g ∙ rw (e, f) refl)
 
-  pub layers-fault : {a : Answer} → r ≡ Broken a → Fault a ≡ stepOf s at (layersIn s (hd .main) (getD s at 0) (be32At s (at + 27)) (at + 31))
+  pub layers-fault : {a : Answer} → r ≡ Broken a → Fault a ≡ stepOf s at (layersAt hd s at)
   unfolding stepOf
   layers-fault z = simp (is ∙ z)
 
-  pub layers-kept : (out : List ℕ) {a : Answer} → r ≡ Broken a → out ≡ laidOf out s hd k at (layersIn s (hd .main) (getD s at 0) (be32At s (at + 27)) (at + 31))
+  pub layers-kept : (out : List ℕ) {a : Answer} → r ≡ Broken a → out ≡ laidOf out s hd k at (layersAt hd s at)
   unfolding laidOf
   layers-kept out z = simp (is ∙ z)
 
   pub layers-next : {back fore : Coded} {next height : ℕ} → r ≡ Read back fore next → height ≡ be32At s (at + 23)
-      → Next next height ≡ stepOf s at (layersIn s (hd .main) (getD s at 0) (be32At s (at + 27)) (at + 31))
+      → Next next height ≡ stepOf s at (layersAt hd s at)
   unfolding stepOf
   layers-next z h = rw h (simp (is ∙ z))
 
   pub layers-laid : (out : List ℕ) {out′ : List ℕ} {back fore : Coded} {next : ℕ} → r ≡ Read back fore next
       → out′ ≡ putAt out (k * 84) (sheetOf (recordsOf hd k (fieldsAt s at) (at + 31) back fore))
-      → out′ ≡ laidOf out s hd k at (layersIn s (hd .main) (getD s at 0) (be32At s (at + 27)) (at + 31))
+      → out′ ≡ laidOf out s hd k at (layersAt hd s at)
   unfolding laidOf
   layers-laid out z h = h ∙ simp (is ∙ z)
 

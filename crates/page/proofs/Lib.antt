@@ -3,3 +3,5 @@ pub mod Laws
 pub mod Stripe
 pub mod Turns
 pub mod Segments
+pub mod Loop
+pub mod Whole

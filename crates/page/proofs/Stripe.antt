@@ -33,7 +33,7 @@ use Rattle.segment.specs.Judged.{judgedOf}
 use Rattle.stripe_records.specs.Places.{fieldsAt}
 use Rattle.page.specs.declared.Step.{Step}
 use Rattle.page.specs.declared.Step.the-variants.{Next, Fault}
-use Rattle.page.specs.Steps.{Laying, stepOf, laidOf, Ready, StripeRead, StripeRefused, Striped}
+use Rattle.page.specs.Steps.{Laying, layersAt, stepOf, laidOf, Ready, StripeRead, StripeRefused, Striped}
 use Rattle.page.proofs.Kept.{uncut, fields-uncut, records-kept, height-kept, stripe-good}
 
 -- ---- the layers
@@ -91,7 +91,7 @@ module _ (hd : Head) (k : ℕ) (f : Fields) (s : List ℕ) (at : ℕ) where
 
 -- ---- what a verdict on fields tells of their reading
 
-judged-no : {A : Type 0} (x : Res A) (a : Answer) → judgedOf x ≡ Refused a → x ≡ no a
+pub judged-no : {A : Type 0} (x : Res A) (a : Answer) → judgedOf x ≡ Refused a → x ≡ no a
 unfolding judgedOf
 judged-no (ok v n) a e = clash cc
 judged-no (no b) a e = let p : b ≡ a = cc in ap no p
@@ -155,7 +155,7 @@ module _ (hd : Head) (k left size : ℕ) (s : List ℕ) (at : ℕ) (out : List �
         from-fields go = simp (ne-eqb k 64 n, eq-eqb size 37 l, z) (ap (λ (p : ℕ). bind (layersOf hd k f s p) (λ (rs : List Record) (e : ℕ). go (f .height) rs e)) place)
 
         abbrev whole : Layers
-        whole = layersIn s (hd .main) (getD s (at + 8) 0) (be32At s (at + 8 + 27)) (at + 8 + 31)
+        whole = layersAt hd s (at + 8)
 
         told : layersIn s (hd .main) (f .type) (f .maskLength) (at + 8 + 31) ≡ whole
         told = ap₂ (λ (t w : ℕ). layersIn s (hd .main) t w (at + 8 + 31)) type-is mask-is
@@ -193,8 +193,8 @@ module _ (hd : Head) (k left size : ℕ) (s : List ℕ) (at : ℕ) (out : List �
             }
 
       pub stripe-layered : Octets s → Ready out s k left at → j ≡ Fine → {q : Step} {out′ : List ℕ}
-          → q ≡ stepOf s (at + 8) (layersIn s (hd .main) (getD s (at + 8) 0) (be32At s (at + 8 + 27)) (at + 8 + 31))
-          → out′ ≡ laidOf out s hd k (at + 8) (layersIn s (hd .main) (getD s (at + 8) 0) (be32At s (at + 8 + 27)) (at + 8 + 31))
+          → q ≡ stepOf s (at + 8) (layersAt hd s (at + 8))
+          → out′ ≡ laidOf out s hd k (at + 8) (layersAt hd s (at + 8))
           → Striped hd k left size s at out q out′
       stripe-layered o r z {q} {out′} g h =
           judged-ok (Striped hd k left size s at out q out′) (fields (stripeRows hd left) [] s (at + 8)) (sym e ∙ z) λ vs m w.

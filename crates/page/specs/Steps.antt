@@ -1,29 +1,36 @@
 -- A page read step by step: what each step is promised to come to, in the words of `page_rules`.
 --
 --   Laying out s k at        a scratch with room for stripe k, whose fields stand at a place of a page and are whole
---   stepOf, laidOf           what a stripe's layers come to, and the scratch afterwards
+--   layersAt hd s at         the layers of a stripe whose fields stand at a place
+--   stepOf, laidOf           what they come to, and the scratch afterwards
 --   Ready out s k left at    a stripe's ident has been read: what is known before its length is judged
 --   Striped ..               a stripe is read with its records, which are laid, or refused, and the scratch is as it was
 --   endedOf p                what the body comes to at its first FF D9
 --   Standing out s p         reading stands at a place of a page, and the scratch is there
 --   StripeTurned ..          a stripe is passed, or the body is refused in it
 --   Turned ..                a segment is passed, or the body ends or is refused
+--   Opened out s             the start of page is fine, and the scratch is there
 --   Bodied ..                the body is read with its records, which are laid in front, or refused
+--   Lent out s               a page that is not too long, and the scratch
+--   restOf hd s              the page behind its start
+--   Judges x out r out′      the verdict is that of a reading x, and its records are laid in front
+--   Emits laid n d a e       so many stripes of what is laid, put in front of a sheet that has room for them
 use Prim.Native.Nat.{ℕ, suc, _+_, _-_, _*_, _≤_, _<_}
 use mathlib.Core.Bool.{cond}
 use mathlib.Core.Path.{_≡_}
-use mathlib.Core.List.{List, _++_}
-use lib.ListN.{length, getD}
-use lib.Dec.{eqb}
+use mathlib.Core.List.{List, [], _++_}
+use lib.ListN.{length, getD, take, drop}
+use lib.Dec.{eqb, ltb}
 use Rattle.octets.specs.Octets.{be32At, putAt}
 use Rattle.answers.specs.declared.Answer.{Answer}
-use Rattle.answers.specs.declared.Answer.the-variants.{BadStripe}
-use Rattle.field_rules.specs.Field.{Res, ok, no}
+use Rattle.answers.specs.declared.Answer.the-variants.{Done, BadStripe, NoRoom}
+use Rattle.field_rules.specs.Field.{Res, ok, no, bind, fields}
 use Rattle.sheet_rules.specs.declared.Record.{Record}
 use Rattle.sheet_rules.specs.Record.{sheetOf}
 use Rattle.page_rules.specs.declared.Head.{Head}
 use Rattle.page_rules.specs.Grammar.{recordsOf}
-use Rattle.page_rules.specs.Reading.{stripeFrom, bodyFrom}
+use Rattle.page_rules.specs.Reading.{stripeFrom, bodyFrom, zerosOf, endRows}
+use Rattle.layers.specs.Layers.{layersIn}
 use Rattle.layers.specs.declared.Layers.{Layers}
 use Rattle.layers.specs.declared.Layers.the-variants.{Read, Broken}
 use Rattle.stripe_records.specs.Places.{fieldsAt}
@@ -32,6 +39,8 @@ use Rattle.page.specs.declared.Body.{Body}
 use Rattle.page.specs.declared.Body.the-variants.{Stripes, Stopped}
 use Rattle.page.specs.declared.Turn.{Turn}
 use Rattle.page.specs.declared.Turn.the-variants.{Go, Stop}
+use Rattle.page.specs.declared.Verdict.{Verdict}
+use Rattle.page.specs.declared.Verdict.the-variants.{Sheet, Bad}
 use Rattle.page.specs.declared.Step.{Step}
 use Rattle.page.specs.declared.Step.the-variants.{Next, Fault}
 
@@ -39,6 +48,9 @@ pub record Laying (out s : List ℕ) (k at : ℕ) : Type 0 where
   pub holds : k * 84 + 84 ≤ length out
   pub whole : at + 31 ≤ length s
   pub small : length s ≤ 16777215
+
+abbrev pub layersAt : Head → List ℕ → ℕ → Layers
+layersAt hd s at = layersIn s (hd .main) (getD s at 0) (be32At s (at + 27)) (at + 31)
 
 unfoldable pub stepOf : List ℕ → ℕ → Layers → Step
 stepOf s at (Read back fore e) = Next e (be32At s (at + 23))
@@ -128,3 +140,46 @@ abbrev pub Turned : Head → Place → List ℕ → List ℕ → Turn → List �
 Turned hd p s out (Go q) out′ = Passed hd p s out q out′
 Turned hd p s out (Stop (Stripes count next)) out′ = Over hd p s out count next out′
 Turned hd p s out (Stop (Stopped a)) out′ = Refuses hd p s out a out′
+
+pub record Opened (out s : List ℕ) : Type 0 where
+  pub long : 22 ≤ length s
+  pub small : length s ≤ 16777215
+  pub room : length out ≡ 5376
+
+pub record BodyRead (hd : Head) (s out : List ℕ) (count next : ℕ) (out′ : List ℕ) : Type 0 where
+  pub records : List Record
+  pub same : bodyFrom (length s) hd 0 65535 [] s 22 ≡ ok records next
+  pub laid : out′ ≡ putAt out 0 (sheetOf records)
+  pub counted : count * 3 ≡ length records
+  pub few : count ≤ 64
+  pub inside : next ≤ length s
+
+abbrev pub Bodied : Head → List ℕ → List ℕ → Body → List ℕ → Type 0
+Bodied hd s out (Stripes count next) out′ = BodyRead hd s out count next out′
+Bodied hd s out (Stopped a) out′ = bodyFrom (length s) hd 0 65535 [] s 22 ≡ no a
+
+pub record Lent (out s : List ℕ) : Type 0 where
+  pub small : length s ≤ 16777215
+  pub room : length out ≡ 5376
+
+unfoldable pub restOf : Head → List ℕ → Res (List Record)
+unfolding bind
+restOf hd s =
+    bind (bodyFrom (length s) hd 0 65535 [] s 22) (λ (rs : List Record) (m : ℕ).
+    bind (fields endRows [] s m) (λ (es : List ℕ) (e : ℕ). bind (zerosOf (drop e s) e) (λ (z end : ℕ). ok rs end)))
+
+pub record Judged (x : Res (List Record)) (out : List ℕ) (stripes : ℕ) (out′ : List ℕ) : Type 0 where
+  pub records : List Record
+  pub end : ℕ
+  pub same : x ≡ ok records end
+  pub laid : out′ ≡ putAt out 0 (sheetOf records)
+  pub counted : stripes * 3 ≡ length records
+  pub few : stripes ≤ 64
+
+abbrev pub Judges : Res (List Record) → List ℕ → Verdict → List ℕ → Type 0
+Judges x out (Sheet stripes) out′ = Judged x out stripes out′
+Judges x out (Bad a) out′ = x ≡ no a
+
+pub record Emits (laid : List ℕ) (stripes : ℕ) (d : List ℕ) (a : Answer) (e : List ℕ) : Type 0 where
+  pub answers : a ≡ cond (ltb (length d) (stripes * 84)) NoRoom (Done (stripes * 3))
+  pub holds : e ≡ cond (ltb (length d) (stripes * 84)) d (putAt d 0 (take (stripes * 84) laid))

@@ -1,16 +1,22 @@
 // A Mode 1 page read into a sheet: a verdict on the whole page, which lays the records into a scratch of its own; then the room; then the sheet.
 // So a refusal changes nothing that was lent.
 ghost use mathlib.Core.Path.{_≡_};
-ghost use Prim.Native.Nat.{_+_, _≤_};
-ghost use lib.ListN.{length, getD};
-ghost use Rattle.octets.specs.Octets.{be32At};
-ghost use Rattle.layers.specs.Layers.{layersIn};
-ghost use Rattle.page.specs.Steps.{Laying, stepOf, laidOf, Ready, Striped, endedOf, StripeTurned, Standing, Turned};
+ghost use Prim.Native.Nat.{_*_, _≤_};
+ghost use lib.ListN.{length};
+ghost use Rattle.page_rules.specs.Reading.{pageOf, Reads};
+ghost use Rattle.segment.specs.Judged.{headAt};
+ghost use Rattle.page.specs.Steps.{Laying, layersAt, stepOf, laidOf, Ready, Striped, endedOf, StripeTurned, Standing, Turned, Opened, Bodied, restOf, Judges, Lent, Emits};
 use answers::Answer;
 use layers::Layers;
 use page_rules::Head;
 use segment::Judged;
 use segment::Segment;
+
+// What a page comes to: how many stripes its sheet has, or why it is refused.
+pub enum Verdict {
+    Sheet { stripes: u16 },
+    Bad(Answer),
+}
 
 // Where reading the body stands: the place, the number of the stripe that may come, and how much of the page's height is left.
 pub struct Place {
@@ -40,8 +46,8 @@ pub enum Step {
 // The layers of stripe k, whose fields stand at `at` and are fine; its records are laid where all of it is read.
 fn stripe_layers(out: &mut [u8], s: &[u8], hd: Head, k: u16, at: u32) -> Step
     requires { ⌜ Laying (now out) (now s) k at ⌝ }
-    ensures step { λ r. ⌜ r ≡ stepOf (now (s .entry)) at (layersIn (now (s .entry)) (hd .main) (getD (now (s .entry)) at 0) (be32At (now (s .entry)) (at + 27)) (at + 31)) ⌝ }
-    ensures laid { λ _. ⌜ now (out .exit) ≡ laidOf (now (out .entry)) (now (s .entry)) hd k at (layersIn (now (s .entry)) (hd .main) (getD (now (s .entry)) at 0) (be32At (now (s .entry)) (at + 27)) (at + 31)) ⌝ }
+    ensures step { λ r. ⌜ r ≡ stepOf (now (s .entry)) at (layersAt hd (now (s .entry)) at) ⌝ }
+    ensures laid { λ _. ⌜ now (out .exit) ≡ laidOf (now (out .entry)) (now (s .entry)) hd k at (layersAt hd (now (s .entry)) at) ⌝ }
 {
     let t = segment::octet(s, at);
     let mask = segment::four(s, at + 27);
@@ -114,5 +120,79 @@ fn body_turn(out: &mut [u8], s: &[u8], hd: Head, p: Place) -> Turn
             left: p.left,
         }),
         Segment::Stripe { size } => stripe_turn(out, s, hd, p, size),
+    }
+}
+
+// Each turn passes eight octets at least, so that the loop ends.
+fn read_body(out: &mut [u8], s: &[u8], hd: Head) -> Body
+    requires { ⌜ Opened (now out) (now s) ⌝ }
+    ensures { λ r. ⌜ Bodied hd (now (s .entry)) (now (out .entry)) r (now (out .exit)) ⌝ }
+{
+    let mut p = Place {
+        at: 22,
+        stripe: 0,
+        left: 65535,
+    };
+    loop {
+        match body_turn(out, s, hd, p) {
+            Turn::Go(q) => {
+                p = q;
+            }
+            Turn::Stop(b) => {
+                return b;
+            }
+        }
+    }
+}
+
+// Behind a start that is fine: the body, the second FF D9 of the end, and zero octets only.
+fn judge_rest(out: &mut [u8], s: &[u8]) -> Verdict
+    requires { ⌜ Opened (now out) (now s) ⌝ }
+    ensures { λ r. ⌜ Judges (restOf (headAt (now (s .entry))) (now (s .entry))) (now (out .entry)) r (now (out .exit)) ⌝ }
+{
+    let hd = segment::head_at(s);
+    match read_body(out, s, hd) {
+        Body::Stopped(a) => Verdict::Bad(a),
+        Body::Stripes { count, next } => match segment::judge_end(s, next) {
+            Judged::Refused(a) => Verdict::Bad(a),
+            Judged::Fine => Verdict::Sheet { stripes: count },
+        },
+    }
+}
+
+fn judge_page(out: &mut [u8], s: &[u8]) -> Verdict
+    requires { ⌜ Lent (now out) (now s) ⌝ }
+    ensures { λ r. ⌜ Judges (pageOf (now (s .entry))) (now (out .entry)) r (now (out .exit)) ⌝ }
+{
+    match segment::judge_start(s) {
+        Judged::Refused(a) => Verdict::Bad(a),
+        Judged::Fine => judge_rest(out, s),
+    }
+}
+
+// The sheet has room for all of it, or stays as it was.
+fn emit(sheet: &mut [u8], laid: &[u8], stripes: u16) -> Answer
+    requires { ⌜ stripes * 84 ≤ length (now laid) ⌝ }
+    ensures { λ r. ⌜ Emits (now (laid .entry)) stripes (now (sheet .entry)) r (now (sheet .exit)) ⌝ }
+{
+    let size = stripes as usize * 84;
+    if sheet.len() < size {
+        return Answer::NoRoom;
+    }
+    octets::copy_range(sheet, 0, laid, 0, size);
+    Answer::Done(stripes as u64 * 3)
+}
+
+pub fn read_page(page: &[u8], sheet: &mut [u8]) -> Answer
+    ensures { λ r. ⌜ Reads (now (page .entry)) (now (sheet .entry)) r (now (sheet .exit)) ⌝ }
+{
+    if 16777215 < page.len() {
+        return Answer::TooLong;
+    }
+    // room for 64 stripes of three records
+    let mut laid = [0u8; 5376];
+    match judge_page(&mut laid, page) {
+        Verdict::Bad(a) => a,
+        Verdict::Sheet { stripes } => emit(sheet, &laid, stripes),
     }
 }

@@ -15,3 +15,4 @@ pub mod Theorems
 pub mod Many
 pub mod Examples
 pub mod LookExamples
+pub mod Into

@@ -9,7 +9,9 @@
 --   pageOf s         the whole page: its records, or the refusal
 --   readOf s room    what the call answers, where the buffer holds so many octets
 --   readInto s d     what the buffer holds afterwards
+--   Reads s d a e    the call's promise: it answers a, and the buffer d is then e
 use Prim.Native.Nat.{ℕ, zero, suc, _+_, _-_, _*_}
+use mathlib.Core.Path.{_≡_}
 use mathlib.Core.Bool.{Bool, true, false, _&&_, _||_, not, cond}
 use mathlib.Core.List.{List, [], _∷_, _++_}
 use lib.ListN.{length, getD, drop}
@@ -198,3 +200,7 @@ intoOf d (no a) = d
 unfoldable pub readInto : List ℕ → List ℕ → List ℕ
 unfolding pageOf intoOf
 readInto s d = cond (ltb 16777215 (length s)) d (intoOf d (pageOf s))
+
+pub record Reads (s d : List ℕ) (a : Answer) (e : List ℕ) : Type 0 where
+  pub answers : a ≡ readOf s (length d)
+  pub holds : e ≡ readInto s d

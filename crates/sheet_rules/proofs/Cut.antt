@@ -4,13 +4,13 @@ use mathlib.Core.Path.{_≡_, refl, sym, ap, ap₂, _∙_}
 use Prim.Native.Nat.{ℕ, zero, suc, _+_, _*_, _/_, _%_, _≤_, _<_}
 use native.Mathlib.Nat.{add-assoc, add-zero}
 use native.Mathlib.Omega.{arith}
-use mathlib.Core.List.{List, [], _∷_, _++_}
+use mathlib.Core.List.{List, [], _∷_, _++_, append-assoc}
 use lib.Dec.{lit<}
-use lib.ListN.{length, getD, take}
-use lib.Seq.{getD-take}
+use lib.ListN.{length, getD, take, length-append}
+use lib.Seq.{getD-take, getD-append-add}
 use Rattle.octets.specs.Octets.{be16At, be32At}
 use Rattle.sheet_rules.specs.declared.Record.{Record}
-use Rattle.sheet_rules.specs.Record.{recordSize, recordFrom, recordAt, encode, recordsFrom, records, nth}
+use Rattle.sheet_rules.specs.Record.{recordSize, recordFrom, recordAt, encode, sheetOf, recordsFrom, records, rest, nth}
 
 -- ---- one record
 
@@ -75,3 +75,49 @@ records-same s t (suc k) i e =
 
 pub records-take : (n : ℕ) (s : List ℕ) (k : ℕ) → k * recordSize ≤ n → recordsFrom (take n s) k 0 ≡ recordsFrom s k 0
 records-take n s k h = records-same (take n s) s k 0 (λ j l. record-take n s j (omega arith))
+
+-- ---- the octets of records
+
+pub length-encode : (r : Record) → length (encode r) ≡ recordSize
+unfolding encode
+length-encode r = refl
+
+pub sheet-append : (rs sr : List Record) → sheetOf (rs ++ sr) ≡ sheetOf rs ++ sheetOf sr
+unfolding sheetOf
+sheet-append [] sr = refl
+sheet-append (r ∷ rs) sr = ap (λ (l : List ℕ). encode r ++ l) (sheet-append rs sr) ∙ sym (append-assoc (encode r) (sheetOf rs) (sheetOf sr))
+
+pub sheet-length : (rs : List Record) → length (sheetOf rs) ≡ length rs * recordSize
+unfolding sheetOf
+sheet-length [] = refl
+sheet-length (r ∷ rs) = let i = sheet-length rs in let l = length-append (encode r) (sheetOf rs) in let e = length-encode r in omega arith
+
+-- a record behind another one's octets
+record-behind : (r : Record) (s : List ℕ) (i : ℕ) → recordAt (encode r ++ s) (i + 1) ≡ recordAt s i
+unfolding recordAt
+record-behind r s i =
+    let n = length-encode r in
+    record-octets (encode r ++ s) s ((i + 1) * recordSize) (i * recordSize)
+    (λ m k. let p : (i + 1) * recordSize + m ≡ length (encode r) + (i * recordSize + m) = omega arith in
+    ap (λ (j : ℕ). getD (encode r ++ s) j 0) p ∙ getD-append-add (encode r) s (i * recordSize + m) 0)
+
+records-behind : (r : Record) (s : List ℕ) (k i : ℕ) → recordsFrom (encode r ++ s) k (i + 1) ≡ recordsFrom s k i
+unfolding recordsFrom
+records-behind r s zero i = refl
+records-behind r s (suc k) i = ap₂ (λ (x : Record) (l : List Record). x ∷ l) (record-behind r s i) (records-behind r s k (i + 1))
+
+records-sheet : (rs : List Record) → recordsFrom (sheetOf rs) (length rs) 0 ≡ rs
+unfolding sheetOf recordsFrom recordAt
+records-sheet [] = refl
+records-sheet (r ∷ rs) = ap₂ (λ (x : Record) (l : List Record). x ∷ l) (record-back r (sheetOf rs)) (records-behind r (sheetOf rs) (length rs) 0 ∙ records-sheet rs)
+
+-- octets that were made of records are cut into them
+pub sheet-back : (rs : List Record) → records (sheetOf rs) ≡ rs
+unfolding records
+sheet-back rs =
+    let n = sheet-length rs in
+    let p : length (sheetOf rs) / recordSize ≡ length rs = omega arith in
+    ap (λ (k : ℕ). recordsFrom (sheetOf rs) k 0) p ∙ records-sheet rs
+
+pub sheet-whole : (rs : List Record) → rest (sheetOf rs) ≡ 0
+sheet-whole rs = let n = sheet-length rs in omega arith

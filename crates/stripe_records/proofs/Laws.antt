@@ -11,6 +11,7 @@ use Rattle.octets.specs.Octets.{be32At, octets16, octets32, putAt}
 use Rattle.octets.proofs.Laws.{put-put, put-length}
 use Rattle.sheet_rules.specs.declared.Record.{Record}
 use Rattle.sheet_rules.specs.Record.{encode, sheetOf}
+use Rattle.sheet_rules.proofs.Cut.{length-encode}
 use Rattle.page_rules.specs.declared.Head.{Head}
 use Rattle.page_rules.specs.declared.Coded.{Coded}
 use Rattle.page_rules.specs.declared.Coded.the-variants.{There, Absent}
@@ -110,10 +111,6 @@ mask-here s hd k at e f g h = h ∙ rw (e, f, g) refl
 pub ruleset mask-laws = (needs, mask-made, mask-here)
 
 -- ---- put_stripe
-length-encode : (r : Record) → length (encode r) ≡ 28
-unfolding encode
-length-encode r = refl
-
 put-three : (d : List ℕ) (i : ℕ) (r1 r2 r3 : Record) → i ≤ length d
     → putAt (putAt (putAt d i (encode r1)) (i + 28) (encode r2)) (i + 56) (encode r3) ≡ putAt d i (sheetOf (r1 ∷ r2 ∷ r3 ∷ []))
 unfolding sheetOf

@@ -2,18 +2,13 @@ use Rattle.page.proofs.Turns.{ending}
 use borrow.Author.Needs.{needs}
 use Rattle.page.proofs.body_end.Statement.{statement}
 use Rattle.page.proofs.body_end.Tie as tie
-use Rattle.page.proofs.body_end.Reads as reads
-use Rattle.page.proofs.body_end.Lts as lts
 
--- src/lib.rt:81:9
 returns : tie.Need-returns
 returns c = search ending
 
--- src/lib.rt:85:15
 add-t4 : tie.Need-add-t4
 add-t4 c = search needs
 
--- src/lib.rt:76:1
 returns-2 : tie.Need-returns-2
 returns-2 c = search ending
 

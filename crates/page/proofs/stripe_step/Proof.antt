@@ -2,60 +2,43 @@ use Rattle.page.proofs.Stripe.{stripe-layered, stripe-laws}
 use borrow.Author.Needs.{needs}
 use Rattle.page.proofs.stripe_step.Statement.{statement}
 use Rattle.page.proofs.stripe_step.Tie as tie
-use Rattle.page.proofs.stripe_step.Reads as reads
-use Rattle.page.proofs.stripe_step.Lts as lts
-use Rattle.page.proofs.stripe_layers.Reads as stripe-layers-reads
-use Rattle.segment.proofs.judge_stripe.Reads as judge-stripe-reads
 
--- src/lib.rt:44:46
 add-t10 : tie.Need-add-t10
 add-t10 c = search needs
 
--- src/lib.rt:44:9
 returns : tie.Need-returns
 returns c = search stripe-laws
 
--- src/lib.rt:47:46
 add-t12 : tie.Need-add-t12
 add-t12 c = search needs
 
--- src/lib.rt:47:9
 returns-2 : tie.Need-returns-2
 returns-2 c = search stripe-laws
 
--- src/lib.rt:49:46
 add-judge-stripe : tie.Need-add-judge-stripe
 add-judge-stripe c = search needs
 
--- src/lib.rt:49:11
 judge-stripe-requires : tie.Need-judge-stripe-requires
 judge-stripe-requires c κs = search needs
 
--- src/lib.rt:50:25
 enum-known-a : tie.Need-enum-known-a
 enum-known-a c = search needs
 
--- src/lib.rt:51:39
 enum-told : tie.Need-enum-told
 enum-told c = search needs
 
--- src/lib.rt:51:54
 add-stripe-layers : tie.Need-add-stripe-layers
 add-stripe-layers c = search needs
 
--- src/lib.rt:51:25
 stripe-layers-requires : tie.Need-stripe-layers-requires
 stripe-layers-requires c κs = search stripe-laws
 
--- src/lib.rt:39:1
 returns-3 : tie.Need-returns-3
 returns-3 c = search stripe-laws
 
--- src/lib.rt:39:1
 same-length : tie.Need-same-length
 same-length c = search needs
 
--- src/lib.rt:39:1
 returns-4 : tie.Need-returns-4
 returns-4 c =
     stripe-layered _ _ _ _ _ _ _ (c .before .before .before .before .before .before .before .before .if1 .left) (c .before .before .before .before .before .before .before .if2 .left) (c .before .before .before .before .before .before .judge-stripe .ensures)

@@ -1,0 +1,10 @@
+-- Any two results that a call's promise allows are equal. There is no exception.
+-- Assumes nothing.
+use Prim.Native.Nat.{ℕ}
+use mathlib.Core.Path.{_≡_, sym, _∙_}
+use mathlib.Core.List.{List}
+use Rattle.report.specs.declared.Report.{Report}
+use Rattle.spirerook.specs.Calls.{ReadCall}
+
+pub read-firm : (page sheet : List ℕ) (r q : Report) (e f : List ℕ) → ReadCall page sheet r e → ReadCall page sheet q f → (r ≡ q) × (e ≡ f)
+read-firm page sheet r q e f x y = (x .reports ∙ sym (y .reports), x .holds ∙ sym (y .holds))

@@ -1,0 +1,14 @@
+-- What the exported calls promise, each as one relation over entry, result and exit.
+--
+--   ReadCall page sheet r sheet′   a page is read into a sheet, the report is r, and the buffer is then sheet′
+use Prim.Native.Nat.{ℕ}
+use mathlib.Core.Path.{_≡_}
+use mathlib.Core.List.{List}
+use lib.ListN.{length}
+use Rattle.report.specs.declared.Report.{Report}
+use Rattle.report.specs.Report.{reportOf}
+use Rattle.page_rules.specs.Reading.{readOf, readInto}
+
+pub record ReadCall (page sheet : List ℕ) (r : Report) (sheet′ : List ℕ) : Type 0 where
+  pub reports : r ≡ reportOf (readOf page (length sheet))
+  pub holds : sheet′ ≡ readInto page sheet
