@@ -31,7 +31,7 @@ head-some l e = simp (eq-eqb l 1 e)
 pub head-none : (l : ℕ) → (l ≡ 1 → ⊥) → _≡_ {A = ℕ} 0 (only (eqb l 1) 39)
 head-none l n = simp (ne-eqb l 1 n)
 
-only-small : (b : Bool) → only b 39 ≤ 39
+pub only-small : (b : Bool) → only b 39 ≤ 39
 only-small true = lit≤ tt
 only-small false = lit≤ tt
 

@@ -6,7 +6,7 @@ ghost use lib.Dec.{eqb, leb};
 ghost use lib.ListN.{length};
 ghost use Rattle.sheet_rules.specs.Record.{records, only};
 ghost use Rattle.write_rules.specs.Writing.{counted, matches, recordStep, modeFrom, begun, mainOf, recordsPass, verdictOf};
-ghost use Rattle.write_verdict.specs.Pass.{passOf, Few, modeOf};
+ghost use Rattle.write_verdict.specs.Pass.{passOf, modeOf, Few, Taken, acceptedOf};
 use answers::Answer;
 use sheet_rules::Record;
 use sheet_rules::Verdict;
@@ -90,5 +90,79 @@ fn pass_record(d: &[u8], main: u16, t: Tally, i: u32, r: Record) -> Pass
         }
     } else {
         Pass::Wrong(Answer::Short(i))
+    }
+}
+
+// Each record in order. A page of some megabytes is walked once for each image record that points at it: 128 walks at most.
+fn pass_records(s: &[u8], d: &[u8], main: u16, n: usize) -> Pass
+    requires { ⌜ Few (now s) n ⌝ }
+    ensures { λ p. ⌜ p ≡ passOf (recordsPass (now (d .entry)) main begun 0 (records (now (s .entry)))) ⌝ }
+{
+    let mut t = Tally {
+        mask: 0,
+        image: 0,
+        size: 26,
+    };
+    let mut i: usize = 0;
+    while i < n {
+        match pass_record(d, main, t, i as u32, record::record_at(s, i)) {
+            Pass::Next(u) => {
+                t = u;
+                i += 1;
+            }
+            Pass::Wrong(a) => {
+                return Pass::Wrong(a);
+            }
+        }
+    }
+    Pass::Next(t)
+}
+
+fn first_above(s: &[u8], n: usize) -> Mode
+    requires { ⌜ Few (now s) n ⌝ }
+    ensures { λ m. ⌜ m ≡ modeOf (modeFrom 0 (records (now (s .entry)))) ⌝ }
+{
+    let mut i: usize = 0;
+    while i < n {
+        let r = record::record_at(s, i);
+        if 3 < r.layer {
+            return Mode::Above(i as u32);
+        }
+        i += 1;
+    }
+    Mode::Low
+}
+
+// The main resolution is that of layer 2, the second record; every sheet that the judge takes has one.
+fn main_of(s: &[u8]) -> u16
+    ensures { λ r. ⌜ r ≡ mainOf (records (now (s .entry))) ⌝ }
+{
+    if s.len() < 56 {
+        return 0;
+    }
+    let r = record::record_at(s, 1);
+    r.res
+}
+
+// A sheet that the judge takes: the mode before the records.
+fn judge_records(s: &[u8], d: &[u8], n: usize) -> Pass
+    requires { ⌜ Taken (now s) n ⌝ }
+    ensures { λ p. ⌜ p ≡ passOf (acceptedOf (now (s .entry)) (now (d .entry))) ⌝ }
+{
+    match first_above(s, n) {
+        Mode::Above(i) => Pass::Wrong(Answer::BadMode(i)),
+        Mode::Low => pass_records(s, d, main_of(s), n),
+    }
+}
+
+pub fn judge_write(s: &[u8], d: &[u8]) -> Pass
+    ensures { λ p. ⌜ p ≡ passOf (verdictOf (now (s .entry)) (now (d .entry))) ⌝ }
+{
+    match sheet::judge(s) {
+        Verdict::Bad { record } => Pass::Wrong(Answer::BadSheet(record as u32)),
+        Verdict::Good {
+            records,
+            stripes: _,
+        } => judge_records(s, d, records),
     }
 }

@@ -2,23 +2,16 @@ use Rattle.write_verdict.proofs.Laws.{choosing}
 use borrow.Author.Needs.{needs}
 use Rattle.write_verdict.proofs.size_with.Statement.{statement}
 use Rattle.write_verdict.proofs.size_with.Tie as tie
-use Rattle.write_verdict.proofs.size_with.Reads as reads
-use Rattle.write_verdict.proofs.size_with.Lts as lts
-use Rattle.write_verdict.proofs.head_octets.Reads as head-octets-reads
 
--- src/lib.rt:45:12
 head-octets-requires : tie.Need-head-octets-requires
 head-octets-requires c κs = search needs
 
--- src/lib.rt:45:5
 add-result : tie.Need-add-result
 add-result c = search choosing
 
--- src/lib.rt:45:5
 add-result-2 : tie.Need-add-result-2
 add-result-2 c = search choosing
 
--- src/lib.rt:41:1
 returns : tie.Need-returns
 returns c = search needs
 
