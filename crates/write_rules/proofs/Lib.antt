@@ -8,7 +8,6 @@ pub mod Lands
 pub mod Written
 pub mod Into
 pub mod Exactly
-pub mod Sheets
 pub mod Lent
 pub mod Again
 pub mod Trips

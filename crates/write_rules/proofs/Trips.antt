@@ -28,7 +28,7 @@ use Rattle.write_rules.proofs.Sizes.{size-threes}
 use Rattle.write_rules.proofs.Placed.{uncoded-is}
 use Rattle.write_rules.proofs.Lands.{Sized}
 use Rattle.write_rules.proofs.Lent.{Lent, stripes-lent, stripes-main, stripes-size}
-use Rattle.write_rules.proofs.Sheets.{sheet-back}
+use Rattle.sheet_rules.proofs.Cut.{sheet-back}
 
 -- the octets of a page
 pub length-page : (s : List ℕ) (rs : List Record) (y : Page s rs) → length s ≡ 26 + length (y .optionals) + length (y .stripes) + y .zeros

@@ -12,7 +12,9 @@
 --   pageBy d rs t          the page's octets
 --   writeOf s d room       what the call answers, where the page's buffer holds so many octets
 --   writeInto s d p        what the buffer p holds afterwards
+--   Writes s d p a e       the call's promise: it answers a, and the buffer p is then e
 use Prim.Native.Nat.{ℕ, _+_}
+use mathlib.Core.Path.{_≡_}
 use mathlib.Core.Bool.{Bool, true, _&&_, _||_, not, cond}
 use mathlib.Core.List.{List, [], _∷_, _++_}
 use lib.ListN.{length}
@@ -158,3 +160,7 @@ intoBy p d rs (no a) = p
 unfoldable pub writeInto : List ℕ → List ℕ → List ℕ → List ℕ
 unfolding verdictOf intoBy
 writeInto s d p = intoBy p d (records s) (verdictOf s d)
+
+pub record Writes (s d p : List ℕ) (a : Answer) (e : List ℕ) : Type 0 where
+  pub answers : a ≡ writeOf s d (length p)
+  pub holds : e ≡ writeInto s d p
