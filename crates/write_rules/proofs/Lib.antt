@@ -12,3 +12,4 @@ pub mod Lent
 pub mod Again
 pub mod Trips
 pub mod Theorems
+pub mod Examples
