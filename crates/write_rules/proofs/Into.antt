@@ -29,7 +29,7 @@ use Rattle.write_rules.proofs.Threes.{sheet-threes}
 use Rattle.write_rules.proofs.Answered.{Accepted, verdict-back, Refusal, verdict-refused}
 use Rattle.write_rules.proofs.Sizes.{size-threes}
 use Rattle.write_rules.proofs.Lands.{Sized, movedBy}
-use Rattle.write_rules.proofs.Written.{written-same, written-formed, written-layers, length-written}
+use Rattle.write_rules.proofs.Written.{written-same, written-formed, written-layers, length-written, written-octets}
 
 pub tally-size : (s d : List ℕ) (u : Tally) → Accepted s d u → u .size ≡ sizeOf (records s)
 tally-size s d u k =
@@ -89,6 +89,10 @@ module _ (s d p : List ℕ) (o : Octets d) (sized : (r : Record) → Among r (re
 
   pub into-size : length (take n (writeInto s d p)) ≡ n
   into-size = ap length into-page ∙ into-length
+
+  pub into-octets : Octets (take n (writeInto s d p))
+  into-octets =
+      let a = k .accepted in subst Octets (sym into-page) (written-octets d o (records s) (k .u) (a .sheet) (a .three) sized (a .passed))
 
   pub into-kept : (drop n (writeInto s d p) ≡ drop n p) × (length (writeInto s d p) ≡ length p)
   into-kept =

@@ -5,6 +5,7 @@ pub mod Sizes
 pub mod Answered
 pub mod Placed
 pub mod Lands
+pub mod Small
 pub mod Written
 pub mod Into
 pub mod Exactly

@@ -33,7 +33,7 @@ use Rattle.write_rules.specs.Sentences.{Fine, Low, sizeOf, Sound, Gives}
 use Rattle.write_rules.proofs.Passed.{Passed}
 use Rattle.write_rules.proofs.Exactly.{write-gives, gives-write}
 use Rattle.write_rules.proofs.Written.{records-sized}
-use Rattle.write_rules.proofs.Into.{Into, done-into, into-page, into-size, into-kept, into-lands, into-formed}
+use Rattle.write_rules.proofs.Into.{Into, done-into, into-size, into-octets, into-kept, into-lands, into-formed}
 use Rattle.write_rules.proofs.Again.{page-again}
 use Rattle.write_rules.proofs.Trips.{length-page, trip-sheet, trip-low, trip-fine, sheet-sized, trip-size}
 
@@ -91,6 +91,9 @@ refused-kept s d p = by (verdictOf s d)
         cond-both (λ x y. ((n : ℕ) → x ≡ Done n → ⊥) → y ≡ p) (ltb 16777215 (u .size)) (λ t h. refl) λ t.
         cond-both (λ x y. ((n : ℕ) → x ≡ Done n → ⊥) → y ≡ p) (ltb (length p) (u .size)) (λ v h. refl) (λ v h. absurd (h (u .size) refl))
     by (no a) = λ h. refl
+
+pub write-octets : (s d p : List ℕ) → Octets s → Octets d → (n : ℕ) → writeOf s d (length p) ≡ Done n → Octets (take n (writeInto s d p))
+write-octets s d p os o n q = into-octets s d p o (records-sized s os) n (done-into s d p o n q)
 
 -- ---- it is a page of the grammar, with the sheet that was lent but for octets 18 to 21 of coded records; and each coded layer's octets at its new
 -- start are those at its old start
@@ -154,6 +157,18 @@ formed-again s o rs f short p fits =
     ap (λ (x : List Record). pageBy s x (k .u)) (sheet-back rs)
     ∙ page-again s rs f (k .u) (subst (λ (x : List Record). Passed s (mainOf x) begun (k .u) x) (sheet-back rs) (k .accepted .passed)) in
     (q, k .into ∙ ap (putAt p 0) e)
+
+-- so that a page that was written, written again from the sheet that reading gives of it, is the same page
+
+pub write-again : (s d p : List ℕ) → Octets s → Octets d → (n : ℕ) → writeOf s d (length p) ≡ Done n → (rs : List Record) → Page (take n (writeInto s d p)) rs
+    → (t : List ℕ) → n ≤ length t
+    → (writeOf (sheetOf rs) (take n (writeInto s d p)) (length t) ≡ Done n) × (writeInto (sheetOf rs) (take n (writeInto s d p)) t ≡ putAt t 0 (take n (writeInto s d p)))
+write-again s d p os o n q rs y t h =
+    let i = done-into s d p o n q in
+    let l = into-size s d p o (records-sized s os) n i in
+    let short = i .short in
+    let a = formed-again (take n (writeInto s d p)) (write-octets s d p os o n q) rs (write-formed s d p os o n q rs y) (omega arith) t (omega arith) in
+    (a .0 ∙ ap Done l, a .1)
 
 -- for every page that is read: writing its sheet from the page itself and reading again gives the same sheet, but for octets 18 to 21 of coded
 -- records, and the same layers
