@@ -14,20 +14,13 @@ ghost use Rattle.page_rules.specs.Reading.{startRows, maskLengthOk, stripeRows,
 ghost use Rattle.segment.specs.Judged.{heldOf, fieldOf, judgedOf, headAt, zerosFrom, closeOf};
 ghost use Rattle.segment.specs.Segments.{Behind, optionalAt, onSpan, identOf, lengthOf, segmentOf};
 use answers::Answer;
+use page_rules::APP13;
+use page_rules::EOI;
 use page_rules::Head;
-
-// FF D8, FF ED and FF D9.
-const SOI: [u8; 2] = [0xFF, 0xD8];
-
-const APP13: [u8; 2] = [0xFF, 0xED];
-
-const EOI: [u8; 2] = [0xFF, 0xD9];
-// 4D 52 43 n: the start of page, a stripe, and what an optional segment's begins with.
-const START: [u8; 4] = [0x4D, 0x52, 0x43, 0x00];
-
-const STRIPE: [u8; 4] = [0x4D, 0x52, 0x43, 0x01];
-
-const MRC: [u8; 3] = [0x4D, 0x52, 0x43];
+use page_rules::MRC;
+use page_rules::SOI;
+use page_rules::START;
+use page_rules::STRIPE;
 
 // What the fields so far have come to.
 pub enum Judged {
