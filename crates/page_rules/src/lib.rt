@@ -2,11 +2,15 @@
 
 // The octets that the reader compares and the writer puts: FF D8, FF ED and FF D9.
 pub const SOI: [u8; 2] = [0xFF, 0xD8];
+
 pub const APP13: [u8; 2] = [0xFF, 0xED];
+
 pub const EOI: [u8; 2] = [0xFF, 0xD9];
 // 4D 52 43 n: the start of page, a stripe, and what an optional segment's begins with.
 pub const START: [u8; 4] = [0x4D, 0x52, 0x43, 0x00];
+
 pub const STRIPE: [u8; 4] = [0x4D, 0x52, 0x43, 0x01];
+
 pub const MRC: [u8; 3] = [0x4D, 0x52, 0x43];
 
 // What the start of page says: the coder octets, the main resolution, the page's width.

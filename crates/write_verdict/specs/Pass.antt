@@ -1,0 +1,43 @@
+-- The writer's verdict, as its reader sees it.
+--
+--   passOf r     what the records come to, without the place
+--   modeOf r     the first record above layer 3
+--   Few s n      the sheet has n whole records, and no more than a good one
+--   Taken s n    the judge takes the sheet, with n records
+--   acceptedOf   the verdict on a sheet that the judge takes
+use Prim.Native.Nat.{ℕ, _/_, _≤_}
+use mathlib.Core.Path.{_≡_}
+use mathlib.Core.List.{List}
+use lib.ListN.{length}
+use Rattle.answers.specs.declared.Answer.{Answer}
+use Rattle.answers.specs.Answers.{placeOf}
+use Rattle.field_rules.specs.Field.{Res, ok, no, bind}
+use Rattle.sheet_rules.specs.declared.Verdict.the-variants.{Good}
+use Rattle.sheet_rules.specs.Record.{recordSize, records}
+use Rattle.sheet_rules.specs.Judge.{judgeOf}
+use Rattle.write_rules.specs.declared.Tally.{Tally}
+use Rattle.write_rules.specs.Writing.{modeFrom, begun, mainOf, recordsPass}
+use Rattle.write_verdict.specs.declared.Pass.{Pass}
+use Rattle.write_verdict.specs.declared.Pass.the-variants.{Next, Wrong}
+use Rattle.write_verdict.specs.declared.Mode.{Mode}
+use Rattle.write_verdict.specs.declared.Mode.the-variants.{Low, Above}
+
+unfoldable pub passOf : Res Tally → Pass
+passOf (ok t n) = Next t
+passOf (no a) = Wrong a
+
+unfoldable pub modeOf : Res ℕ → Mode
+modeOf (ok k n) = Low
+modeOf (no a) = Above (placeOf a)
+
+pub record Few (s : List ℕ) (n : ℕ) : Type 0 where
+  pub whole : n ≡ length s / recordSize
+  pub few : n ≤ 960
+
+pub record Taken (s : List ℕ) (n : ℕ) : Type 0 where
+  pub stripes : ℕ
+  pub good : judgeOf s ≡ Good n stripes
+
+unfoldable pub acceptedOf : List ℕ → List ℕ → Res Tally
+unfolding bind
+acceptedOf s d = bind (modeFrom 0 (records s)) (λ (k e : ℕ). recordsPass d (mainOf (records s)) begun 0 (records s))
