@@ -5,7 +5,6 @@ use mathlib.Core.Path.{_≡_, refl}
 use mathlib.Core.List.{List, [], _∷_, _++_}
 use lib.ListN.{replicate, take}
 use Rattle.octets.specs.Octets.{be16At, be32At, begins, standsAt, octets16, octets32, putAt}
-use Rattle.answers.specs.declared.Answer.{Answer}
 use Rattle.answers.specs.declared.Answer.the-variants.{Done, Short, BadMode, NoRoom, BadSheet, Mismatch, TooLong}
 use Rattle.sheet_rules.specs.declared.Record.{Record}
 use Rattle.sheet_rules.specs.Record.{recordAt, encode, sheetOf, recordsFrom, records}
@@ -13,7 +12,6 @@ use Rattle.sheet_rules.specs.Judge.{keeps, after, after1, after2, after3, stepO
 use Rattle.jpeg_rules.specs.Marker.{classOf, markerOf}
 use Rattle.jpeg_rules.specs.Walk.{segOf, scanOf, tagOf, frameBodyOf, frameOf, scanStepOf, segmentOf, turnOf, walkOf}
 use Rattle.jpeg_rules.specs.Walk as W
-use Rattle.page_rules.specs.declared.Head.{Head}
 use Rattle.page_rules.specs.Kinds.{Colour, Fields}
 use Rattle.page_rules.specs.Grammar.{startOf, colourOf, headOf}
 use Rattle.page_rules.proofs.Examples.{page, picture}

@@ -1,10 +1,10 @@
 -- What the buffer holds where the call answers Done.
 -- Assumes nothing.
-use Prim.Native.Nat.{ℕ, _+_, _*_, _≤_}
+use Prim.Native.Nat.{ℕ, _+_, _≤_}
 use native.Mathlib.Omega.{arith}
 use mathlib.Core.Path.{_≡_, refl, sym, ap, ap₂, subst, _∙_}
 use mathlib.Core.Logic.{_⊎_, ⊎-elim}
-use mathlib.Core.List.{List, map}
+use mathlib.Core.List.{List}
 use lib.ListN.{length, take, drop}
 use lib.Seq.{take-at}
 use lib.Dec.{ltb}
@@ -24,7 +24,6 @@ use Rattle.write_rules.specs.declared.Tally.{Tally}
 use Rattle.write_rules.specs.Writing.{headBy, verdictOf, pageBy, sizeAnswer, answerBy, writeOf, intoBy, writeInto}
 use Rattle.write_rules.specs.Form.{Lands, Formed}
 use Rattle.write_rules.specs.Sentences.{sizeOf, Gives}
-use Rattle.write_rules.proofs.Passed.{Passed}
 use Rattle.write_rules.proofs.Threes.{sheet-threes}
 use Rattle.write_rules.proofs.Answered.{Accepted, verdict-back, Refusal, verdict-refused}
 use Rattle.write_rules.proofs.Sizes.{size-threes}

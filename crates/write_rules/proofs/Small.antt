@@ -3,10 +3,10 @@
 use Prim.Native.Nat.{ℕ, zero, suc, _+_, _-_, _≤_, _<_}
 use native.Mathlib.Omega.{arith}
 use mathlib.Core.Path.{_≡_, refl}
-use mathlib.Core.Bool.{Bool, true, false, _&&_, and-eq-true-iff}
+use mathlib.Core.Bool.{Bool, true, _&&_, and-eq-true-iff}
 use mathlib.Core.List.{List, [], _∷_, _++_, List·Memᴰ·head, List·Memᴰ·tail}
 use lib.Dec.{ltb, lit<}
-use lib.ListN.{length, getD, take, drop}
+use lib.ListN.{drop}
 use borrow.Author.Tests.{ltb-true}
 use Rattle.octets.specs.Octets.{Octets, octets16, octets32}
 use Rattle.octets.proofs.Laws.{octets-append, octets-take, octets-drop, octets-16, octets-32}
@@ -14,7 +14,7 @@ use Rattle.sheet_rules.specs.declared.Record.{Record}
 use Rattle.sheet_rules.specs.Judge.{coded}
 use Rattle.sheet_rules.specs.Sentences.{Among}
 use Rattle.page_rules.specs.declared.Head.{Head}
-use Rattle.page_rules.specs.Kinds.{Colour, Fields}
+use Rattle.page_rules.specs.Kinds.{Colour}
 use Rattle.page_rules.specs.Grammar.{startOf, GoodHead, colourOf, headOf}
 use Rattle.page_rules.proofs.Rules.{mask-small, image-small}
 use Rattle.page_rules.proofs.Tables.{listed-small}

@@ -1,28 +1,26 @@
 -- What is proved of writing a page. The statements are for the reader; how each is shown stands in the files beside this one.
 -- Assumes nothing.
-use Prim.Native.Nat.{ℕ, _+_, _*_, _/_, _≤_, _<_}
+use Prim.Native.Nat.{ℕ, _+_, _*_, _/_, _≤_}
 use native.Mathlib.Omega.{arith}
 use mathlib.Core.Path.{_≡_, refl, sym, ap, subst, _∙_}
 use mathlib.Core.Logic.{_↔_, _⊎_, inl, inr}
-use mathlib.Core.Bool.{Bool, true, false, cond}
 use mathlib.Core.List.{List, map}
 use lib.ListN.{length, take, drop, length-map}
 use lib.Dec.{ltb}
 use borrow.Author.Tests.{le-ltb}
 use Rattle.octets.specs.Octets.{Octets, putAt}
-use Rattle.cases.proofs.Cases.{cond-with, cond-both}
+use Rattle.cases.proofs.Cases.{cond-both}
 use Rattle.answers.specs.declared.Answer.{Answer}
 use Rattle.answers.specs.declared.Answer.the-variants.{Done, Short, BadMark, BadLength, BadVersion, BadMode, BadCoder, BadRes, BadWidth, BadType, BadStripe, BadLayer, Trailing, NoRoom, BadSheet, BadPlane, Mismatch, BadLine, TooLong}
 use Rattle.answers.specs.Answers.{placeOf}
 use Rattle.field_rules.specs.Field.{Res, ok, no}
 use Rattle.sheet_rules.specs.declared.Record.{Record}
-use Rattle.sheet_rules.specs.Record.{recordSize, records, rest, sheetOf}
-use Rattle.sheet_rules.specs.Sentences.{Among, Coded, Sheet, stripeCount}
+use Rattle.sheet_rules.specs.Record.{recordSize, records, sheetOf}
+use Rattle.sheet_rules.specs.Sentences.{Sheet}
 use Rattle.sheet_rules.proofs.Cut.{length-records, sheet-back, sheet-whole}
 use Rattle.sheet_rules.proofs.Theorems.{sheet-refused, refused-few}
 use Rattle.page_rules.specs.Grammar.{Page}
 use Rattle.page_rules.specs.Reading.{pageOf, roomOf, readOf, intoOf, readInto}
-use Rattle.page_rules.proofs.Named.{Named}
 use Rattle.page_rules.proofs.There.{page-there}
 use Rattle.page_rules.proofs.Back.{page-back}
 use Rattle.write_rules.specs.declared.Tally.{Tally}
@@ -33,7 +31,7 @@ use Rattle.write_rules.specs.Sentences.{Fine, Low, sizeOf, Sound, Gives}
 use Rattle.write_rules.proofs.Passed.{Passed}
 use Rattle.write_rules.proofs.Exactly.{write-gives, gives-write}
 use Rattle.write_rules.proofs.Written.{records-sized}
-use Rattle.write_rules.proofs.Into.{Into, done-into, into-size, into-octets, into-kept, into-lands, into-formed}
+use Rattle.write_rules.proofs.Into.{done-into, into-size, into-octets, into-kept, into-lands, into-formed}
 use Rattle.write_rules.proofs.Again.{page-again}
 use Rattle.write_rules.proofs.Trips.{length-page, trip-sheet, trip-low, trip-fine, sheet-sized, trip-size}
 
