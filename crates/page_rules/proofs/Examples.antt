@@ -46,7 +46,7 @@ no-stripe = refl
 -- ---- a page of each of the six types, and of two different stripes
 
 -- a JPEG layer of 8 by 16 samples at 200, whose own FF D9 stands before the page's end
-pub picture : List ℕ
+unfoldable pub picture : List ℕ
 unfolding J.opening J.tag200 J.frame J.scan J.closing
 picture = J.opening ++ (J.tag200 ++ (J.frame ++ (J.scan ++ J.closing)))
 

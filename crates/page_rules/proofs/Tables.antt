@@ -25,7 +25,7 @@ use Rattle.page_rules.proofs.Rules.{says-mask, says-image, says-type, s
 
 -- ---- bounds that the rules give
 
-listed-small : (n : ℕ) → Listed n → n < 65536
+pub listed-small : (n : ℕ) → Listed n → n < 65536
 listed-small n (inl e) = omega arith
 listed-small n (inr (inl e)) = omega arith
 listed-small n (inr (inr (inl e))) = omega arith

@@ -1,13 +1,12 @@
 -- A page in the writer's form, lent with its sheet, is written octet for octet.
 -- Assumes nothing.
-use Prim.Native.Nat.{ℕ, suc, _+_, _-_, _/_, _%_, _≤_, _<_}
+use Prim.Native.Nat.{ℕ, _+_, _-_, _≤_}
 use native.Mathlib.Omega.{arith}
 use mathlib.Core.Path.{_≡_, refl, sym, ap, ap₂, subst, _∙_}
 use mathlib.Core.Logic.{_⊎_, inl, inr, _≢_, ⊎-elim}
-use mathlib.Core.Bool.{Bool, true, false, cond}
+use mathlib.Core.Bool.{Bool, false, cond}
 use mathlib.Core.List.{List, [], _∷_, _++_, append-assoc}
-use lib.ListN.{length, take, drop, length-append, length-drop, replicate}
-use Rattle.octets.specs.Octets.{Octets}
+use lib.ListN.{length, drop, length-append, length-drop, replicate}
 use Rattle.octets.proofs.Laws.{drop-next}
 use Rattle.cases.proofs.Says.{says-eq, says-else}
 use Rattle.sheet_rules.specs.declared.Record.{Record}
@@ -16,7 +15,7 @@ use Rattle.sheet_rules.specs.Sentences.{Among}
 use Rattle.page_rules.specs.declared.Head.{Head}
 use Rattle.page_rules.specs.declared.Coded.{Coded as Data}
 use Rattle.page_rules.specs.Kinds.{hasBack, hasMask, hasFore, Colour, Fields, imageRecord, maskRecord}
-use Rattle.page_rules.specs.Grammar.{startOf, ImageCoder, headOf, TypeOf, Image, there, absent, Stripe, Stripes, last, next, Page}
+use Rattle.page_rules.specs.Grammar.{startOf, ImageCoder, headOf, TypeOf, Image, there, absent, Stripe, Stripes, last, next}
 use Rattle.page_rules.proofs.There.{length-start}
 use Rattle.page_rules.proofs.Named.{at-mask, at-back, at-fore}
 use Rattle.write_rules.specs.declared.Tally.{Tally}

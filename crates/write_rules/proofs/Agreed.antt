@@ -1,14 +1,14 @@
 -- The tests of one record and the sentences about it say the same.
 -- Assumes nothing.
-use Prim.Native.Nat.{ℕ, _+_, _-_, _%_, _≤_, _<_}
+use Prim.Native.Nat.{ℕ, _+_, _-_, _≤_, _<_}
 use native.Mathlib.Omega.{arith}
 use mathlib.Core.Path.{_≡_, refl, sym, ap, subst, _∙_}
-use mathlib.Core.Logic.{_⊎_, inl, inr, _≢_, ⊎-elim}
-use mathlib.Core.Bool.{Bool, true, false, _&&_, _||_, not, cond, false≢true}
-use mathlib.Core.List.{List, [], _∷_, _++_, append-nil}
-use lib.ListN.{length, take, drop, length-drop}
+use mathlib.Core.Logic.{_⊎_, _≢_}
+use mathlib.Core.Bool.{Bool, true, false, cond, false≢true}
+use mathlib.Core.List.{List, [], append-nil}
+use lib.ListN.{length, drop, length-drop}
 use lib.Seq.{length-take-le, take-all}
-use lib.Dec.{eqb, ltb}
+use lib.Dec.{ltb}
 use borrow.Author.Tests.{ltb-true, ltb-false}
 use Rattle.octets.specs.Octets.{Octets}
 use Rattle.octets.proofs.Laws.{octets-take, octets-drop}
@@ -17,7 +17,6 @@ use Rattle.cases.proofs.Says.{Says, says-eq, says-true, says-false, says-and, s
 use Rattle.answers.specs.declared.Answer.the-variants.{Short, Mismatch}
 use Rattle.field_rules.specs.Field.{Res, ok, no}
 use Rattle.sheet_rules.specs.declared.Record.{Record}
-use Rattle.sheet_rules.specs.Judge.{coded}
 use Rattle.sheet_rules.specs.Sentences.{Coded}
 use Rattle.sheet_rules.proofs.New.{says-coded}
 use Rattle.jpeg_rules.specs.declared.Walk.{Walk}
@@ -28,7 +27,7 @@ use Rattle.jpeg_rules.proofs.There.{layer-walk}
 use Rattle.jpeg_rules.proofs.Theorems.{walk-exactly}
 use Rattle.write_rules.specs.declared.Tally.{Tally}
 use Rattle.write_rules.specs.Layer.{dataOf, endsAs, agrees}
-use Rattle.write_rules.specs.Writing.{isMask, counted, matches, recordStep}
+use Rattle.write_rules.specs.Writing.{counted, matches, recordStep}
 
 -- a choice between two tests
 says-cond : {a b c : Bool} {P Q R : Type 0} → Says a P → Says b Q → Says c R → Says (cond a b c) ((P → Q) × ((P → ⊥) → R))

@@ -5,7 +5,7 @@ use native.Mathlib.Omega.{arith}
 use native.Mathlib.Numerals.{add-one}
 use mathlib.Core.Path.{_≡_, refl, sym, ap, subst, _∙_}
 use mathlib.Core.Logic.{_⊎_, inl, inr, _≢_, ⊎-elim}
-use mathlib.Core.Bool.{Bool, true, false, cond, false≢true}
+use mathlib.Core.Bool.{Bool, cond, false≢true}
 use mathlib.Core.List.{List, [], _∷_, _++_, append-nil, List·Memᴰ·head, List·Memᴰ·tail, List·Memᴰ·cases-cons, List·Memᴰ·not-nil, Memᴰ·append-left}
 use lib.ListN.{length, take, drop, take-append-drop}
 use lib.Seq.{length-take-le, take-suc, split-at}
@@ -32,7 +32,7 @@ use Rattle.write_rules.specs.Writing.{modeFrom, begun, recordsPass, main
 use Rattle.write_rules.specs.Sentences.{Fine, Low, ModeAt, ShortAt, MismatchAt, Sound, Gives}
 use Rattle.write_rules.specs.Form.{UsedMask}
 use Rattle.write_rules.proofs.Agreed.{Meets, says-matches, step-cases}
-use Rattle.write_rules.proofs.Passed.{Plain, coder-nonzero, Passed, pass-back, pass-there, passed-fine, Stops, pass-stops, pass-fault}
+use Rattle.write_rules.proofs.Passed.{Plain, coder-nonzero, Passed, pass-back, pass-there, passed-fine, pass-stops, pass-fault}
 
 -- a record before a place is one of all
 among-take : (rs : List Record) (i : ℕ) (r : Record) → Among r (take i rs) → Among r rs

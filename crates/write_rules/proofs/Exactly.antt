@@ -1,10 +1,8 @@
 -- The answer is the one that the sentences give, and no other.
 -- Assumes nothing.
-use Prim.Native.Nat.{ℕ, _+_, _≤_, _<_}
-use native.Mathlib.Omega.{arith}
+use Prim.Native.Nat.{ℕ}
 use mathlib.Core.Path.{_≡_, refl, sym, ap, subst, _∙_}
-use mathlib.Core.Logic.{_⊎_, inl, inr, ⊎-elim}
-use mathlib.Core.Bool.{Bool, true, false, cond}
+use mathlib.Core.Logic.{_⊎_, ⊎-elim}
 use mathlib.Core.List.{List}
 use lib.ListN.{length}
 use lib.Dec.{ltb}
@@ -18,7 +16,7 @@ use Rattle.sheet_rules.specs.Record.{records}
 use Rattle.write_rules.specs.declared.Tally.{Tally}
 use Rattle.write_rules.specs.Writing.{mainOf, verdictOf, sizeAnswer, answerBy, writeOf}
 use Rattle.write_rules.specs.Sentences.{sizeOf, Sound, Gives}
-use Rattle.write_rules.proofs.Answered.{verdict-back, accepted-sound, sheet-plain, verdict-sheet, verdict-mode, verdict-passes, verdict-there, short-there, mismatch-there, Refusal, verdict-refused}
+use Rattle.write_rules.proofs.Answered.{verdict-back, accepted-sound, sheet-plain, verdict-sheet, verdict-mode, verdict-passes, verdict-there, short-there, mismatch-there, verdict-refused}
 use Rattle.write_rules.proofs.Into.{tally-size}
 
 -- behind the verdict: the size

@@ -1,23 +1,21 @@
 -- The stripes that are written are stripes of the grammar, with the records that were lent but for their starts, and with their data.
 -- Assumes nothing.
-use Prim.Native.Nat.{ℕ, suc, _+_, _-_, _≤_, _<_}
+use Prim.Native.Nat.{ℕ, _+_, _-_, _≤_, _<_}
 use native.Mathlib.Omega.{arith}
 use mathlib.Core.Path.{_≡_, refl, sym, ap, subst, _∙_}
-use mathlib.Core.Logic.{_⊎_, inl, inr, _≢_, ⊎-elim}
-use mathlib.Core.Bool.{Bool, true, false, not, cond, false≢true}
+use mathlib.Core.Logic.{_⊎_, _≢_, ⊎-elim}
+use mathlib.Core.Bool.{Bool, true, cond}
 use mathlib.Core.List.{List, [], _∷_, _++_, map, append-assoc, List·Memᴰ·head, List·Memᴰ·tail}
-use lib.ListN.{length, take, drop, length-append}
-use Rattle.octets.specs.Octets.{Octets}
+use lib.ListN.{length, drop, length-append}
 use Rattle.octets.proofs.Laws.{drop-next}
 use Rattle.sheet_rules.specs.declared.Record.{Record}
 use Rattle.sheet_rules.specs.Record.{sumOf}
 use Rattle.sheet_rules.specs.Judge.{coded}
-use Rattle.sheet_rules.specs.Sentences.{Among, Coded, CoderOf}
+use Rattle.sheet_rules.specs.Sentences.{Among, Coded}
 use Rattle.sheet_rules.proofs.New.{says-coded}
 use Rattle.jpeg_rules.specs.Grammar.{Layer}
 use Rattle.page_rules.specs.declared.Head.{Head}
-use Rattle.page_rules.specs.declared.Coded.{Coded as Data}
-use Rattle.page_rules.specs.Kinds.{hasBack, hasMask, hasFore, imageRecord, maskRecord}
+use Rattle.page_rules.specs.Kinds.{hasBack, hasMask, hasFore, maskRecord}
 use Rattle.page_rules.specs.Grammar.{headOf, Widths, GoodFields, Image, recordsOf, Stripe, Stripes, last, next}
 use Rattle.page_rules.proofs.Accepted.{length-head}
 use Rattle.write_rules.specs.Layer.{dataOf}

@@ -1,32 +1,26 @@
 -- A page that was read, lent to the writer with its sheet: its records pass, and give its stripes.
 -- Assumes nothing.
-use Prim.Native.Nat.{ℕ, suc, _+_, _-_, _/_, _%_, _≤_, _<_}
+use Prim.Native.Nat.{ℕ, _+_, _-_, _≤_, _<_}
 use native.Mathlib.Omega.{arith}
-use mathlib.Core.Path.{_≡_, refl, sym, ap, ap₂, subst, _∙_}
+use mathlib.Core.Path.{_≡_, refl, sym, ap, subst, _∙_}
 use mathlib.Core.Logic.{_⊎_, inl, inr, _≢_, ⊎-elim}
-use mathlib.Core.Bool.{Bool, true, false, not, cond, false≢true}
-use mathlib.Core.List.{List, [], _∷_, _++_, append-assoc, List·Memᴰ·cases-cons, List·Memᴰ·not-nil, List·Memᴰ·append-cases}
+use mathlib.Core.Bool.{Bool, true, false, not, cond}
+use mathlib.Core.List.{List, [], _∷_, _++_, List·Memᴰ·cases-cons, List·Memᴰ·not-nil, List·Memᴰ·append-cases}
 use lib.ListN.{length, take, drop, length-append}
 use lib.Seq.{take-at}
-use lib.Dec.{eqb}
 use borrow.Author.Tests.{eq-eqb, ne-eqb}
-use Rattle.octets.proofs.Laws.{drop-next}
-use Rattle.cases.proofs.Cases.{bool-else}
 use Rattle.sheet_rules.specs.declared.Record.{Record}
 use Rattle.sheet_rules.specs.Record.{nth, sumOf}
 use Rattle.sheet_rules.specs.Judge.{coded}
 use Rattle.sheet_rules.specs.Sentences.{Among, Coded}
 use Rattle.sheet_rules.proofs.Among.{sum-append}
-use Rattle.jpeg_rules.specs.Grammar.{Layer}
 use Rattle.page_rules.specs.declared.Head.{Head}
 use Rattle.page_rules.specs.declared.Coded.{Coded as Data}
 use Rattle.page_rules.specs.declared.Coded.the-variants.{There, Absent}
-use Rattle.page_rules.specs.Kinds.{hasBack, hasMask, hasFore, Colour, Fields, imageRecord, maskRecord}
-use Rattle.page_rules.specs.Grammar.{headOf, TypeOf, Widths, GoodFields, Image, there, absent, Stripe, Stripes, last, next}
+use Rattle.page_rules.specs.Kinds.{hasBack, hasMask, hasFore, Colour, imageRecord, maskRecord}
+use Rattle.page_rules.specs.Grammar.{headOf, Image, there, absent, Stripe, Stripes, last, next}
 use Rattle.page_rules.proofs.Accepted.{length-head}
 use Rattle.write_rules.specs.Layer.{dataOf}
-use Rattle.write_rules.specs.Writing.{typeBy, colourBy, fieldsBy, stripeBy, stripesBy}
-use Rattle.write_rules.specs.Form.{TrimStripe, Trim}
 use Rattle.write_rules.proofs.Passed.{sizeIn}
 use Rattle.write_rules.proofs.Sizes.{size-first, size-other}
 

@@ -5,11 +5,12 @@ pub mod Sizes
 pub mod Answered
 pub mod Placed
 pub mod Lands
+pub mod Small
 pub mod Written
 pub mod Into
 pub mod Exactly
-pub mod Sheets
 pub mod Lent
 pub mod Again
 pub mod Trips
 pub mod Theorems
+pub mod Examples

@@ -1,20 +1,19 @@
 -- The records one by one: what is known where all of them passed, that they pass where it holds, and where they are refused.
 -- Assumes nothing.
-use Prim.Native.Nat.{ℕ, suc, _+_, _%_, _≤_, _<_}
+use Prim.Native.Nat.{ℕ, suc, _+_, _≤_, _<_}
 use native.Mathlib.Omega.{arith}
 use mathlib.Core.Path.{_≡_, refl, sym, ap, ap₂, subst, _∙_}
 use mathlib.Core.Logic.{_⊎_, inl, inr, _≢_, ⊎-elim}
 use mathlib.Core.Bool.{Bool, true, false, _&&_, not, cond, false≢true}
-use mathlib.Core.List.{List, [], _∷_, _++_, List·Memᴰ, List·Memᴰ·head, List·Memᴰ·tail, List·Memᴰ·cases-cons, List·Memᴰ·not-nil}
+use mathlib.Core.List.{List, [], _∷_, _++_, List·Memᴰ·head, List·Memᴰ·tail, List·Memᴰ·cases-cons, List·Memᴰ·not-nil}
 use lib.ListN.{length, take, drop}
 use lib.Seq.{split-at}
 use lib.Dec.{eqb}
 use borrow.Author.Tests.{eq-eqb, ne-eqb, eqb-true, eqb-false}
 use Rattle.octets.specs.Octets.{Octets}
 use Rattle.cases.proofs.Cases.{clash}
-use Rattle.cases.proofs.Says.{Says, says-eq, says-else}
+use Rattle.cases.proofs.Says.{says-eq, says-else}
 use Rattle.answers.specs.declared.Answer.{Answer}
-use Rattle.answers.specs.declared.Answer.the-variants.{Short, Mismatch}
 use Rattle.field_rules.specs.Field.{Res, ok, no, bind}
 use Rattle.sheet_rules.specs.declared.Record.{Record}
 use Rattle.sheet_rules.specs.Record.{blank, nth, only, sumOf}
@@ -24,7 +23,7 @@ use Rattle.sheet_rules.proofs.New.{says-coded}
 use Rattle.jpeg_rules.specs.Grammar.{Layer}
 use Rattle.write_rules.specs.declared.Tally.{Tally}
 use Rattle.write_rules.specs.Layer.{dataOf}
-use Rattle.write_rules.specs.Writing.{isMask, counted, matches, recordStep, recordsPass}
+use Rattle.write_rules.specs.Writing.{isMask, counted, recordStep, recordsPass}
 use Rattle.write_rules.specs.Form.{UsedMask, UsedImage}
 use Rattle.write_rules.specs.Sentences.{Fine}
 use Rattle.write_rules.proofs.Agreed.{Meets, says-matches, step-cases, step-next}

@@ -1,11 +1,11 @@
 -- The page's size: 26 octets, 39 a stripe, and the coded data.
 -- Assumes nothing.
-use Prim.Native.Nat.{ℕ, suc, _+_, _-_, _*_, _≤_, _<_}
+use Prim.Native.Nat.{ℕ, suc, _+_, _-_, _*_, _<_}
 use native.Mathlib.Omega.{arith}
-use mathlib.Core.Path.{_≡_, refl, sym, ap, _∙_}
+use mathlib.Core.Path.{_≡_, ap, _∙_}
 use mathlib.Core.Logic.{_≢_}
-use mathlib.Core.Bool.{Bool, cond}
-use mathlib.Core.List.{List, [], _∷_}
+use mathlib.Core.Bool.{Bool}
+use mathlib.Core.List.{List, _∷_}
 use lib.ListN.{length}
 use borrow.Author.Tests.{eq-eqb, ne-eqb}
 use Rattle.sheet_rules.specs.declared.Record.{Record}
@@ -14,7 +14,7 @@ use Rattle.sheet_rules.specs.Sentences.{stripeCount}
 use Rattle.page_rules.specs.declared.Head.{Head}
 use Rattle.write_rules.specs.Sentences.{sizeOf}
 use Rattle.write_rules.proofs.Passed.{sizeIn}
-use Rattle.write_rules.proofs.Threes.{Three, Threes, ended, another}
+use Rattle.write_rules.proofs.Threes.{Threes, ended, another}
 
 pub size-first : (r : Record) → r .layer ≡ 1 → sizeIn r ≡ 39 + r .len
 size-first r e = ap (λ (b : Bool). only b 39 + r .len) (eq-eqb (r .layer) 1 e)

@@ -1,25 +1,26 @@
 -- What is proved of writing a page. The statements are for the reader; how each is shown stands in the files beside this one.
 -- Assumes nothing.
-use Prim.Native.Nat.{ℕ, _+_, _*_, _≤_, _<_}
+use Prim.Native.Nat.{ℕ, _+_, _*_, _/_, _≤_}
 use native.Mathlib.Omega.{arith}
 use mathlib.Core.Path.{_≡_, refl, sym, ap, subst, _∙_}
 use mathlib.Core.Logic.{_↔_, _⊎_, inl, inr}
-use mathlib.Core.Bool.{Bool, true, false, cond}
 use mathlib.Core.List.{List, map}
 use lib.ListN.{length, take, drop, length-map}
 use lib.Dec.{ltb}
 use borrow.Author.Tests.{le-ltb}
 use Rattle.octets.specs.Octets.{Octets, putAt}
-use Rattle.cases.proofs.Cases.{cond-with, cond-both}
+use Rattle.cases.proofs.Cases.{cond-both}
 use Rattle.answers.specs.declared.Answer.{Answer}
-use Rattle.answers.specs.declared.Answer.the-variants.{Done, NoRoom, TooLong}
+use Rattle.answers.specs.declared.Answer.the-variants.{Done, Short, BadMark, BadLength, BadVersion, BadMode, BadCoder, BadRes, BadWidth, BadType, BadStripe, BadLayer, Trailing, NoRoom, BadSheet, BadPlane, Mismatch, BadLine, TooLong}
+use Rattle.answers.specs.Answers.{placeOf}
 use Rattle.field_rules.specs.Field.{Res, ok, no}
 use Rattle.sheet_rules.specs.declared.Record.{Record}
-use Rattle.sheet_rules.specs.Record.{recordSize, records, rest, sheetOf}
-use Rattle.sheet_rules.specs.Sentences.{Among, Coded, Sheet, stripeCount}
+use Rattle.sheet_rules.specs.Record.{recordSize, records, sheetOf}
+use Rattle.sheet_rules.specs.Sentences.{Sheet}
+use Rattle.sheet_rules.proofs.Cut.{length-records, sheet-back, sheet-whole}
+use Rattle.sheet_rules.proofs.Theorems.{sheet-refused, refused-few}
 use Rattle.page_rules.specs.Grammar.{Page}
 use Rattle.page_rules.specs.Reading.{pageOf, roomOf, readOf, intoOf, readInto}
-use Rattle.page_rules.proofs.Named.{Named}
 use Rattle.page_rules.proofs.There.{page-there}
 use Rattle.page_rules.proofs.Back.{page-back}
 use Rattle.write_rules.specs.declared.Tally.{Tally}
@@ -30,8 +31,7 @@ use Rattle.write_rules.specs.Sentences.{Fine, Low, sizeOf, Sound, Gives}
 use Rattle.write_rules.proofs.Passed.{Passed}
 use Rattle.write_rules.proofs.Exactly.{write-gives, gives-write}
 use Rattle.write_rules.proofs.Written.{records-sized}
-use Rattle.write_rules.proofs.Into.{Into, done-into, into-page, into-size, into-kept, into-lands, into-formed}
-use Rattle.write_rules.proofs.Sheets.{sheet-back, sheet-whole}
+use Rattle.write_rules.proofs.Into.{done-into, into-size, into-octets, into-kept, into-lands, into-formed}
 use Rattle.write_rules.proofs.Again.{page-again}
 use Rattle.write_rules.proofs.Trips.{length-page, trip-sheet, trip-low, trip-fine, sheet-sized, trip-size}
 
@@ -39,6 +39,41 @@ use Rattle.write_rules.proofs.Trips.{length-page, trip-sheet, trip-low,
 
 pub write-exactly : (s d : List ℕ) → Octets d → (room : ℕ) (a : Answer) → writeOf s d room ≡ a ↔ Gives s d room a
 write-exactly s d o room a = (λ e. subst (Gives s d room) e (write-gives s d o room), gives-write s d o room a)
+
+-- ---- an answer other than Done is one of the refusals that the paper's order for writing names: BadSheet, BadMode, Short and Mismatch at a record's
+-- number, at most the number of records; or TooLong or NoRoom, which have no place
+
+pub record WriteRefusal (n : ℕ) (a : Answer) : Type 0 where
+  pub kind : (a ≡ BadSheet (placeOf a)) ⊎ (a ≡ BadMode (placeOf a)) ⊎ (a ≡ Short (placeOf a)) ⊎ (a ≡ Mismatch (placeOf a)) ⊎ (a ≡ TooLong) ⊎ (a ≡ NoRoom)
+  pub place : placeOf a ≤ n
+
+gives-refusal : (s d : List ℕ) (room : ℕ) (a : Answer) → Gives s d room a → ((n : ℕ) → a ≡ Done n → ⊥) → WriteRefusal (length (records s)) a
+unfolding Gives placeOf records
+gives-refusal s d room (BadSheet i) k h =
+    let f = refused-few s i (sheet-refused s i .1 k) .1 in
+    let l = length-records s (length s / recordSize) 0 in
+    record { kind = inl refl; place = omega arith }
+gives-refusal s d room (BadMode i) k h = let w = k .2 .within in record { kind = inr (inl refl); place = omega arith }
+gives-refusal s d room (Short i) k h = let w = k .3 .within in record { kind = inr (inr (inl refl)); place = omega arith }
+gives-refusal s d room (Mismatch i) k h = let w = k .3 .within in record { kind = inr (inr (inr (inl refl))); place = omega arith }
+gives-refusal s d room TooLong k h = record { kind = inr (inr (inr (inr (inl refl)))); place = omega arith }
+gives-refusal s d room NoRoom k h = record { kind = inr (inr (inr (inr (inr refl)))); place = omega arith }
+gives-refusal s d room (Done n) k h = absurd (h n refl)
+gives-refusal s d room (BadMark i) k h = absurd k
+gives-refusal s d room (BadLength i) k h = absurd k
+gives-refusal s d room (BadVersion i) k h = absurd k
+gives-refusal s d room (BadCoder i) k h = absurd k
+gives-refusal s d room (BadRes i) k h = absurd k
+gives-refusal s d room (BadWidth i) k h = absurd k
+gives-refusal s d room (BadType i) k h = absurd k
+gives-refusal s d room (BadStripe i) k h = absurd k
+gives-refusal s d room (BadLayer i) k h = absurd k
+gives-refusal s d room (Trailing i) k h = absurd k
+gives-refusal s d room (BadPlane i) k h = absurd k
+gives-refusal s d room BadLine k h = absurd k
+
+pub write-refused : (s d : List ℕ) → Octets d → (room : ℕ) → ((n : ℕ) → writeOf s d room ≡ Done n → ⊥) → WriteRefusal (length (records s)) (writeOf s d room)
+write-refused s d o room = gives-refusal s d room (writeOf s d room) (write-gives s d o room)
 
 -- ---- what is written: n octets in front, and the octets past them as they were; a refusal changes nothing
 
@@ -54,6 +89,9 @@ refused-kept s d p = by (verdictOf s d)
         cond-both (λ x y. ((n : ℕ) → x ≡ Done n → ⊥) → y ≡ p) (ltb 16777215 (u .size)) (λ t h. refl) λ t.
         cond-both (λ x y. ((n : ℕ) → x ≡ Done n → ⊥) → y ≡ p) (ltb (length p) (u .size)) (λ v h. refl) (λ v h. absurd (h (u .size) refl))
     by (no a) = λ h. refl
+
+pub write-octets : (s d p : List ℕ) → Octets s → Octets d → (n : ℕ) → writeOf s d (length p) ≡ Done n → Octets (take n (writeInto s d p))
+write-octets s d p os o n q = into-octets s d p o (records-sized s os) n (done-into s d p o n q)
 
 -- ---- it is a page of the grammar, with the sheet that was lent but for octets 18 to 21 of coded records; and each coded layer's octets at its new
 -- start are those at its old start
@@ -117,6 +155,18 @@ formed-again s o rs f short p fits =
     ap (λ (x : List Record). pageBy s x (k .u)) (sheet-back rs)
     ∙ page-again s rs f (k .u) (subst (λ (x : List Record). Passed s (mainOf x) begun (k .u) x) (sheet-back rs) (k .accepted .passed)) in
     (q, k .into ∙ ap (putAt p 0) e)
+
+-- so that a page that was written, written again from the sheet that reading gives of it, is the same page
+
+pub write-again : (s d p : List ℕ) → Octets s → Octets d → (n : ℕ) → writeOf s d (length p) ≡ Done n → (rs : List Record) → Page (take n (writeInto s d p)) rs
+    → (t : List ℕ) → n ≤ length t
+    → (writeOf (sheetOf rs) (take n (writeInto s d p)) (length t) ≡ Done n) × (writeInto (sheetOf rs) (take n (writeInto s d p)) t ≡ putAt t 0 (take n (writeInto s d p)))
+write-again s d p os o n q rs y t h =
+    let i = done-into s d p o n q in
+    let l = into-size s d p o (records-sized s os) n i in
+    let short = i .short in
+    let a = formed-again (take n (writeInto s d p)) (write-octets s d p os o n q) rs (write-formed s d p os o n q rs y) (omega arith) t (omega arith) in
+    (a .0 ∙ ap Done l, a .1)
 
 -- for every page that is read: writing its sheet from the page itself and reading again gives the same sheet, but for octets 18 to 21 of coded
 -- records, and the same layers

@@ -1,20 +1,18 @@
 -- A sheet without layers above 3 is a list of stripes of three records each.
 -- Assumes nothing.
-use Prim.Native.Nat.{ℕ, suc, _+_, _-_, _*_, _%_, _≤_, _<_}
+use Prim.Native.Nat.{ℕ, suc, _+_, _-_, _%_, _≤_, _<_}
 use native.Mathlib.Omega.{arith}
 use mathlib.Core.Path.{_≡_, refl, sym, ap, subst, _∙_}
 use mathlib.Core.Logic.{_⊎_, inl, inr, _≢_, ⊎-elim}
-use mathlib.Core.Bool.{Bool, true, false}
+use mathlib.Core.Bool.{true}
 use mathlib.Core.List.{List, [], _∷_, List·Memᴰ·head, List·Memᴰ·tail}
 use lib.ListN.{length}
 use Rattle.cases.proofs.Cases.{clash}
-use Rattle.cases.proofs.Says.{Says}
 use Rattle.sheet_rules.specs.declared.Record.{Record}
 use Rattle.sheet_rules.specs.declared.State.{State}
-use Rattle.sheet_rules.specs.declared.Step.{Step}
 use Rattle.sheet_rules.specs.declared.Step.the-variants.{Next, Stop}
 use Rattle.sheet_rules.specs.Record.{nth}
-use Rattle.sheet_rules.specs.Judge.{coded, begin, after, after1, after2, after3, stepOf, onStep, run}
+use Rattle.sheet_rules.specs.Judge.{coded, begin, after, after1, after2, after3, onStep, run}
 use Rattle.sheet_rules.specs.Sentences.{Among, Coded, Uncoded, Listed, Sheet}
 use Rattle.sheet_rules.proofs.New.{NextLayer, NextStripe, CodedFacts, UncodedFacts, BaseFacts, ResFacts, PageFacts, ChoiceFacts, UpperFacts, New, says-new, says-coded}
 use Rattle.sheet_rules.proofs.Agrees.{after-layer}

@@ -1,34 +1,32 @@
 -- A page that was read: its sheet and itself are what the writer asks for.
 -- Assumes nothing.
-use Prim.Native.Nat.{ℕ, _+_, _*_, _≤_, _<_}
+use Prim.Native.Nat.{ℕ, _+_, _≤_, _<_}
 use native.Mathlib.Omega.{arith}
-use mathlib.Core.Path.{_≡_, refl, sym, ap, subst, _∙_}
-use mathlib.Core.Logic.{_⊎_, inl, inr, ⊎-elim}
-use mathlib.Core.Bool.{Bool, true, false}
-use mathlib.Core.List.{List, [], _∷_, _++_}
+use mathlib.Core.Path.{_≡_, sym, ap, subst, _∙_}
+use mathlib.Core.Logic.{_⊎_, ⊎-elim}
+use mathlib.Core.Bool.{true, false}
+use mathlib.Core.List.{List, _∷_, _++_}
 use lib.ListN.{length, length-append, length-replicate, replicate}
 use Rattle.cases.proofs.Cases.{bool-else}
 use Rattle.sheet_rules.specs.declared.Record.{Record}
-use Rattle.sheet_rules.specs.Record.{records, sheetOf, sumOf}
+use Rattle.sheet_rules.specs.Record.{records, sheetOf}
 use Rattle.sheet_rules.specs.Judge.{coded}
 use Rattle.sheet_rules.specs.Sentences.{Among, Sheet}
 use Rattle.sheet_rules.proofs.New.{says-coded}
 use Rattle.jpeg_rules.specs.Grammar.{Layer}
-use Rattle.page_rules.specs.declared.Head.{Head}
 use Rattle.page_rules.specs.Grammar.{startOf, Page}
 use Rattle.page_rules.proofs.There.{length-start}
 use Rattle.page_rules.proofs.Accepted.{page-accepted}
-use Rattle.page_rules.proofs.Named.{Named, page-named}
+use Rattle.page_rules.proofs.Named.{page-named}
 use Rattle.write_rules.specs.Layer.{dataOf}
 use Rattle.write_rules.specs.Writing.{mainOf}
 use Rattle.write_rules.specs.Sentences.{Fine, Low, sizeOf}
-use Rattle.write_rules.proofs.Passed.{sizeIn}
 use Rattle.write_rules.proofs.Threes.{sheet-threes}
 use Rattle.write_rules.proofs.Sizes.{size-threes}
 use Rattle.write_rules.proofs.Placed.{uncoded-is}
 use Rattle.write_rules.proofs.Lands.{Sized}
 use Rattle.write_rules.proofs.Lent.{Lent, stripes-lent, stripes-main, stripes-size}
-use Rattle.write_rules.proofs.Sheets.{sheet-back}
+use Rattle.sheet_rules.proofs.Cut.{sheet-back}
 
 -- the octets of a page
 pub length-page : (s : List ℕ) (rs : List Record) (y : Page s rs) → length s ≡ 26 + length (y .optionals) + length (y .stripes) + y .zeros

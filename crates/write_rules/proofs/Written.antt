@@ -1,30 +1,30 @@
 -- The page that is written: of the grammar, in the writer's form, with the records and the data that were lent.
 -- Assumes nothing.
-use Prim.Native.Nat.{ℕ, zero, suc, _+_, _-_, _*_, _/_, _≤_, _<_}
+use Prim.Native.Nat.{ℕ, zero, suc, _+_, _-_, _*_, _/_, _≤_}
 use native.Mathlib.Omega.{arith}
 use mathlib.Core.Path.{_≡_, refl, sym, ap, subst, _∙_}
-use mathlib.Core.Logic.{_⊎_, inl, inr, _≢_, ⊎-elim}
-use mathlib.Core.Bool.{Bool, true, false, cond}
+use mathlib.Core.Logic.{_⊎_, inl, inr, ⊎-elim}
 use mathlib.Core.List.{List, [], _∷_, _++_, map, List·Memᴰ·head, List·Memᴰ·tail, List·Memᴰ·cases-cons, List·Memᴰ·not-nil}
-use lib.ListN.{length, take, drop, length-append, replicate}
+use lib.ListN.{length, drop, length-append}
 use Rattle.octets.specs.Octets.{Octets}
-use Rattle.octets.proofs.Laws.{drop-next, be16-bound, be32-bound}
+use Rattle.octets.proofs.Laws.{drop-next, be16-bound, be32-bound, octets-append}
 use Rattle.cases.proofs.Cases.{clash}
 use Rattle.sheet_rules.specs.declared.Record.{Record}
-use Rattle.sheet_rules.specs.Record.{recordSize, recordAt, recordsFrom, records, nth, sumOf}
-use Rattle.sheet_rules.specs.Sentences.{Among, Coded, CoderOf, Listed, Sheet}
+use Rattle.sheet_rules.specs.Record.{recordSize, recordAt, recordsFrom, records}
+use Rattle.sheet_rules.specs.Sentences.{Among, CoderOf, Listed, Sheet}
 use Rattle.page_rules.specs.declared.Head.{Head}
-use Rattle.page_rules.specs.Grammar.{startOf, MaskCoder, ImageCoder, GoodHead, no-more, Stripes, Page}
+use Rattle.page_rules.specs.Grammar.{startOf, MaskCoder, GoodHead, no-more}
 use Rattle.page_rules.proofs.There.{length-start}
 use Rattle.write_rules.specs.declared.Tally.{Tally}
 use Rattle.write_rules.specs.Layer.{dataOf}
 use Rattle.write_rules.specs.Writing.{begun, mainOf, headBy, stripesBy, pageBy}
-use Rattle.write_rules.specs.Form.{bare, Trim, UsedMask, UsedImage, Formed}
+use Rattle.write_rules.specs.Form.{bare, UsedMask, UsedImage, Formed}
 use Rattle.write_rules.proofs.Agreed.{length-data}
-use Rattle.write_rules.proofs.Passed.{sizeIn, Passed}
-use Rattle.write_rules.proofs.Threes.{Three, Threes, ended, another, sheet-threes}
+use Rattle.write_rules.proofs.Passed.{Passed}
+use Rattle.write_rules.proofs.Threes.{Threes, ended, another, sheet-threes}
 use Rattle.write_rules.specs.Sentences.{Low}
-use Rattle.write_rules.proofs.Lands.{Sized, Ready, movedBy, Landed, stripes-land, moved-same, moved-data, length-stripes}
+use Rattle.write_rules.proofs.Small.{close-octets, start-octets, stripes-octets}
+use Rattle.write_rules.proofs.Lands.{Sized, Ready, movedBy, stripes-land, moved-same, moved-data, length-stripes}
 
 -- ---- the numbers of a sheet's records are small
 
@@ -159,3 +159,9 @@ module _ (d : List ℕ) (o : Octets d) (rs : List Record) (u : Tally) (sh : Shee
       let e = length-stripes threes d long in
       let f = p .size in
       omega arith
+
+  pub written-octets : Octets (pageBy d rs u)
+  unfolding pageBy
+  written-octets =
+      octets-append (startOf (headBy rs u)) (stripesBy d rs ++ (0xFF ∷ 0xD9 ∷ 0xFF ∷ 0xD9 ∷ [])) (start-octets (headBy rs u) good-head)
+      (octets-append (stripesBy d rs) (0xFF ∷ 0xD9 ∷ 0xFF ∷ 0xD9 ∷ []) (stripes-octets threes (omega arith) d o sized) close-octets)

@@ -1,5 +1,6 @@
 -- What is said of the pages that are written.
 --
+--   startAt r p    the record with another start
 --   bare r         the record without the start of its coded data: all but octets 18 to 21 of a coded record
 --   Lands rs d l   the octets l are a page whose sheet is that of the records rs, but for octets 18 to 21 of coded records; and the data of each
 --                  is the data that the buffer d has for it
@@ -19,7 +20,6 @@ use Rattle.page_rules.specs.Kinds.{hasBack, hasFore}
 use Rattle.page_rules.specs.Grammar.{Stripe, Stripes, last, next, Page}
 use Rattle.write_rules.specs.Layer.{dataOf}
 
--- the record with another start
 abbrev pub startAt : Record → ℕ → Record
 startAt r start =
     record {

@@ -1,6 +1,7 @@
 -- A record and the octets of a buffer that it names (01, "The sheet"; "Numbers that a call returns", 16).
 --
 --   dataOf d r        the octets of the buffer d that the record r names
+--   endsAs x r        the walk x ends so
 --   agrees d main r   an image layer's data agrees with its record: the walk of these octets, and of no other, ends at their end with the record's
 --                     width, height and resolution, under a main resolution
 use Prim.Native.Nat.{ℕ}

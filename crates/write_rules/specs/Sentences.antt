@@ -2,6 +2,7 @@
 --
 --   Fine main d rs    each coded record of rs has its data in the buffer d; an image layer's data is a JPEG layer of the record's width, height and
 --                     resolution; and the coded masks have one coder
+--   Low rs            no layer above 3
 --   ModeAt rs i       the record i is the first above layer 3
 --   ShortAt ..        those before the record i are fine, and its data passes the end of the buffer
 --   MismatchAt ..     those before the record i are fine, its data is there, and with it they are not fine
@@ -27,7 +28,7 @@ pub record Fine (main : ℕ) (d : List ℕ) (rs : List Record) : Type 0 where
   pub layers : (r : Record) → Among r rs → Coded r → r .layer ≢ 2 → Layer main (dataOf d r) (r .width) (r .height) (r .res)
   pub coders : (r q : Record) → Among r rs → Among q rs → Coded r → Coded q → r .layer ≡ 2 → q .layer ≡ 2 → r .coder ≡ q .coder
 
--- every N is 3
+-- every N is 3 (in a sheet no N is less)
 abbrev pub Low : List Record → Type 0
 Low rs = (r : Record) → Among r rs → r .layer ≤ 3
 

@@ -5,14 +5,19 @@
 --   matches d main t r     a record's data agrees with it, and its coder with that of the masks before
 --   recordStep             one record: Short before Mismatch
 --   recordsPass            each record in order
---   verdictOf s d          the sheet, the mode, the records: what the page will be, or the refusal
+--   mainOf rs              the main resolution
+--   verdictOf s d          the sheet, the mode, the records: what the page will be, or the refusal; verdictBy: by the judge's verdict
+--   typeBy, colourBy       a stripe's type by which of its layers are coded, and a record's base colour
 --   fieldsBy a b c         the fields of a stripe whose layers 1 to 3 have the records a, b and c
 --   stripeBy, stripesBy    a stripe with its coded layers, and all of them
 --   headBy rs t            what the start of page says
 --   pageBy d rs t          the page's octets
+--   sizeAnswer room size   behind the verdict: TooLong, NoRoom, or Done
 --   writeOf s d room       what the call answers, where the page's buffer holds so many octets
 --   writeInto s d p        what the buffer p holds afterwards
+--   Writes s d p a e       the call's promise: it answers a, and the buffer p is then e
 use Prim.Native.Nat.{ℕ, _+_}
+use mathlib.Core.Path.{_≡_}
 use mathlib.Core.Bool.{Bool, true, _&&_, _||_, not, cond}
 use mathlib.Core.List.{List, [], _∷_, _++_}
 use lib.ListN.{length}
@@ -90,7 +95,7 @@ unfoldable pub verdictOf : List ℕ → List ℕ → Res Tally
 unfolding verdictBy
 verdictOf s d = verdictBy (judgeOf s) d (records s)
 
--- ---- a stripe
+-- ---- a stripe (T.44 9.3)
 
 -- bit 0 background, bit 1 mask, bit 2 foreground: the layers that are coded
 abbrev pub typeBy : Bool → Bool → Bool → ℕ
@@ -126,7 +131,7 @@ stripesBy d (a ∷ []) = []
 stripesBy d (a ∷ b ∷ []) = []
 stripesBy d (a ∷ b ∷ c ∷ rs) = stripeBy d a b c ++ stripesBy d rs
 
--- ---- the page: no optional segment and no padding
+-- ---- the page (9.6.2): the start of page (9.2.1), the stripes, the end; no optional segment and no padding
 
 abbrev pub headBy : List Record → Tally → Head
 headBy rs t = record { mask = t .mask; image = t .image; main = mainOf rs; width = nth rs 1 .width }
@@ -158,3 +163,7 @@ intoBy p d rs (no a) = p
 unfoldable pub writeInto : List ℕ → List ℕ → List ℕ → List ℕ
 unfolding verdictOf intoBy
 writeInto s d p = intoBy p d (records s) (verdictOf s d)
+
+pub record Writes (s d p : List ℕ) (a : Answer) (e : List ℕ) : Type 0 where
+  pub answers : a ≡ writeOf s d (length p)
+  pub holds : e ≡ writeInto s d p
