@@ -41,7 +41,7 @@ def library_is_listed():
 def has_call(archive, name):
     """Whether an archive defines the call."""
     told = subprocess.run(["nm", "-g", "--defined-only", archive], stdout=subprocess.PIPE,
-                          stderr=subprocess.DEVNULL, check=True).stdout.decode("ascii", "replace")
+                          stderr=subprocess.DEVNULL, check=False).stdout.decode("ascii", "replace")
     return re.search(r" T %s$" % re.escape(name), told, re.MULTILINE) is not None
 
 
