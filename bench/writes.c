@@ -329,7 +329,7 @@ int main(void)
            "/ octets", "/ memchr", "/ copy+read", "GB/s");
     for (size_t i = 0; i < ROWS; i++)
         print_row(i);
-    puts("\nratios: Rattle / the other, below 1 is faster; copy + read: one memcpy of the page and one proved reading of it; GB/s: octets of the page "
-         "written");
+    puts("\nratios: Rattle / the other, below 1 is faster; copy + read: one memcpy of the page and one proved reading of it; GB/s: octets "
+         "of the page written");
     return 0;
 }

@@ -24,10 +24,9 @@ FAULTS = [
     ("write.c", "layer 4 taken", ".layer > 3) {", ".layer > 4) {"),
     ("write.c", "layers above 3 taken", "if (find_layer_above_3(&source, &place)) {",
      "if (find_layer_above_3(&source, &place) && false) {"),
-    ("write.c", "only stripe 0 searched for layer 4", "for (size_t i = 0; i < source->records; i++) "
-     "{\n        if (sheet_record(source->sheet, i).layer > 3)",
-     "for (size_t i = 0; i < 5 && i < source->records; i++) "
-     "{\n        if (sheet_record(source->sheet, i).layer > 3)"),
+    ("write.c", "only stripe 0 searched for layer 4",
+     "i < source->records; i++) {\n        if (sheet_record(source->sheet, i).layer > 3)",
+     "i < 5; i++) {\n        if (i < source->records && sheet_record(source->sheet, i).layer > 3)"),
     ("write.c", "BadMode without its record",
      "*place = i;", "*place = 0 * i;"),
     ("write.c", "BadMode at layer 3", "*place = i;", "*place = i - 1;"),
@@ -54,7 +53,8 @@ FAULTS = [
     ("write.c", "only the length is looked at",
      "(uint64_t)r.start + r.length > source->octets", "r.length > source->octets"),
     ("write.c", "a start of 16 bits",
-     "(uint64_t)r.start + r.length > source->octets", "r.start % 65536 + r.length > source->octets"),
+     "(uint64_t)r.start + r.length > source->octets",
+     "r.start % 65536 + r.length > source->octets"),
     ("write.c", "start plus length as a signed number",
      "(uint64_t)r.start + r.length > source->octets",
      "(int32_t)(r.start + r.length) > (int32_t)source->octets"),
@@ -68,7 +68,7 @@ FAULTS = [
      "    if (is_short(source, r)) {\n        return SHORT;\n    }\n    if (r.layer == 2) {"),
     ("write.c", "Mismatch of mask coders before Short",
      "    if (is_short(source, r)) {",
-     "    if (r.layer == 2 && has_other_coder_before(source, i)) {\n        return MISMATCH;\n    }\n"
+     "    if (r.layer == 2 && has_other_coder_before(source, i)) return MISMATCH;\n"
      "    if (is_short(source, r)) {"),
     ("write.c", "all Short before all Mismatch",
      "    for (size_t i = 0; i < source.records; i++) {\n        unsigned number",
@@ -103,8 +103,8 @@ FAULTS = [
      "jpeg_walk(source->data,"),
     ("write.c", "the width is not looked at", "layer.width != r.width || ", ""),
     ("write.c", "the height is not looked at", "layer.height != r.height ||", ""),
-    ("write.c", "the resolution is not looked at", " ||\n           layer.resolution != r.resolution",
-     ""),
+    ("write.c", "the resolution is not looked at",
+     " ||\n           layer.resolution != r.resolution", ""),
     ("write.c", "width and height swapped", "layer.width != r.width || layer.height != r.height",
      "layer.width != r.height || layer.height != r.width"),
     ("write.c", "the low octet of the width only",
@@ -117,15 +117,15 @@ FAULTS = [
     ("write.c", "main resolution is the record's own",
      "first_mask(source).resolution);", "r.resolution * 0 + 200);"),
     ("write.c", "layer 3 is not walked", "    if (r.layer == 2) {\n        return has",
-     "    if (r.layer == 3) {\n        return DONE;\n    }\n    if (r.layer == 2) {\n        return has"),
+     "    if (r.layer == 3) return DONE;\n    if (r.layer == 2) {\n        return has"),
     ("write.c", "layer 1 is not walked", "    if (r.layer == 2) {\n        return has",
-     "    if (r.layer == 1) {\n        return DONE;\n    }\n    if (r.layer == 2) {\n        return has"),
+     "    if (r.layer == 1) return DONE;\n    if (r.layer == 2) {\n        return has"),
     ("write.c", "only stripe 0 is walked", "return disagrees(source, r) ? MISMATCH : DONE;",
      "return i < 3 && disagrees(source, r) ? MISMATCH : DONE;"),
     ("write.c", "masks are walked", "    if (r.layer == 2) {\n        return has",
      "    if (r.layer == 9) {\n        return has"),
-    ("write.c", "two mask coders taken", "return has_other_coder_before(source, i) ? MISMATCH : DONE;",
-     "return DONE;"),
+    ("write.c", "two mask coders taken",
+     "return has_other_coder_before(source, i) ? MISMATCH : DONE;", "return DONE;"),
     ("write.c", "two mask coders only beside each other", "for (size_t j = 0; j < i; j++) {",
      "for (size_t j = i > 3 ? i - 3 : 0; j < i; j++) {"),
     ("write.c", "only the first mask's coder counts, coded or not",
@@ -145,20 +145,23 @@ FAULTS = [
     ("write.c", "the size in 32 bits", "uint64_t size = page_size(&source);",
      "uint32_t size = (uint32_t)page_size(&source);"),
     ("write.c", "TooLong before the records", "    for (size_t i = 0; i < source.records; i++) {\n"
-     "        unsigned number", "    if (page_size(&source) > LONGEST) return refusal(TOO_LONG, 0);\n"
+     "        unsigned number",
+     "    if (page_size(&source) > LONGEST) return refusal(TOO_LONG, 0);\n"
      "    for (size_t i = 0; i < source.records; i++) {\n        unsigned number"),
-    ("write.c", "NoRoom before TooLong", "    if (size > LONGEST) {\n        return refusal(TOO_LONG, 0);"
-     "\n    }\n    if (page_octets < size) {\n        return refusal(NO_ROOM, 0);\n    }",
+    ("write.c", "NoRoom before TooLong",
+     "    if (size > LONGEST) {\n        return refusal(TOO_LONG, 0);\n    }\n"
+     "    if (page_octets < size) {\n        return refusal(NO_ROOM, 0);\n    }",
      "    if (page_octets < size) {\n        return refusal(NO_ROOM, 0);\n    }\n"
      "    if (size > LONGEST) {\n        return refusal(TOO_LONG, 0);\n    }"),
     ("write.c", "NoRoom before the records", "    for (size_t i = 0; i < source.records; i++) {\n"
-     "        unsigned number", "    if (page_octets < page_size(&source)) return refusal(NO_ROOM, 0);\n"
+     "        unsigned number",
+     "    if (page_octets < page_size(&source)) return refusal(NO_ROOM, 0);\n"
      "    for (size_t i = 0; i < source.records; i++) {\n        unsigned number"),
     ("write.c", "exact room refused", "page_octets < size", "page_octets <= size"),
     ("write.c", "an octet of room may lack", "page_octets < size", "page_octets + 1 < size"),
     ("write.c", "room for four octets too many", "page_octets < size", "page_octets < size + 4"),
     ("write.c", "shared data counted once", "        size += r.length;",
-     "        size += i < 3 || r.start != sheet_record(source->sheet, i - 3).start ? r.length : 0;"),
+     "        if (i < 3 || r.start != sheet_record(source->sheet, i - 3).start) size += r.length;"),
 ]
 
 # the emission, one field at a time

@@ -20,6 +20,7 @@ from write_random import page_of, rows_of, sheet_of, without_starts
 GOOD = 300
 DAMAGED = 1500
 PICTURES = 20        # written with every length up to their own, and beyond
+POSITIONS = 140      # more than a writer looks at in one step
 LARGE = 100000       # more octets than this are written by themselves
 MANY = 60 * 28       # a sheet of more octets than this is judged by itself
 RUN = 2000           # sheets in one run of a driver
@@ -159,27 +160,54 @@ def check_round_trips(tally, writer, rng):
                 "a page made in the writer's form is in another")
 
 
+def one_picture(layer, picture, start, length):
+    """The rows of a stripe with one image layer; `picture` is its width, height and
+    resolution."""
+    rows = [[0, each, 0, 0, 0, 0, 0, 1200, each, 0, 0, 0, 0] for each in (1, 2, 3)]
+    rows[1][5:] = [9, 9, 1200, 0, 0, 0, 0, 0]
+    rows[layer - 1][2:8] = [1, 0, 0, *picture]
+    rows[layer - 1][11:] = [start, length]
+    return rows
+
+
+def picture_work(told, rows, data, good):
+    """What is due to one of these: Done, or Mismatch at the picture's record."""
+    coded = next(k for k, row in enumerate(rows) if row[12])
+    page = page_of(rows, data) if good else b""
+    due = "done %d" % len(page) if good else "refused 16 %d" % coded
+    return told, sheet_of(rows), data, write_making.ROOM, (due, page)
+
+
 def check_lengths(writer, rng):
     """A picture's record of every other length than its own is a Mismatch."""
     works = []
     for k in range(PICTURES):
-        octets, width, height, resolution = page_making.random_picture(rng, 1200)
+        octets, *picture = page_making.random_picture(rng, 1200)
         layer = rng.choice([1, 3])
         before, behind = rng.choice([b"", b"\xff", b"\xff\xd8"]), rng.choice([b"\0", octets])
-        rows = [[0, each, 0, 0, 0, 0, 0, 1200, each, 0, 0, 0, 0] for each in (1, 2, 3)]
-        rows[1][5:] = [9, 9, 1200, 0, 0, 0, 0, 0]
-        data = before + octets + behind
         for length in range(1, len(octets) + 2):
-            rows[layer - 1][2:8] = [1, 0, 0, width, height, resolution]
-            rows[layer - 1][11:] = [len(before), length]
-            due = ("refused 16 %d" % (layer - 1), b"")
-            if length == len(octets):
-                page = page_of(rows, data)
-                due = ("done %d" % len(page), page)
-            works.append(("picture %d in %d octets" % (k, length), sheet_of(rows), data,
-                          write_making.ROOM, due))
+            rows = one_picture(layer, picture, len(before), length)
+            works.append(picture_work("picture %d in %d octets" % (k, length), rows,
+                                      before + octets + behind, length == len(octets)))
     writer.check(works)
     print("%d records of other lengths than their pictures'" % (len(works) - PICTURES))
+
+
+def check_positions(writer):
+    """One pair at every octet of scan data, and the record's end around it."""
+    head = bytes(write_making.octets_of("soi fax frame scan"))
+    works = []
+    for k in range(POSITIONS):
+        before = bytes(k % 9)
+        for code in (0x00, 0xD0, 0xD7, 0xD9, 0xDA, 0xFF):
+            octets = head + b"\xfe" * k + bytes([0xFF, code]) + b"\xfe" * 40 + b"\xff\xd9"
+            ends = {0xD9: len(head) + k + 2, 0xDA: None, 0xFF: None}.get(code, len(octets))
+            for length in (len(head) + k, len(head) + k + 1, len(head) + k + 2, len(octets)):
+                rows = one_picture(1, (50, 20, 200), len(before), length)
+                works.append(picture_work(
+                    "FF %02X in scan data at %d, a record of %d" % (code, k, length), rows,
+                    before + octets + b"\xff\xd9", length == ends))
+    writer.check(works)
 
 
 def check_longest(writer):
@@ -240,6 +268,7 @@ def main():
     check_rooms(plain, cases)
     check_round_trips(tally, plain, random.Random(seed))
     check_lengths(plain, random.Random(seed + 1))
+    check_positions(plain)
     check_longest(plain)
     check_good(watched, random.Random(seed + 2))
     check_damaged(tally, watched, random.Random(seed + 3))

@@ -56,7 +56,8 @@ def page_of(rows, data):
 def laid_out(rng, page, rows):
     """The data of the records, moved."""
     data = random_octets(rng, rng.choice([0, 0, 3]))
-    for row in rng.sample([row for row in rows if row[LENGTH]], len([r for r in rows if r[LENGTH]])):
+    coded = [row for row in rows if row[LENGTH]]
+    for row in rng.sample(coded, len(coded)):
         octets = page[row[START]:row[START] + row[LENGTH]]
         row[START] = len(data)
         data += octets + random_octets(rng, rng.choice([0, 0, 1, 5]))
