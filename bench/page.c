@@ -372,9 +372,21 @@ static bool zeros(struct reader *r)
 
 #ifdef BY_MEMCHR
 #define READ c_read_by_memchr
+#define WALK c_walk_by_memchr
 #else
 #define READ c_read_by_octets
+#define WALK c_walk_by_octets
 #endif
+
+bool WALK(const uint8_t *data, size_t size, uint32_t main, uint8_t *record)
+{
+    struct reader r;
+    r.page = data;
+    r.size = size;
+    r.at = 0;
+    r.main = main;
+    return walk(&r, record);
+}
 
 spirerook_answer READ(const uint8_t *page, size_t page_len, uint8_t *sheet, size_t sheet_len)
 {

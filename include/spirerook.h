@@ -1,4 +1,4 @@
-/* Spirerook reads a mixed raster page (T.44, Mode 1) into a table of its layers, the sheet.
+/* Spirerook reads a mixed raster page (T.44, Mode 1) into a table of its layers, the sheet, and writes a page from a sheet.
  *
  * Link build/libspirerook.a.  No call allocates, keeps anything or calls back: a caller lends octets for the time of a call, a length beside each
  * pointer.  Any octets of any length may be lent; a null pointer with length 0 too.  What is lent for writing may not overlap anything else
@@ -13,7 +13,7 @@
 extern "C" {
 #endif
 
-/* The numbers of the paper.  Reading gives 0 to 13 and 18. */
+/* The numbers of the paper.  Reading gives 0 to 13 and 18, writing 0, 1, 5, 13, 14, 16 and 18. */
 enum {
     SPIREROOK_DONE = 0,         /* the work was done */
     SPIREROOK_SHORT = 1,        /* a field, or coded data, does not fit whole */
@@ -37,7 +37,8 @@ enum {
 };
 
 /* number: one of the above.
- * place:  of a refusal, the first octet of the field at fault, from 0; it may equal the page's length, where a field is missing at its end.
+ * place:  of a refusal in reading, the first octet of the field at fault, from 0; it may equal the page's length, where a field is missing at its
+ *         end.  In writing, the record at fault, from 0; it may equal the number of records, where one more was due.
  *         Done, NoRoom and TooLong have place 0.
  * count:  of Done, what was written; a refusal has 0. */
 typedef struct {
@@ -48,6 +49,13 @@ typedef struct {
 /* Reads a page into the sheet: records of 28 octets, three a stripe, and count tells how many.  5,376 octets hold the sheet of any Mode 1 page.
  * Octets of the buffer past the records stay as they were.  A refusal changes no octet of it: the page is judged first, then the room. */
 spirerook_answer spirerook_read(const uint8_t *page, size_t page_len, uint8_t *sheet, size_t sheet_len);
+
+/* Writes the page of a sheet whose starts point into the data, and count tells how many octets it has; records may share data.  A page of no
+ * optional segment and no padding: 26 octets, 39 a stripe and the coded data, at most 16,777,215.  It is refused, in this order: a sheet that breaks
+ * a rule; a layer above 3, at the first; then record by record coded data that passes the data's end (Short), or that is not just the JPEG layer that
+ * its record tells, or a mask whose coder is not that of an earlier mask (Mismatch); then the length, then the room.
+ * Octets of the buffer past the page stay as they were.  A refusal changes no octet of it. */
+spirerook_answer spirerook_write(const uint8_t *sheet, size_t sheet_len, const uint8_t *data, size_t data_len, uint8_t *page, size_t page_len);
 
 #ifdef __cplusplus
 }

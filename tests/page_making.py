@@ -107,7 +107,7 @@ def number(words):
     return int(words[1:], 16) if words.startswith("x") else int(words)
 
 
-def part(word):
+def part(word, parts=PARTS):
     """The octets of one word of the column `page`."""
     if re.fullmatch(r"(?:[0-9A-F]{2})+", word):
         return bytes.fromhex(word)
@@ -119,7 +119,7 @@ def part(word):
             named[key] = number(value)
         else:
             plain.append(number(value))
-    return PARTS[name](*plain, **named) * int(times or 1)
+    return parts[name](*plain, **named) * int(times or 1)
 
 
 class Case:

@@ -16,7 +16,10 @@ SECONDS = 20
 LIST = ("sheet.c", "console.c", "list.c")
 READ_DRIVER = ("sheet.c", "console.c", os.path.join(DRIVER, "lent.c"),
                os.path.join(DRIVER, "read.c"))
-READ = ("page.c", "reading.c", "stripe.c", "jpeg.c", "as_library.c") + READ_DRIVER
+WRITE_DRIVER = READ_DRIVER[:-1] + (os.path.join(DRIVER, "write.c"),)
+CALLS = ("page.c", "reading.c", "stripe.c", "jpeg.c", "write.c", "as_library.c")
+READ = CALLS + READ_DRIVER
+WRITE = CALLS + WRITE_DRIVER
 
 
 def build(name="reference_list", sources=SOURCES, flags=("-O2",), parts=LIST):
@@ -35,15 +38,26 @@ def library_is_listed():
         return any(re.match(r"\s*spirerook\s*:", line) for line in lines)
 
 
-def build_library_driver(tally):
-    """The driver over the library, or None.
+def has_call(archive, name):
+    """Whether an archive defines the call."""
+    told = subprocess.run(["nm", "-g", "--defined-only", archive], stdout=subprocess.PIPE,
+                          stderr=subprocess.DEVNULL, check=False).stdout.decode("ascii", "replace")
+    return re.search(r" T %s$" % re.escape(name), told, re.MULTILINE) is not None
+
+
+def build_library_driver(tally, name="read", driver=READ_DRIVER):
+    """The driver of a call over the library, or None.
 
     Only while crates.txt lists no crate of the library may its archive be
-    missing: then the tests run on the reference alone, and say so.
+    missing, and only writing may be missing in it: then the tests run on the
+    reference alone, and say so.
     """
     archive = os.environ.get("LIBRARY") or os.path.join(ROOT, "build", "libspirerook.a")
     if os.path.exists(archive):
-        return build("library_read", parts=READ_DRIVER + (os.path.abspath(archive),))
+        if name == "write" and not has_call(archive, "spirerook_write"):
+            print("the library is not tried: its archive has no spirerook_write yet")
+            return None
+        return build("library_" + name, parts=driver + (os.path.abspath(archive),))
     if os.environ.get("LIBRARY") or library_is_listed():
         tally.check(False, "no %s: make it first" % os.path.relpath(archive, ROOT))
     else:
@@ -88,6 +102,26 @@ def read_many(program, pages):
         why = wrong or rest[-200:] + told.decode("ascii", "replace")[:200]
         answers.append("no answer: %s\n" % why)
     return answers + ["not read\n"] * (len(pages) - len(answers))
+
+
+def write_many(program, cases):
+    """What the driver of a writer tells for each (sheet, data, room), in one run of it:
+    the answer's line, and the page behind it."""
+    words = b"".join(b"".join(number.to_bytes(4, "big") for number in (len(sheet), len(data), room))
+                     + sheet + data for sheet, data, room in cases)
+    printed, told, wrong = ended(program, words, ["many"])
+    answers, at = [], 0
+    while len(answers) < len(cases):
+        end = printed.find(b"\n", at)
+        line = printed[at:end].decode("ascii", "replace") if end >= 0 else ""
+        size = int(line.split()[1]) if line.startswith("done ") else 0
+        if end < 0 or printed[end + 1 + size:end + 3 + size] != b".\n":
+            why = wrong or told.decode("ascii", "replace")[:200]
+            answers.append(("no answer: %s" % why, b""))
+            break
+        answers.append((line, printed[end + 1:end + 1 + size]))
+        at = end + 3 + size
+    return answers + [("not written", b"")] * (len(cases) - len(answers))
 
 
 def answer(listing):

@@ -87,21 +87,24 @@ def full_stripes():
     return "64 stripes of all layers", page + bytes(LONGEST - len(page)), lines
 
 
-def driven(program, stack, pages):
-    """What a driver prints for (page, room)s in `stack` KiB and an empty environment."""
-    words = b"".join(big(len(page), 4) + big(room, 4) + page for page, room in pages)
+def in_stack(program, stack, words):
+    """What a driver prints in `stack` KiB and an empty environment."""
     limited = ["sh", "-c", 'ulimit -s "$1" && exec "$0" many', program, str(stack)]
     done = subprocess.run(limited, input=words, stdout=subprocess.PIPE, stderr=subprocess.PIPE,
                           env={}, timeout=reference_run.SECONDS, check=False)
-    if done.returncode != 0:
-        return "ended with %d" % done.returncode
-    return done.stdout.decode("ascii", "replace")
+    return done.stdout if done.returncode == 0 else b"ended with %d" % done.returncode
+
+
+def driven(program, stack, pages):
+    """The same of a reader, for (page, room)s."""
+    words = b"".join(big(len(page), 4) + big(room, 4) + page for page, room in pages)
+    return in_stack(program, stack, words).decode("ascii", "replace")
 
 
 def least_stack(program):
-    """KiB, a power of two, with which a driver that reads no page comes to its end."""
+    """KiB, a power of two, with which a driver that is given nothing comes to its end."""
     for power in range(2, 14):
-        if all(driven(program, 2 ** power, []) == "" for _ in range(STARTS)):
+        if all(in_stack(program, 2 ** power, b"") == b"" for _ in range(STARTS)):
             return 2 ** power
     raise SystemExit("%s does not begin" % program)
 

@@ -1,6 +1,7 @@
 /* The reference behind the library's header, so that one driver serves both. */
 #include "page.h"
 #include "spirerook.h"
+#include "write.h"
 
 spirerook_answer spirerook_read(const uint8_t *page, size_t page_len,
                                 uint8_t *sheet, size_t sheet_len)
@@ -9,4 +10,14 @@ spirerook_answer spirerook_read(const uint8_t *page, size_t page_len,
         reference_read(page, page_len, sheet, sheet_len);
     spirerook_answer same = {answer.number, answer.place, answer.count};
     return same;
+}
+
+spirerook_answer spirerook_write(const uint8_t *sheet, size_t sheet_len,
+                                 const uint8_t *data, size_t data_len,
+                                 uint8_t *page, size_t page_len)
+{
+    struct reference_answer written =
+        reference_write(sheet, sheet_len, data, data_len, page, page_len);
+    spirerook_answer told = {written.number, written.place, written.count};
+    return told;
 }

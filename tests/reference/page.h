@@ -15,9 +15,9 @@ enum {
     MOST_RECORDS = MOST_STRIPES * LAYERS_OF_A_STRIPE
 };
 
-/* A number of the paper's table with its place in the page and the records
- * written.  "Done has place 0 and returns the records ... written ...; a
- * refusal returns 0 of them." */
+/* A number of the paper's table with its place and the records (reading) or
+ * octets (writing) written.  "Done has place 0 and returns the records or
+ * octets written ...; a refusal returns 0 of them." */
 struct reference_answer {
     unsigned number, place;
     unsigned long long count;
