@@ -8,8 +8,8 @@ ghost use Rattle.page_rules.specs.Grammar.{startOf, headOf};
 ghost use Rattle.sheet_rules.specs.Record.{only};
 ghost use Rattle.sheet_rules.specs.Judge.{coded};
 ghost use Rattle.write_rules.specs.Layer.{dataOf};
-ghost use Rattle.write_rules.specs.Writing.{typeBy, fieldsBy};
-ghost use Rattle.emit.specs.Parts.{startMark, startFields, stripeMark, stripeFields, Copied};
+ghost use Rattle.write_rules.specs.Writing.{typeBy, fieldsBy, stripeBy};
+ghost use Rattle.emit.specs.Parts.{startMark, startFields, stripeMark, stripeFields, Copied, Placed};
 use page_rules::APP13;
 use page_rules::EOI;
 use page_rules::Head;
@@ -119,4 +119,20 @@ fn put_layer(out: &mut [u8], at: usize, d: &[u8], r: Record)
     ensures { λ _. ⌜ now (out .exit) ≡ putAt (now (out .entry)) at (dataOf (now (d .entry)) r) ⌝ }
 {
     octets::copy_range(out, at, d, r.start as usize, r.len as usize);
+}
+
+// 01: the coded layers present stand in the order mask, background, foreground; of an absent one there are no octets. Answers the place behind them.
+pub fn put_stripe(out: &mut [u8], at: usize, d: &[u8], a: Record, b: Record, c: Record) -> usize
+    requires { ⌜ Placed (now out) at (now d) a b c ⌝ }
+    ensures put { λ _. ⌜ now (out .exit) ≡ putAt (now (out .entry)) at (stripeBy (now (d .entry)) a b c) ⌝ }
+    ensures next { λ r. ⌜ r ≡ at + length (stripeBy (now (d .entry)) a b c) ⌝ }
+{
+    let back = at + 39 + b.len as usize;
+    let fore = back + a.len as usize;
+    let next = fore + c.len as usize;
+    put_head(out, at, a, b, c);
+    put_layer(out, at + 39, d, b);
+    put_layer(out, back, d, a);
+    put_layer(out, fore, d, c);
+    next
 }

@@ -2,54 +2,37 @@ use Rattle.emit.proofs.Laws.{fields-put}
 use borrow.Author.Needs.{needs}
 use Rattle.emit.proofs.put_fields.Statement.{statement}
 use Rattle.emit.proofs.put_fields.Tie as tie
-use Rattle.emit.proofs.put_fields.Reads as reads
-use Rattle.emit.proofs.put_fields.Lts as lts
-use Rattle.emit.proofs.put_offset.Reads as put-offset-reads
-use Rattle.emit.proofs.put_sizes.Reads as put-sizes-reads
-use Rattle.emit.proofs.type_of.Reads as type-of-reads
-use Rattle.octets.proofs.put_octets.Reads as put-octets-reads
 
--- src/lib.rt:101:9
 type-of-requires : tie.Need-type-of-requires
 type-of-requires c κs = search needs
 
--- src/lib.rt:103:33
 slice-aggregate-put-octets : tie.Need-slice-aggregate-put-octets
 slice-aggregate-put-octets c = search needs
 
--- src/lib.rt:103:5
 put-octets-requires : tie.Need-put-octets-requires
 put-octets-requires c κs = search needs
 
--- src/lib.rt:104:21
 add-put-offset : tie.Need-add-put-offset
 add-put-offset c = search needs
 
--- src/lib.rt:104:5
 put-offset-requires : tie.Need-put-offset-requires
 put-offset-requires c κs = search needs
 
--- src/lib.rt:105:21
 add-put-offset-2 : tie.Need-add-put-offset-2
 add-put-offset-2 c = search needs
 
--- src/lib.rt:105:5
 put-offset-requires-2 : tie.Need-put-offset-requires-2
 put-offset-requires-2 c κs = search needs
 
--- src/lib.rt:106:20
 add-put-sizes : tie.Need-add-put-sizes
 add-put-sizes c = search needs
 
--- src/lib.rt:106:5
 put-sizes-requires : tie.Need-put-sizes-requires
 put-sizes-requires c κs = search needs
 
--- src/lib.rt:97:1
 same-length : tie.Need-same-length
 same-length c = search needs
 
--- src/lib.rt:97:1
 returns : tie.Need-returns
 returns c = fields-put _ _ (c .before .before .before .before .before .before .before .before .before .before .before .before .before .before .before .before .before .before .before .args .a) (c .before .before .before .before .before .before .before .before .before .before .before .before .before .before .before .before .before .before .before .args .b) (c .before .before .before .before .before .before .before .before .before .before .before .before .before .before .before .before .before .before .before .args .c) (c .before .before .before .before .before .before .before .before .before .before .before .before .before .before .before .before .before .before .before .pre) (c .before .before .before .before .before .before .before .before .before .before .before .before .before .before .before .before .before .type-of .ensures) (c .before .before .before .before .before .before .before .before .before .before .before .before .before .before .put-octets .ensures) (c .before .before .before .before .before .before .before .before .before .before .put-offset .ensures) (c .before .before .before .before .before .before .put-offset2 .ensures) (c .before .before .put-sizes .ensures)
 

@@ -2,45 +2,31 @@ use Rattle.emit.proofs.Laws.{start-filled}
 use borrow.Author.Needs.{needs}
 use Rattle.emit.proofs.put_start_fields.Statement.{statement}
 use Rattle.emit.proofs.put_start_fields.Tie as tie
-use Rattle.emit.proofs.put_start_fields.Reads as reads
-use Rattle.emit.proofs.put_start_fields.Lts as lts
-use Rattle.octets.proofs.put16.Reads as put16-reads
-use Rattle.octets.proofs.put32.Reads as put32-reads
-use Rattle.octets.proofs.put_octets.Reads as put-octets-reads
 
--- src/lib.rt:34:33
 slice-aggregate-put-octets : tie.Need-slice-aggregate-put-octets
 slice-aggregate-put-octets c = search needs
 
--- src/lib.rt:34:5
 put-octets-requires : tie.Need-put-octets-requires
 put-octets-requires c κs = search needs
 
--- src/lib.rt:35:5
 put16-requires : tie.Need-put16-requires
 put16-requires c κs = search needs
 
--- src/lib.rt:36:28
 cast-put32 : tie.Need-cast-put32
 cast-put32 c = search needs
 
--- src/lib.rt:36:5
 put32-requires : tie.Need-put32-requires
 put32-requires c κs = search needs
 
--- src/lib.rt:37:33
 slice-aggregate-put-octets-2 : tie.Need-slice-aggregate-put-octets-2
 slice-aggregate-put-octets-2 c = search needs
 
--- src/lib.rt:37:5
 put-octets-requires-2 : tie.Need-put-octets-requires-2
 put-octets-requires-2 c κs = search needs
 
--- src/lib.rt:29:1
 same-length : tie.Need-same-length
 same-length c = search needs
 
--- src/lib.rt:29:1
 returns : tie.Need-returns
 returns c = start-filled _ _ (c .before .before .before .before .before .before .before .before .before .before .before .before .before .before .before .before .before .before .before .before .pre) (c .before .before .before .before .before .before .before .before .before .before .before .before .before .before .before .before .put-octets .ensures) (c .before .before .before .before .before .before .before .before .before .before .before .before .put16 .ensures) (c .before .before .before .before .before .before .before .put32 .ensures) (c .before .before .put-octets2 .ensures)
 

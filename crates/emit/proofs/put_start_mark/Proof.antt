@@ -2,44 +2,31 @@ use Rattle.emit.proofs.Laws.{start-marked}
 use borrow.Author.Needs.{needs}
 use Rattle.emit.proofs.put_start_mark.Statement.{statement}
 use Rattle.emit.proofs.put_start_mark.Tie as tie
-use Rattle.emit.proofs.put_start_mark.Reads as reads
-use Rattle.emit.proofs.put_start_mark.Lts as lts
-use Rattle.octets.proofs.put16.Reads as put16-reads
-use Rattle.octets.proofs.put_octets.Reads as put-octets-reads
 
--- src/lib.rt:23:32
 slice-aggregate-put-octets : tie.Need-slice-aggregate-put-octets
 slice-aggregate-put-octets c = search needs
 
--- src/lib.rt:23:5
 put-octets-requires : tie.Need-put-octets-requires
 put-octets-requires c κs = search needs
 
--- src/lib.rt:24:32
 slice-aggregate-put-octets-2 : tie.Need-slice-aggregate-put-octets-2
 slice-aggregate-put-octets-2 c = search needs
 
--- src/lib.rt:24:5
 put-octets-requires-2 : tie.Need-put-octets-requires-2
 put-octets-requires-2 c κs = search needs
 
--- src/lib.rt:25:5
 put16-requires : tie.Need-put16-requires
 put16-requires c κs = search needs
 
--- src/lib.rt:26:32
 slice-aggregate-put-octets-3 : tie.Need-slice-aggregate-put-octets-3
 slice-aggregate-put-octets-3 c = search needs
 
--- src/lib.rt:26:5
 put-octets-requires-3 : tie.Need-put-octets-requires-3
 put-octets-requires-3 c κs = search needs
 
--- src/lib.rt:19:1
 same-length : tie.Need-same-length
 same-length c = search needs
 
--- src/lib.rt:19:1
 returns : tie.Need-returns
 returns c = start-marked _ (c .before .before .before .before .before .before .before .before .before .before .before .before .before .before .before .before .put-octets .ensures) (c .before .before .before .before .before .before .before .before .before .before .before .put-octets2 .ensures) (c .before .before .before .before .before .before .before .put16 .ensures) (c .before .before .put-octets3 .ensures)
 

@@ -2,44 +2,31 @@ use Rattle.emit.proofs.Laws.{stripe-marked}
 use borrow.Author.Needs.{needs}
 use Rattle.emit.proofs.put_stripe_mark.Statement.{statement}
 use Rattle.emit.proofs.put_stripe_mark.Tie as tie
-use Rattle.emit.proofs.put_stripe_mark.Reads as reads
-use Rattle.emit.proofs.put_stripe_mark.Lts as lts
-use Rattle.octets.proofs.put16.Reads as put16-reads
-use Rattle.octets.proofs.put_octets.Reads as put-octets-reads
 
--- src/lib.rt:75:33
 slice-aggregate-put-octets : tie.Need-slice-aggregate-put-octets
 slice-aggregate-put-octets c = search needs
 
--- src/lib.rt:75:5
 put-octets-requires : tie.Need-put-octets-requires
 put-octets-requires c κs = search needs
 
--- src/lib.rt:76:24
 add-put16 : tie.Need-add-put16
 add-put16 c = search needs
 
--- src/lib.rt:76:5
 put16-requires : tie.Need-put16-requires
 put16-requires c κs = search needs
 
--- src/lib.rt:77:29
 add-put-octets : tie.Need-add-put-octets
 add-put-octets c = search needs
 
--- src/lib.rt:77:37
 slice-aggregate-put-octets-2 : tie.Need-slice-aggregate-put-octets-2
 slice-aggregate-put-octets-2 c = search needs
 
--- src/lib.rt:77:5
 put-octets-requires-2 : tie.Need-put-octets-requires-2
 put-octets-requires-2 c κs = search needs
 
--- src/lib.rt:71:1
 same-length : tie.Need-same-length
 same-length c = search needs
 
--- src/lib.rt:71:1
 returns : tie.Need-returns
 returns c = stripe-marked _ _ (c .before .before .before .before .before .before .before .before .before .before .before .before .before .before .before .pre) (c .before .before .before .before .before .before .before .before .before .before .before .put-octets .ensures) (c .before .before .before .before .before .before .before .put16 .ensures) (c .before .before .put-octets2 .ensures)
 
