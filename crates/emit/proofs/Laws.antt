@@ -87,6 +87,19 @@ head-length f = refl
 data-length : (d : List ℕ) (r : Record) → r .start + r .len ≤ length d → length (dataOf d r) ≡ r .len
 data-length d r h = let n = length-drop (r .start) d in length-take-le (r .len) (drop (r .start) d) (omega arith)
 
+pub stripe-length : (d : List ℕ) (a b c : Record) → a .start + a .len ≤ length d → b .start + b .len ≤ length d → c .start + c .len ≤ length d
+    → length (stripeBy d a b c) ≡ 39 + b .len + a .len + c .len
+unfolding stripeBy
+stripe-length d a b c x y z =
+    let h = head-length (fieldsBy a b c) in
+    let n1 = data-length d b y in
+    let n2 = data-length d a x in
+    let n3 = data-length d c z in
+    let m1 = length-append (headOf (fieldsBy a b c)) (dataOf d b ++ (dataOf d a ++ dataOf d c)) in
+    let m2 = length-append (dataOf d b) (dataOf d a ++ dataOf d c) in
+    let m3 = length-append (dataOf d a) (dataOf d c) in
+    omega arith
+
 module _ (out : List ℕ) (at : ℕ) (d : List ℕ) (a b c : Record) (p : Placed out at d a b c) where
   lb : length (dataOf d b) ≡ b .len
   lb = data-length d b (p .mask)
@@ -136,15 +149,6 @@ module _ (out : List ℕ) (at : ℕ) (d : List ℕ) (a b c : Record) (p : Placed
             ∙ ap (putAt out at) (append-assoc (headOf (fieldsBy a b c) ++ dataOf d b) (dataOf d a) (dataOf d c) ∙ append-assoc (headOf (fieldsBy a b c)) (dataOf d b) (dataOf d a ++ dataOf d c))
 
   pub stripe-next : at + 39 + b .len + a .len + c .len ≡ at + length (stripeBy d a b c)
-  unfolding stripeBy
-  stripe-next =
-      let h = head-length (fieldsBy a b c) in
-      let n1 = lb in
-      let n2 = la in
-      let n3 = lc in
-      let m1 = length-append (headOf (fieldsBy a b c)) (dataOf d b ++ (dataOf d a ++ dataOf d c)) in
-      let m2 = length-append (dataOf d b) (dataOf d a ++ dataOf d c) in
-      let m3 = length-append (dataOf d a) (dataOf d c) in
-      omega arith
+  stripe-next = let l = stripe-length d a b c (p .back) (p .mask) (p .fore) in omega arith
 
 pub ruleset placing = (needs, head-room, mask-copied, back-copied, fore-copied)
