@@ -4,7 +4,10 @@ use Prim.Native.Nat.{ℕ}
 use mathlib.Core.Path.{_≡_, sym, _∙_}
 use mathlib.Core.List.{List}
 use Rattle.report.specs.declared.Report.{Report}
-use Rattle.spirerook.specs.Calls.{ReadCall}
+use Rattle.spirerook.specs.Calls.{ReadCall, WriteCall}
 
 pub read-firm : (page sheet : List ℕ) (r q : Report) (e f : List ℕ) → ReadCall page sheet r e → ReadCall page sheet q f → (r ≡ q) × (e ≡ f)
 read-firm page sheet r q e f x y = (x .reports ∙ sym (y .reports), x .holds ∙ sym (y .holds))
+
+pub write-firm : (sheet d page : List ℕ) (r q : Report) (e f : List ℕ) → WriteCall sheet d page r e → WriteCall sheet d page q f → (r ≡ q) × (e ≡ f)
+write-firm sheet d page r q e f x y = (x .reports ∙ sym (y .reports), x .holds ∙ sym (y .holds))

@@ -8,9 +8,13 @@ use Rattle.answers.specs.declared.Answer.{Answer}
 use Rattle.report.specs.declared.Report.{Report}
 use Rattle.report.specs.Report.{reportOf}
 use Rattle.page_rules.specs.Reading.{Reads}
-use Rattle.spirerook.specs.Calls.{ReadCall}
+use Rattle.write_rules.specs.Writing.{Writes}
+use Rattle.spirerook.specs.Calls.{ReadCall, WriteCall}
 
 pub read-called : (page sheet : List ℕ) {a : Answer} {r : Report} {e : List ℕ} → Reads page sheet a e → r ≡ reportOf a → ReadCall page sheet r e
 read-called page sheet x h = record { reports = h ∙ ap reportOf (x .answers); holds = x .holds }
 
-pub ruleset calls = (needs, read-called)
+pub write-called : (sheet d page : List ℕ) {a : Answer} {r : Report} {e : List ℕ} → Writes sheet d page a e → r ≡ reportOf a → WriteCall sheet d page r e
+write-called sheet d page x h = record { reports = h ∙ ap reportOf (x .answers); holds = x .holds }
+
+pub ruleset calls = (needs, read-called, write-called)

@@ -1,5 +1,5 @@
 // The calls that a viewer in C links (include/spirerook.h). Each is thin: it calls the library's function and reports its answer.
-ghost use Rattle.spirerook.specs.Calls.{ReadCall};
+ghost use Rattle.spirerook.specs.Calls.{ReadCall, WriteCall};
 use report::Report;
 
 #[no_mangle]
@@ -7,5 +7,13 @@ pub extern "C" fn spirerook_read(page: &[u8], sheet: &mut [u8]) -> Report
     ensures { λ r. ⌜ ReadCall (now (page .entry)) (now (sheet .entry)) r (now (sheet .exit)) ⌝ }
 {
     let a = page::read_page(page, sheet);
+    report::reported(a)
+}
+
+#[no_mangle]
+pub extern "C" fn spirerook_write(sheet: &[u8], data: &[u8], page: &mut [u8]) -> Report
+    ensures { λ r. ⌜ WriteCall (now (sheet .entry)) (now («data» .entry)) (now (page .entry)) r (now (page .exit)) ⌝ }
+{
+    let a = write::write_page(sheet, data, page);
     report::reported(a)
 }
