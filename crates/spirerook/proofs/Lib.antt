@@ -1,3 +1,4 @@
 pub mod Laws
 pub mod Firm
 pub mod Reading
+pub mod Writing

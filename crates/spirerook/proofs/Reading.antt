@@ -14,11 +14,11 @@ use Rattle.page_rules.specs.Reading.{readOf, readInto}
 use Rattle.page_rules.proofs.Into.{into-kept, into-rest, Front, into-front}
 use Rattle.spirerook.specs.Calls.{ReadCall}
 
-done-is : (a : Answer) → numberOf a ≡ 0 → a ≡ Done (countOf a)
+pub done-is : (a : Answer) → numberOf a ≡ 0 → a ≡ Done (countOf a)
 unfolding table
 done-is a e = sym (answer-back a) ∙ ap (λ (k : ℕ). getD (table (countOf a) (placeOf a)) k TooLong) e
 
-done-number : (a : Answer) (n : ℕ) → a ≡ Done n → numberOf a ≡ 0
+pub done-number : (a : Answer) (n : ℕ) → a ≡ Done n → numberOf a ≡ 0
 unfolding numberOf
 done-number a n e = ap numberOf e
 

@@ -1,0 +1,46 @@
+-- What a viewer may rely on after writing, of the exported call's promise alone.
+-- Assumes nothing.
+use Prim.Native.Nat.{ℕ}
+use mathlib.Core.Path.{_≡_, sym, ap, subst, _∙_}
+use mathlib.Core.List.{List}
+use lib.ListN.{length, take, drop}
+use Rattle.octets.specs.Octets.{Octets}
+use Rattle.answers.specs.declared.Answer.{Answer}
+use Rattle.answers.specs.declared.Answer.the-variants.{Done}
+use Rattle.answers.specs.Answers.{numberOf, countOf}
+use Rattle.report.specs.declared.Report.{Report}
+use Rattle.report.specs.Report.{reportOf}
+use Rattle.sheet_rules.specs.Record.{records}
+use Rattle.write_rules.specs.Writing.{writeOf, writeInto}
+use Rattle.write_rules.specs.Form.{Lands}
+use Rattle.write_rules.proofs.Theorems.{refused-kept, write-kept, write-page}
+use Rattle.spirerook.specs.Calls.{WriteCall}
+use Rattle.spirerook.proofs.Reading.{done-is, done-number}
+
+module _ (sheet d page : List ℕ) (r : Report) (page′ : List ℕ) (c : WriteCall sheet d page r page′) where
+  abbrev answer : Answer
+  answer = writeOf sheet d (length page)
+
+  number-is : r .number ≡ numberOf answer
+  unfolding reportOf
+  number-is = ap (λ (x : Report). x .number) (c .reports)
+
+  count-is : r .count ≡ countOf answer
+  unfolding reportOf
+  count-is = ap (λ (x : Report). x .count) (c .reports)
+
+  -- a refusal changes no octet that was lent
+  pub written-kept : (r .number ≡ 0 → ⊥) → page′ ≡ page
+  written-kept n = c .holds ∙ refused-kept sheet d page (λ k e. n (number-is ∙ done-number answer k e))
+
+  module _ (os : Octets sheet) (od : Octets d) (z : r .number ≡ 0) where
+    answered : writeOf sheet d (length page) ≡ Done (r .count)
+    answered = done-is answer (sym number-is ∙ z) ∙ ap Done (sym count-is)
+
+    -- the octets past the page stay
+    pub written-rest : drop (r .count) page′ ≡ drop (r .count) page
+    written-rest = ap (drop (r .count)) (c .holds) ∙ write-kept sheet d page os od (r .count) answered .0
+
+    -- what stands in front is a page with the sheet that was lent, but for octets 18 to 21 of coded records, and with its layers
+    pub written-front : Lands (records sheet) d (take (r .count) page′)
+    written-front = subst (λ (l : List ℕ). Lands (records sheet) d (take (r .count) l)) (sym (c .holds)) (write-page sheet d page os od (r .count) answered)
