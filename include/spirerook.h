@@ -54,6 +54,8 @@ spirerook_answer spirerook_read(const uint8_t *page, size_t page_len, uint8_t *s
  * optional segment and no padding: 26 octets, 39 a stripe and the coded data, at most 16,777,215.  It is refused, in this order: a sheet that breaks
  * a rule; a layer above 3, at the first; then record by record coded data that passes the data's end (Short), or that is not just the JPEG layer that
  * its record tells, or a mask whose coder is not that of an earlier mask (Mismatch); then the length, then the room.
+ * Time: a walk over the data of each coded image record, 128 of them at most, and one copy of the page.  Records that share long data are walked
+ * each, even where the page turns out too long.
  * Octets of the buffer past the page stay as they were.  A refusal changes no octet of it. */
 spirerook_answer spirerook_write(const uint8_t *sheet, size_t sheet_len, const uint8_t *data, size_t data_len, uint8_t *page, size_t page_len);
 
