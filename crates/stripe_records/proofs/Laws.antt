@@ -54,28 +54,10 @@ module _ (s : List ℕ) (hd : Head) (k layer base offset : ℕ) (c : Coded) {b0 
   unfolding imageRecord
   image-there z d f g h = rw (z, f, d, h, g, e0, e1, e2) refl
 
-  pub image-absent : c ≡ Absent
-      → _≡_ {A = Record}
-      (record {
-        stripe = k;
-        layer = layer;
-        coder = 0;
-        x = 0;
-        y = 0;
-        width = 0;
-        height = 0;
-        res = hd .main;
-        base0 = b0;
-        base1 = b1;
-        base2 = b2;
-        octet17 = 0;
-        start = 0;
-        len = 0;
-        octets26 = 0;
-      })
-      (imageRecord hd k layer (colourAt s base) (be32At s offset % 65536) (be32At s (offset + 4) % 65536) c)
+  pub image-absent : {r : Record} → c ≡ Absent → r ≡ imageRecord hd k layer (record { c0 = b0; c1 = b1; c2 = b2 }) 0 0 Absent
+      → r ≡ imageRecord hd k layer (colourAt s base) (be32At s offset % 65536) (be32At s (offset + 4) % 65536) c
   unfolding imageRecord
-  image-absent z = rw (z, e0, e1, e2) refl
+  image-absent z h = h ∙ rw (z, e0, e1, e2) refl
 
 pub ruleset image-laws = (needs, image-there, image-absent)
 

@@ -8,6 +8,7 @@ ghost use Prim.Native.Nat.{_+_, _*_, _%_, _≤_};
 ghost use lib.ListN.{length, getD};
 ghost use Rattle.octets.specs.Octets.{be32At, putAt};
 ghost use Rattle.sheet_rules.specs.Record.{sheetOf};
+ghost use Rattle.page_rules.specs.declared.Coded.the-variants.{Absent};
 ghost use Rattle.page_rules.specs.Kinds.{hasMask, imageRecord, maskRecord};
 ghost use Rattle.page_rules.specs.Grammar.{recordsOf};
 ghost use Rattle.stripe_records.specs.Places.{Near, Room, colourAt, fieldsAt};
@@ -22,6 +23,28 @@ fn low16(v: u32) -> u16
 }
 
 // 01: a layer that is not coded has nothing but its base colour and the main resolution.
+fn absent_record(hd: Head, k: u16, layer: u8, base0: u8, base1: u8, base2: u8) -> Record
+    ensures { λ r. ⌜ r ≡ imageRecord hd k layer (record { c0 = base0; c1 = base1; c2 = base2 }) 0 0 Absent ⌝ }
+{
+    Record {
+        stripe: k,
+        layer,
+        coder: 0,
+        x: 0,
+        y: 0,
+        width: 0,
+        height: 0,
+        res: hd.main,
+        base0,
+        base1,
+        base2,
+        octet17: 0,
+        start: 0,
+        len: 0,
+        octets26: 0,
+    }
+}
+
 fn image_record(s: &[u8], hd: Head, k: u16, layer: u8, base: u32, offset: u32, c: Coded) -> Record
     requires { ⌜ Near base offset ⌝ }
     ensures { λ r. ⌜ r ≡ imageRecord hd k layer (colourAt (now (s .entry)) base) (be32At (now (s .entry)) offset % 65536) (be32At (now (s .entry)) (offset + 4) % 65536) c ⌝ }
@@ -29,7 +52,6 @@ fn image_record(s: &[u8], hd: Head, k: u16, layer: u8, base: u32, offset: u32, c
     let base0 = segment::octet(s, base);
     let base1 = segment::octet(s, base + 1);
     let base2 = segment::octet(s, base + 2);
-    let main = hd.main;
     match c {
         Coded::There {
             start,
@@ -54,23 +76,7 @@ fn image_record(s: &[u8], hd: Head, k: u16, layer: u8, base: u32, offset: u32, c
             len: size,
             octets26: 0,
         },
-        Coded::Absent => Record {
-            stripe: k,
-            layer,
-            coder: 0,
-            x: 0,
-            y: 0,
-            width: 0,
-            height: 0,
-            res: main,
-            base0,
-            base1,
-            base2,
-            octet17: 0,
-            start: 0,
-            len: 0,
-            octets26: 0,
-        },
+        Coded::Absent => absent_record(hd, k, layer, base0, base1, base2),
     }
 }
 

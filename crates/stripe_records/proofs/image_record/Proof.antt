@@ -39,6 +39,9 @@ low16-requires-2 c κs = search needs
 enum-told : tie.Need-enum-told
 enum-told c = search needs
 
+absent-record-requires : tie.Need-absent-record-requires
+absent-record-requires c κs = search needs
+
 returns : tie.Need-returns
 returns c = search image-laws
 
@@ -61,5 +64,6 @@ image-record-spec =
     four-requires-2
     low16-requires-2
     enum-told
+    absent-record-requires
     returns
     returns-2)
