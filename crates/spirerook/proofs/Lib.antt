@@ -1,4 +1,5 @@
 pub mod Laws
 pub mod Firm
+pub mod Reports
 pub mod Reading
 pub mod Writing

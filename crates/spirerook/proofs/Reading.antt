@@ -1,46 +1,25 @@
 -- What a viewer may rely on after reading, of the exported call's promise alone.
 -- Assumes nothing.
 use Prim.Native.Nat.{ℕ, _*_}
-use mathlib.Core.Path.{_≡_, refl, sym, ap, subst, subst₂, _∙_}
+use mathlib.Core.Path.{_≡_, sym, ap, subst, _∙_}
 use mathlib.Core.List.{List}
-use lib.ListN.{length, getD, take, drop}
+use lib.ListN.{length, take, drop}
 use Rattle.octets.specs.Octets.{Octets}
-use Rattle.answers.specs.declared.Answer.{Answer}
-use Rattle.answers.specs.declared.Answer.the-variants.{Done, TooLong}
-use Rattle.answers.specs.Answers.{numberOf, placeOf, countOf, table, answer-back}
+use Rattle.answers.specs.declared.Answer.the-variants.{Done}
 use Rattle.report.specs.declared.Report.{Report}
-use Rattle.report.specs.Report.{reportOf}
 use Rattle.page_rules.specs.Reading.{readOf, readInto}
 use Rattle.page_rules.proofs.Into.{into-kept, into-rest, Front, into-front}
 use Rattle.spirerook.specs.Calls.{ReadCall}
-
-pub done-is : (a : Answer) → numberOf a ≡ 0 → a ≡ Done (countOf a)
-unfolding table
-done-is a e = sym (answer-back a) ∙ ap (λ (k : ℕ). getD (table (countOf a) (placeOf a)) k TooLong) e
-
-pub done-number : (a : Answer) (n : ℕ) → a ≡ Done n → numberOf a ≡ 0
-unfolding numberOf
-done-number a n e = ap numberOf e
+use Rattle.spirerook.proofs.Reports.{report-done, report-refused}
 
 module _ (page sheet : List ℕ) (r : Report) (sheet′ : List ℕ) (c : ReadCall page sheet r sheet′) where
-  abbrev answer : Answer
-  answer = readOf page (length sheet)
-
-  number-is : r .number ≡ numberOf answer
-  unfolding reportOf
-  number-is = ap (λ (x : Report). x .number) (c .reports)
-
-  count-is : r .count ≡ countOf answer
-  unfolding reportOf
-  count-is = ap (λ (x : Report). x .count) (c .reports)
-
   -- a refusal changes no octet that was lent
   pub read-kept : (r .number ≡ 0 → ⊥) → sheet′ ≡ sheet
-  read-kept n = c .holds ∙ into-kept page sheet (λ k e. n (number-is ∙ done-number answer k e))
+  read-kept n = c .holds ∙ into-kept page sheet (report-refused (readOf page (length sheet)) r (c .reports) n)
 
   module _ (z : r .number ≡ 0) where
     answered : readOf page (length sheet) ≡ Done (r .count)
-    answered = done-is answer (sym number-is ∙ z) ∙ ap Done (sym count-is)
+    answered = report-done (readOf page (length sheet)) r (c .reports) z
 
     -- the octets past the sheet stay
     pub read-rest : drop (r .count * 28) sheet′ ≡ drop (r .count * 28) sheet

@@ -5,37 +5,23 @@ use mathlib.Core.Path.{_≡_, sym, ap, subst, _∙_}
 use mathlib.Core.List.{List}
 use lib.ListN.{length, take, drop}
 use Rattle.octets.specs.Octets.{Octets}
-use Rattle.answers.specs.declared.Answer.{Answer}
 use Rattle.answers.specs.declared.Answer.the-variants.{Done}
-use Rattle.answers.specs.Answers.{numberOf, countOf}
 use Rattle.report.specs.declared.Report.{Report}
-use Rattle.report.specs.Report.{reportOf}
 use Rattle.sheet_rules.specs.Record.{records}
 use Rattle.write_rules.specs.Writing.{writeOf, writeInto}
 use Rattle.write_rules.specs.Form.{Lands}
 use Rattle.write_rules.proofs.Theorems.{refused-kept, write-kept, write-page}
 use Rattle.spirerook.specs.Calls.{WriteCall}
-use Rattle.spirerook.proofs.Reading.{done-is, done-number}
+use Rattle.spirerook.proofs.Reports.{report-done, report-refused}
 
 module _ (sheet d page : List ℕ) (r : Report) (page′ : List ℕ) (c : WriteCall sheet d page r page′) where
-  abbrev answer : Answer
-  answer = writeOf sheet d (length page)
-
-  number-is : r .number ≡ numberOf answer
-  unfolding reportOf
-  number-is = ap (λ (x : Report). x .number) (c .reports)
-
-  count-is : r .count ≡ countOf answer
-  unfolding reportOf
-  count-is = ap (λ (x : Report). x .count) (c .reports)
-
   -- a refusal changes no octet that was lent
   pub written-kept : (r .number ≡ 0 → ⊥) → page′ ≡ page
-  written-kept n = c .holds ∙ refused-kept sheet d page (λ k e. n (number-is ∙ done-number answer k e))
+  written-kept n = c .holds ∙ refused-kept sheet d page (report-refused (writeOf sheet d (length page)) r (c .reports) n)
 
   module _ (os : Octets sheet) (od : Octets d) (z : r .number ≡ 0) where
     answered : writeOf sheet d (length page) ≡ Done (r .count)
-    answered = done-is answer (sym number-is ∙ z) ∙ ap Done (sym count-is)
+    answered = report-done (writeOf sheet d (length page)) r (c .reports) z
 
     -- the octets past the page stay
     pub written-rest : drop (r .count) page′ ≡ drop (r .count) page
