@@ -6,11 +6,11 @@ use native.Mathlib.Nat.{add-assoc, add-zero}
 use native.Mathlib.Omega.{arith}
 use mathlib.Core.List.{List, [], _∷_, _++_, append-assoc}
 use lib.Dec.{lit<}
-use lib.ListN.{length, getD, take, length-append}
+use lib.ListN.{length, getD, take, length-append, List·getD-eq-default}
 use lib.Seq.{getD-take, getD-append-add}
 use Rattle.octets.specs.Octets.{be16At, be32At}
 use Rattle.sheet_rules.specs.declared.Record.{Record}
-use Rattle.sheet_rules.specs.Record.{recordSize, recordFrom, recordAt, encode, sheetOf, recordsFrom, records, rest, nth}
+use Rattle.sheet_rules.specs.Record.{recordSize, recordFrom, recordAt, encode, sheetOf, recordsFrom, records, rest, blank, nth}
 
 -- ---- one record
 
@@ -121,3 +121,13 @@ sheet-back rs =
 
 pub sheet-whole : (rs : List Record) → rest (sheetOf rs) ≡ 0
 sheet-whole rs = let n = sheet-length rs in omega arith
+
+-- ---- the second record, layer 2 of the first stripe
+
+pub second-blank : (s : List ℕ) → length s < 2 * recordSize → blank ≡ nth (records s) 1
+unfolding records
+second-blank s l = let n = length-records s (length s / recordSize) 0 in sym (List·getD-eq-default (recordsFrom s (length s / recordSize) 0) blank {n = 1} (omega arith))
+
+pub second-read : (s : List ℕ) {r : Record} → 2 * recordSize ≤ length s → r ≡ recordAt s 1 → r ≡ nth (records s) 1
+unfolding records
+second-read s l e = e ∙ sym (nth-records s (length s / recordSize) 0 1 (omega arith))

@@ -63,26 +63,7 @@ pub ruleset image-laws = (needs, image-there, image-absent)
 
 -- ---- mask_record and mask_at
 pub mask-made : (hd : Head) (k t height start len : ℕ) {c p h : ℕ} → c ≡ cond (hasMask t) (hd .mask) 0 → p ≡ cond (hasMask t) start 0 → h ≡ height % 65536
-    → _≡_ {A = Record}
-    (record {
-      stripe = k;
-      layer = 2;
-      coder = c;
-      x = 0;
-      y = 0;
-      width = hd .width;
-      height = h;
-      res = hd .main;
-      base0 = 0;
-      base1 = 0;
-      base2 = 0;
-      octet17 = 0;
-      start = p;
-      len = len;
-      octets26 = 0;
-    })
-    (maskRecord hd k (height % 65536) (cond (hasMask t) (hd .mask) 0) (cond (hasMask t) start 0) len)
-unfolding maskRecord
+    → maskRecord hd k h c p len ≡ maskRecord hd k (height % 65536) (cond (hasMask t) (hd .mask) 0) (cond (hasMask t) start 0) len
 mask-made hd k t height start len e f g = rw (e, f, g) refl
 
 pub mask-here : (s : List ℕ) (hd : Head) (k at : ℕ) {t height len : ℕ} {r : Record} → t ≡ getD s at 0 → height ≡ be32At s (at + 23) → len ≡ be32At s (at + 27)
@@ -90,7 +71,7 @@ pub mask-here : (s : List ℕ) (hd : Head) (k at : ℕ) {t height len : ℕ} {r 
     → r ≡ maskRecord hd k (be32At s (at + 23) % 65536) (cond (hasMask (getD s at 0)) (hd .mask) 0) (cond (hasMask (getD s at 0)) (at + 31) 0) (be32At s (at + 27))
 mask-here s hd k at e f g h = h ∙ rw (e, f, g) refl
 
-pub ruleset mask-laws = (needs, mask-made, mask-here)
+pub ruleset mask-laws = (needs, mask-here)
 
 -- ---- put_stripe
 put-three : (d : List ℕ) (i : ℕ) (r1 r2 r3 : Record) → i ≤ length d

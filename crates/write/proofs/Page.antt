@@ -5,7 +5,7 @@ use native.Mathlib.Omega.{arith}
 use mathlib.Core.Path.{_≡_, refl, sym, ap, subst, _∙_}
 use mathlib.Core.Bool.{true, false, cond}
 use mathlib.Core.List.{List, [], _∷_, _++_, append-assoc}
-use lib.ListN.{length, length-append, getD, List·getD-eq-default}
+use lib.ListN.{length, length-append}
 use lib.Dec.{ltb}
 use borrow.Author.Needs.{needs}
 use borrow.Author.Tests.{lt-ltb, le-ltb}
@@ -16,8 +16,8 @@ use Rattle.answers.specs.declared.Answer.{Answer}
 use Rattle.answers.specs.declared.Answer.the-variants.{Done, NoRoom, TooLong}
 use Rattle.field_rules.specs.Field.{Res, ok, no}
 use Rattle.sheet_rules.specs.declared.Record.{Record}
-use Rattle.sheet_rules.specs.Record.{recordSize, recordAt, recordsFrom, records, blank, nth}
-use Rattle.sheet_rules.proofs.Cut.{length-records, nth-records}
+use Rattle.sheet_rules.specs.Record.{recordSize, recordAt, recordsFrom, records, nth}
+use Rattle.sheet_rules.proofs.Cut.{length-records, nth-records, second-blank, second-read}
 use Rattle.sheet_rules.proofs.Among.{nth-among}
 use Rattle.page_rules.specs.declared.Head.{Head}
 use Rattle.page_rules.specs.Grammar.{startOf}
@@ -34,19 +34,16 @@ use Rattle.emit.proofs.Laws.{put-more}
 use Rattle.write.specs.Steps.{Lined, Sound, Fitting}
 
 -- ---- head_of
+abbrev headWith : Tally → Record → Head
+headWith t r = record { mask = t .mask; image = t .image; main = r .res; width = r .width }
+
 pub head-none : (s : List ℕ) (t : Tally) → length s < 56
     → _≡_ {A = Head} (record { mask = t .mask; image = t .image; main = 0; width = 0 }) (headBy (records s) t)
-unfolding records
-head-none s t l =
-    let n = length-records s (length s / recordSize) 0 in
-    sym (ap (λ (x : Record). record { mask = t .mask; image = t .image; main = x .res; width = x .width })
-    (List·getD-eq-default (recordsFrom s (length s / recordSize) 0) blank {n = 1} (omega arith)))
+head-none s t l = ap (headWith t) (second-blank s l)
 
 pub head-read : (s : List ℕ) (t : Tally) {r : Record} → 56 ≤ length s → r ≡ recordAt s 1
     → _≡_ {A = Head} (record { mask = t .mask; image = t .image; main = r .res; width = r .width }) (headBy (records s) t)
-unfolding records
-head-read s t l e =
-    ap (λ (x : Record). record { mask = t .mask; image = t .image; main = x .res; width = x .width }) (e ∙ sym (nth-records s (length s / recordSize) 0 1 (omega arith)))
+head-read s t l e = ap (headWith t) (second-read s l e)
 
 pub ruleset heading = (needs, head-none, head-read)
 

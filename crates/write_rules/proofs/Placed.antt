@@ -49,35 +49,24 @@ contents-empty r k n e = ⊎-elim (λ (z : r .layer ≡ 2). absurd (n z)) (λ (z
 
 -- ---- the type names the layers that are coded
 
+type-bits : (a b c : Bool) → (hasBack (typeBy a b c) ≡ a) × (hasMask (typeBy a b c) ≡ b) × (hasFore (typeBy a b c) ≡ c)
+type-bits true true true = (refl, refl, refl)
+type-bits true true false = (refl, refl, refl)
+type-bits true false true = (refl, refl, refl)
+type-bits true false false = (refl, refl, refl)
+type-bits false true true = (refl, refl, refl)
+type-bits false true false = (refl, refl, refl)
+type-bits false false true = (refl, refl, refl)
+type-bits false false false = (refl, refl, refl)
+
 pub back-bit : (a b c : Bool) → hasBack (typeBy a b c) ≡ a
-back-bit true true true = refl
-back-bit true true false = refl
-back-bit true false true = refl
-back-bit true false false = refl
-back-bit false true true = refl
-back-bit false true false = refl
-back-bit false false true = refl
-back-bit false false false = refl
+back-bit a b c = type-bits a b c .0
 
 pub mask-bit : (a b c : Bool) → hasMask (typeBy a b c) ≡ b
-mask-bit true true true = refl
-mask-bit true true false = refl
-mask-bit true false true = refl
-mask-bit true false false = refl
-mask-bit false true true = refl
-mask-bit false true false = refl
-mask-bit false false true = refl
-mask-bit false false false = refl
+mask-bit a b c = type-bits a b c .1
 
 pub fore-bit : (a b c : Bool) → hasFore (typeBy a b c) ≡ c
-fore-bit true true true = refl
-fore-bit true true false = refl
-fore-bit true false true = refl
-fore-bit true false false = refl
-fore-bit false true true = refl
-fore-bit false true false = refl
-fore-bit false false true = refl
-fore-bit false false false = refl
+fore-bit a b c = type-bits a b c .2
 
 pub type-by : (a b c : Bool) → ChoiceFacts a b c → TypeOf (typeBy a b c)
 type-by true true true k = inr (inr (inr (inr (inr refl))))

@@ -5,7 +5,7 @@ use native.Mathlib.Omega.{arith}
 use mathlib.Core.Path.{_≡_, refl, sym, ap, subst, _∙_}
 use mathlib.Core.Bool.{Bool, true, false, cond}
 use mathlib.Core.List.{List, [], _∷_}
-use lib.ListN.{length, List·getD-eq-default}
+use lib.ListN.{length}
 use lib.Dec.{eqb, ltb, lit≤}
 use borrow.Author.Needs.{needs}
 use borrow.Author.Tests.{lt-ltb, le-ltb}
@@ -21,9 +21,9 @@ use Rattle.field_rules.specs.Field.{Res, ok, no, bind}
 use Rattle.sheet_rules.specs.declared.Record.{Record}
 use Rattle.sheet_rules.specs.declared.Verdict.{Verdict}
 use Rattle.sheet_rules.specs.declared.Verdict.the-variants.{Good, Bad}
-use Rattle.sheet_rules.specs.Record.{recordSize, recordAt, recordsFrom, records, blank, nth, only}
+use Rattle.sheet_rules.specs.Record.{recordSize, recordAt, recordsFrom, records, only}
 use Rattle.sheet_rules.specs.Judge.{judgeOf, answerOf}
-use Rattle.sheet_rules.proofs.Cut.{length-records, nth-records}
+use Rattle.sheet_rules.proofs.Cut.{second-blank, second-read}
 use Rattle.sheet_rules.proofs.Theorems.{sheet-few, refused-few}
 use Rattle.write_rules.specs.declared.Tally.{Tally}
 use Rattle.write_rules.specs.Writing.{counted, matches, recordStep, modeFrom, begun, mainOf, recordsPass, verdictBy, verdictOf}
@@ -137,15 +137,10 @@ pub ruleset mode-laws = (needs, mode-begun, mode-fits, mode-low, mode-on, mode-a
 
 -- ---- main_of
 pub main-none : (s : List ℕ) → length s < 56 → 0 ≡ mainOf (records s)
-unfolding records
-main-none s l =
-    let n = length-records s (length s / recordSize) 0 in
-    sym (ap (λ (x : Record). x .res) (List·getD-eq-default (recordsFrom s (length s / recordSize) 0) blank {n = 1} (omega arith)))
+main-none s l = ap (λ (x : Record). x .res) (second-blank s l)
 
 pub main-read : (s : List ℕ) {r : Record} → 56 ≤ length s → r ≡ recordAt s 1 → r .res ≡ mainOf (records s)
-unfolding records
-main-read s l e =
-    ap (λ (x : Record). x .res) (e ∙ sym (nth-records s (length s / recordSize) 0 1 (omega arith)))
+main-read s l e = ap (λ (x : Record). x .res) (second-read s l e)
 
 -- ---- judge_records and judge_write
 module _ (s : List ℕ) (n : ℕ) (g : Taken s n) where

@@ -1,4 +1,5 @@
-use Rattle.stripe_records.proofs.Laws.{mask-laws}
+use Rattle.page_rules.specs.Kinds.{maskRecord}
+use Rattle.stripe_records.proofs.Laws.{mask-made}
 use borrow.Author.Needs.{needs}
 use Rattle.stripe_records.proofs.mask_record.Statement.{statement}
 use Rattle.stripe_records.proofs.mask_record.Tie as tie
@@ -13,7 +14,10 @@ low16-requires : tie.Need-low16-requires
 low16-requires c κs = search needs
 
 returns : tie.Need-returns
-returns c = search mask-laws
+unfolding maskRecord
+returns c =
+    mask-made (c .before .before .before .args .hd) (c .before .before .before .args .k) (c .before .before .before .args .t) (c .before .before .before .args .height) (c .before .before .before .args .start) (c .before .before .before .args .len)
+    (c .before .before .coder-if .ensures) (c .before .start-if .ensures) (c .low16 .ensures)
 
 pub mask-record-spec : {M : Type 1} → statement M
 mask-record-spec = tie.close (tie.spec coder-if-requires start-if-requires low16-requires returns)
