@@ -1,0 +1,141 @@
+-- A line of pixels: its octets, and the call (01, "Colour of a pixel"; the order under "Numbers that a call returns").
+--
+--   unseen             the colour of an unseen pixel
+--   fourOf u p         the four octets of a decided pixel, u being the unseen colour
+--   pixels f n         the octets of the first n pixels of a line
+--   linePixels v y     the octets of line y of a scene
+--   depth l            octets a sample: one in a mask, three in an image layer
+--   planeSpan r        octets of all samples of a layer
+--   planeOk            an entry, behind the layer listed last: the layer is above it, present, coded, and within the sample buffer
+--   planesJudged       BadPlane at the first entry at fault, or at a part entry behind whole ones
+--   Ruling             the scene to be composed, or the refusal
+--   rulingOf           BadSheet, BadLine, BadPlane
+--   lineOf             what the call answers, where the buffer holds so many octets: behind those NoRoom
+--   lineInto           what the buffer holds afterwards
+--   Lines              the call's promise: it answers a, and the buffer is then e
+use Prim.Native.Nat.{ℕ, zero, suc, _+_, _*_, _%_}
+use mathlib.Core.Path.{_≡_}
+use mathlib.Core.Bool.{Bool, true, false, _&&_, cond}
+use mathlib.Core.List.{List, [], _∷_, _++_}
+use lib.ListN.{length}
+use lib.Dec.{eqb, leb, ltb}
+use Rattle.octets.specs.Octets.{putAt}
+use Rattle.answers.specs.declared.Answer.{Answer}
+use Rattle.answers.specs.declared.Answer.the-variants.{Done, NoRoom, BadPlane, BadLine}
+use Rattle.sheet_rules.specs.declared.Record.{Record}
+use Rattle.sheet_rules.specs.declared.Stripe.{Stripe}
+use Rattle.sheet_rules.specs.declared.FoundStripe.{FoundStripe}
+use Rattle.sheet_rules.specs.declared.FoundStripe.the-variants.{Row, NoStripe}
+use Rattle.sheet_rules.specs.declared.Verdict.{Verdict}
+use Rattle.sheet_rules.specs.declared.Verdict.the-variants.{Good, Bad}
+use Rattle.sheet_rules.specs.Judge.{coded, judgeOf, answerOf}
+use Rattle.sheet_rules.specs.Stripe.{findStripe}
+use Rattle.picture_rules.specs.declared.MainPos.{MainPos}
+use Rattle.picture_rules.specs.declared.Plane.{Plane}
+use Rattle.picture_rules.specs.declared.Colour.{Colour}
+use Rattle.picture_rules.specs.declared.Sample.{Sample}
+use Rattle.picture_rules.specs.declared.Sample.the-variants.{Known, Unknown}
+use Rattle.picture_rules.specs.Planes.{PlaneList}
+use Rattle.picture_rules.specs.Samples.{Scene, recordOf, widthOf}
+use Rattle.picture_rules.specs.Decide.{pixelAt}
+
+-- ---- the octets of a line
+
+abbrev pub unseen : Colour
+unseen = record { c0 = 0; c1 = 0; c2 = 0 }
+
+-- the colour and 1 for seen, or the unseen colour and 0
+unfoldable pub fourOf : Colour → Sample → List ℕ
+fourOf u (Known c) = c .c0 ∷ c .c1 ∷ c .c2 ∷ 1 ∷ []
+fourOf u Unknown = u .c0 ∷ u .c1 ∷ u .c2 ∷ 0 ∷ []
+
+unfoldable pub pixels : (MainPos → Sample) → ℕ → List ℕ
+unfolding fourOf
+pixels f zero = []
+pixels f (suc x) = pixels f x ++ fourOf unseen (f (record { 0 = x }))
+
+unfoldable pub linePixels : Scene → ℕ → List ℕ
+unfolding pixels pixelAt
+linePixels v y = pixels (λ (x : MainPos). pixelAt v x (record { 0 = y })) (widthOf v)
+
+-- ---- the plane list, judged
+
+abbrev pub depth : ℕ → ℕ
+depth l = cond (eqb (l % 2) 0) 1 3
+
+unfoldable pub planeSpan : Record → ℕ
+planeSpan r = r .width * r .height * depth (r .layer)
+
+-- an absent layer is 0 or above N
+unfoldable pub planeOk : Scene → ℕ → Plane → Bool
+unfolding planeSpan
+planeOk v last p =
+    ltb last (p .layer) && leb (p .layer) (v .row .layers)
+    && coded (recordOf v (p .layer))
+    && leb (p .start + planeSpan (recordOf v (p .layer))) (length (v .samples))
+
+pub data Judged : Type 0 where
+  fine : Judged
+  fault : ℕ → Judged
+
+-- entry i on, behind an entry of layer `last`
+unfoldable pub planesJudged : Scene → Bool → ℕ → ℕ → List Plane → Judged
+unfolding planeOk
+planesJudged v part last i [] = cond part (fault i) fine
+planesJudged v part last i (p ∷ ps) = cond (planeOk v last p) (planesJudged v part (p .layer) (i + 1) ps) (fault i)
+
+-- ---- the call
+
+pub data Ruling : Type 0 where
+  shows : Scene → Ruling
+  refuses : Answer → Ruling
+
+abbrev pub planeRuling : Scene → Judged → Ruling
+planeRuling v fine = shows v
+planeRuling v (fault i) = refuses (BadPlane i)
+
+-- no layer is listed before the first entry
+unfoldable pub sceneRuling : Scene → Bool → Ruling
+unfolding planesJudged
+sceneRuling v part = planeRuling v (planesJudged v part 0 0 (v .planes))
+
+unfoldable pub stripeRuling : List ℕ → PlaneList → List ℕ → ℕ → FoundStripe → Ruling
+unfolding sceneRuling
+stripeRuling s pl d y NoStripe = refuses BadLine
+stripeRuling s pl d y (Row row) =
+    cond (ltb y (row .height))
+    (sceneRuling (record { sheet = s; row = row; planes = pl .entries; samples = d }) (pl .part))
+    (refuses BadLine)
+
+unfoldable pub sheetRuling : List ℕ → PlaneList → List ℕ → ℕ → ℕ → Verdict → Ruling
+unfolding stripeRuling
+sheetRuling s pl d k y (Bad i) = refuses (answerOf (Bad i))
+sheetRuling s pl d k y (Good n m) = stripeRuling s pl d y (findStripe s k)
+
+-- line y of stripe k
+unfoldable pub rulingOf : List ℕ → PlaneList → List ℕ → ℕ → ℕ → Ruling
+unfolding sheetRuling
+rulingOf s pl d k y = sheetRuling s pl d k y (judgeOf s)
+
+-- four octets a pixel
+unfoldable pub lineAnswer : ℕ → Ruling → Answer
+lineAnswer room (shows v) = cond (ltb room (widthOf v * 4)) NoRoom (Done (widthOf v * 4))
+lineAnswer room (refuses a) = a
+
+unfoldable pub lineOf : List ℕ → PlaneList → List ℕ → ℕ → ℕ → ℕ → Answer
+unfolding rulingOf lineAnswer
+lineOf s pl d k y room = lineAnswer room (rulingOf s pl d k y)
+
+-- the line in front, and the octets past it as they were; a refusal changes nothing
+unfoldable pub lineHolds : List ℕ → ℕ → Ruling → List ℕ
+unfolding linePixels
+lineHolds out y (shows v) = cond (ltb (length out) (widthOf v * 4)) out (putAt out 0 (linePixels v y))
+lineHolds out y (refuses a) = out
+
+unfoldable pub lineInto : List ℕ → PlaneList → List ℕ → ℕ → ℕ → List ℕ → List ℕ
+unfolding rulingOf lineHolds
+lineInto s pl d k y out = lineHolds out y (rulingOf s pl d k y)
+
+pub record Lines (s : List ℕ) (pl : PlaneList) (d : List ℕ) (k y : ℕ) (out : List ℕ) (a : Answer) (e : List ℕ) : Type 0 where
+  pub answers : a ≡ lineOf s pl d k y (length out)
+  pub holds : e ≡ lineInto s pl d k y out

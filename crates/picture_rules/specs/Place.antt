@@ -1,0 +1,32 @@
+-- Places, counted in main mask pixels or in a layer's samples, and a layer's area (01, "Colour of a pixel").
+--
+--   ratio main r     main pixels a sample: main resolution / layer resolution
+--   scale k o p      the one step from a main place to a sample's: the offset taken away, then divided by k and rounded down
+--   covers o n k p   n samples of k main pixels each, from the offset on, cover the place p
+--   inside main r    a place of the stripe lies in the layer's area
+use Prim.Native.Nat.{ℕ, _+_, _-_, _*_, _/_}
+use mathlib.Core.Bool.{Bool, _&&_}
+use lib.Dec.{leb, ltb}
+use Rattle.sheet_rules.specs.declared.Record.{Record}
+use Rattle.picture_rules.specs.declared.MainPos.{MainPos}
+use Rattle.picture_rules.specs.declared.SamplePos.{SamplePos}
+
+abbrev pub ratio : ℕ → Record → ℕ
+ratio main r = main / r .res
+
+unfoldable pub scale : ℕ → ℕ → MainPos → SamplePos
+scale k o p = record { 0 = (p .0 - o) / k }
+
+unfoldable pub covers : ℕ → ℕ → ℕ → MainPos → Bool
+covers o n k p = leb o (p .0) && ltb (p .0) (o + n * k)
+
+unfoldable pub inside : ℕ → Record → MainPos → MainPos → Bool
+unfolding covers
+inside main r x y = covers (r .x) (r .width) (ratio main r) x && covers (r .y) (r .height) (ratio main r) y
+
+-- the sample of a layer that a place of its area takes, along and down
+abbrev pub alongOf : ℕ → Record → MainPos → SamplePos
+alongOf main r x = scale (ratio main r) (r .x) x
+
+abbrev pub downOf : ℕ → Record → MainPos → SamplePos
+downOf main r y = scale (ratio main r) (r .y) y

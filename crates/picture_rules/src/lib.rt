@@ -1,0 +1,34 @@
+// The types of a picture: places, samples and the plane list. Its definitions stand in specs/, the theorems about them in proofs/.
+
+// A place along a line or down a stripe, in main mask pixels from the stripe's corner.
+pub struct MainPos(pub u32);
+
+// A place along or down a layer, in its own samples from the layer's corner. Only the scaling step makes one of a place in main mask pixels.
+pub struct SamplePos(pub u32);
+
+// Three CIELAB code octets, carried as they stand.
+pub struct Colour {
+    pub c0: u8,
+    pub c1: u8,
+    pub c2: u8,
+}
+
+// The sample of an image layer at a pixel.
+pub enum Sample {
+    Known(Colour),
+    Unknown,
+}
+
+// The sample of a mask at a pixel: known to be 0 or 1, or not known.
+pub enum Mask {
+    Zero,
+    One,
+    Hidden,
+}
+
+// An entry of the plane list: a layer that was read, and where its samples start in the sample buffer.
+#[repr(C)]
+pub struct Plane {
+    pub layer: u8,
+    pub start: u32,
+}
