@@ -3,15 +3,19 @@
 use Prim.Native.Nat.{ℕ, zero, suc, _+_, _-_, _*_, _/_, _≤_, _<_}
 use native.Mathlib.Omega.{arith}
 use mathlib.Core.Path.{_≡_, refl, sym, ap, _∙_}
+use mathlib.Core.Logic.{_≢_}
+use mathlib.Core.Bool.{Bool, cond}
 use mathlib.Core.List.{List, [], _∷_}
 use lib.ListN.{length, getD, set}
-use borrow.Author.Tests.{lt-ltb, le-ltb}
+use borrow.Author.Tests.{lt-ltb, le-ltb, eq-eqb, ne-eqb}
 use borrow.Author.Needs.{needs}
 use Rattle.octets.specs.Octets.{be32At}
 use Rattle.picture_rules.specs.declared.Plane.{Plane}
-use Rattle.picture_rules.specs.Planes.{planeSize, planeAt, planesFrom}
+use Rattle.picture_rules.specs.Planes.{planeSize, planeAt, planesFrom, startOf}
+use Rattle.picture_rules.specs.declared.Start.{Start}
+use Rattle.picture_rules.specs.declared.Start.the-variants.{From, Unread}
 use Rattle.plane.specs.declared.Listing.{Listing}
-use Rattle.plane.specs.Listing.{noPlanes, withPlane, gathered, listingOf}
+use Rattle.plane.specs.Listing.{noPlanes, withPlane, gathered, listingOf, entryOf, entriesFrom, entriesOf}
 
 -- ---- one entry
 
@@ -59,5 +63,43 @@ module _ (s : List ℕ) (n : ℕ) where
   pub gather-end : (t : Listing) (i : ℕ) → Gathering s n t i → n ≤ i → t ≡ listingOf s
   unfolding gathered planesFrom
   gather-end t i g h = sym (g .left ∙ (let e : n - i ≡ 0 = omega arith in rw e))
+
+-- ---- a layer looked for: where it starts is where it starts among the entries left
+
+pub record Seeking (t : Listing) (l n i : ℕ) : Type 0 where
+  pub within : i ≤ n
+  pub all : n ≡ t .count
+  pub left : startOf (entriesOf t) l ≡ startOf (entriesFrom t (n - i) i) l
+
+module _ (t : Listing) (l n : ℕ) where
+  pub seek-none : n ≡ t .count → Seeking t l n 0
+  unfolding entriesOf
+  seek-none e = record { within = omega arith; all = e; left = let z : t .count - 0 ≡ t .count = omega arith in rw (e, z) refl }
+
+  next-entry : (i : ℕ) → i < n → entriesFrom t (n - i) i ≡ entryOf t i ∷ entriesFrom t (n - (i + 1)) (i + 1)
+  unfolding entriesFrom
+  next-entry i h = let e : n - i ≡ suc (n - (i + 1)) = omega arith in rw e
+
+  pub seek-more : (p : Plane) (i : ℕ) → Seeking t l n i → i < n → p ≡ entryOf t i → p .layer ≢ l → Seeking t l n (i + 1)
+  unfolding startOf
+  seek-more p i g h e d =
+      record {
+        within = omega arith;
+        all = g .all;
+        left = g .left ∙ ap (λ ps. startOf ps l) (next-entry i h) ∙ ap (λ b. cond b (From (entryOf t i .start)) (startOf (entriesFrom t (n - (i + 1)) (i + 1)) l)) (ne-eqb (entryOf t i .layer) l (λ q. d (ap (λ (x : Plane). x .layer) e ∙ q)));
+      }
+
+  pub seek-found : (p : Plane) (i : ℕ) → Seeking t l n i → i < n → p ≡ entryOf t i → p .layer ≡ l → From (p .start) ≡ startOf (entriesOf t) l
+  unfolding startOf
+  seek-found p i g h e q =
+      sym
+      (g .left ∙ ap (λ ps. startOf ps l) (next-entry i h) ∙ ap (λ b. cond b (From (entryOf t i .start)) (startOf (entriesFrom t (n - (i + 1)) (i + 1)) l)) (eq-eqb (entryOf t i .layer) l (ap (λ (x : Plane). x .layer) (sym e) ∙ q))
+      ∙ ap (λ (x : Plane). From (x .start)) (sym e))
+
+  pub seek-end : (i : ℕ) → Seeking t l n i → n ≤ i → Unread ≡ startOf (entriesOf t) l
+  unfolding startOf entriesFrom
+  seek-end i g h = sym (g .left ∙ (let e : n - i ≡ 0 = omega arith in rw e))
+
+pub ruleset seeking = (needs, seek-none, seek-more, seek-found, seek-end)
 
 pub ruleset gathering = (needs, plane-read, plane-kept, plane-passed, gather-none, gather-more, gather-stop, gather-end)

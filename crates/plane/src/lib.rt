@@ -1,10 +1,11 @@
 // The plane list as parallel numbers by value, and that list made from the octets that C lends.
 ghost use mathlib.Core.Path.{_≡_};
-ghost use Prim.Native.Nat.{_<_, _/_};
+ghost use Prim.Native.Nat.{_<_, _≤_, _/_};
 ghost use lib.ListN.{length};
-ghost use Rattle.picture_rules.specs.Planes.{planeSize, planeAt};
-ghost use Rattle.plane.specs.Listing.{noPlanes, withPlane, listingOf};
+ghost use Rattle.picture_rules.specs.Planes.{planeSize, planeAt, startOf};
+ghost use Rattle.plane.specs.Listing.{noPlanes, withPlane, listingOf, entryOf, entriesOf};
 use picture_rules::Plane;
+use picture_rules::Start;
 
 // How many octets an entry from C has: the layer, and four of start.
 pub const PLANE_SIZE: usize = 5;
@@ -68,4 +69,32 @@ pub fn listing_of(s: &[u8]) -> Listing
         i += 1;
     }
     t
+}
+
+// Entry i of a list as parallel numbers.
+pub fn entry_at(t: Listing, i: usize) -> Plane
+    requires { ⌜ i < 16 ⌝ }
+    ensures { λ p. ⌜ p ≡ entryOf t i ⌝ }
+{
+    Plane {
+        layer: t.layers[i],
+        start: t.starts[i],
+    }
+}
+
+// Where a layer's samples start, if it was read. A list has few entries, and they are looked through once a line.
+pub fn start_of(t: Listing, layer: u8) -> Start
+    requires { ⌜ t .count ≤ 16 ⌝ }
+    ensures { λ r. ⌜ r ≡ startOf (entriesOf t) layer ⌝ }
+{
+    let n = t.count;
+    let mut i: usize = 0;
+    while i < n {
+        let p = entry_at(t, i);
+        if p.layer == layer {
+            return Start::From(p.start);
+        }
+        i += 1;
+    }
+    Start::Unread
 }
