@@ -2,7 +2,6 @@
 -- Assumes nothing.
 use Prim.Native.Nat.{ℕ, zero, suc, _+_, _-_, _*_, _/_, _%_, _≤_, _<_}
 use native.Mathlib.Omega.{arith}
-use native.Mathlib.Nat.{mul-le-mul}
 use mathlib.Core.Path.{_≡_, refl, sym, ap, ap₂, subst, _∙_}
 use mathlib.Core.Logic.{_≢_, ⊎-elim}
 use Rattle.cases.proofs.Cases.{clash}
@@ -33,6 +32,7 @@ use Rattle.picture_rules.specs.Planes.{PlaneList}
 use Rattle.picture_rules.specs.Samples.{Scene, recordOf}
 use Rattle.picture_rules.specs.Line.{depth, planeSpan, planeOk, planesJudged, Ruling, shows, refuses, planeRuling, sceneRuling, stripeRuling, sheetRuling, rulingOf}
 use Rattle.plane.specs.declared.Listing.{Listing}
+use Rattle.plane.proofs.Laws.{product-small}
 use Rattle.plane.specs.Listing.{entryOf, entriesFrom, entriesOf}
 use Rattle.line_verdict.specs.declared.Ruled.{Ruled}
 use Rattle.line_verdict.specs.declared.Ruled.the-variants.{Shows, Refuses}
@@ -40,21 +40,8 @@ use Rattle.line_verdict.specs.Ruled.{bareScene, listFrom, lineRuling, ru
 
 -- ---- the span of a plane
 
-pub product-small : (w h : ℕ) → w < 65536 → h < 65536 → w * h < 4294967296
-product-small w h a b = let p : w ≤ 65535 = omega arith in let q : h ≤ 65535 = omega arith in let m : w * h ≤ 65535 * 65535 = mul-le-mul p q in omega arith
-
-module _ (width height l w h : ℕ) (ew : w ≡ width) (a : w < 65536) (eh : h ≡ height) (b : h < 65536) where
-  pub span-mask : l % 2 ≡ 0 → (w * h ≡ width * height * depth l) × (w * h < 17179869184)
-  span-mask e =
-      let m = product-small w h a b in
-      let d : depth l ≡ 1 = ap (λ t. cond t 1 3) (eq-eqb (l % 2) 0 e) in
-      (let z : w * h ≡ w * h * 1 = omega arith in z ∙ ap₂ (λ (i j : ℕ). i * j * 1) ew eh ∙ ap (λ (n : ℕ). width * height * n) (sym d), omega arith)
-
-  pub span-image : l % 2 ≢ 0 → (w * h * 3 ≡ width * height * depth l) × (w * h * 3 < 17179869184)
-  span-image e =
-      let m = product-small w h a b in
-      let d : depth l ≡ 3 = ap (λ t. cond t 1 3) (ne-eqb (l % 2) 0 e) in
-      (ap₂ (λ (i j : ℕ). i * j * 3) ew eh ∙ ap (λ (n : ℕ). width * height * n) (sym d), omega arith)
+pub span-made : (width height l w h n : ℕ) → w ≡ width → h ≡ height → (n ≡ w * h * depth l) × (n < 12884901888) → (n ≡ width * height * depth l) × (n < 12884901888)
+span-made width height l w h n ew eh e = (e .0 ∙ ap₂ (λ (i j : ℕ). i * j * depth l) ew eh, e .1)
 
 -- ---- an entry
 
@@ -193,7 +180,7 @@ fault-small s v i e z = let f = refused-few s i (sym e ∙ z) .0 in omega arith
 
 pub ruleset ruling = (needs, line-past, line-fine, line-fault, stripe-none, stripe-row, sheet-good, sheet-bad, found-whole, fault-small)
 
-pub ruleset spanning = (needs, product-small, span-mask, span-image, within-uncoded, within-coded)
+pub ruleset spanning = (needs, product-small, span-made, within-uncoded, within-coded)
 
 pub ruleset entering = (needs, plane-low, plane-absent, plane-there, plane-place)
 

@@ -23,19 +23,12 @@ pub enum Ruled {
     Refuses(Answer),
 }
 
-// The bound comes with the value, so that a product of two needs no proof that they are small.
-fn wide(x: u16) -> usize
-    ensures { λ r. ⌜ (r ≡ x) × (r < 65536) ⌝ }
-{
-    x as usize
-}
-
-// The octets of all samples of a layer: in 64 bits, since width times height times three passes 32.
+// The octets of all samples of a layer.
 pub fn plane_span(width: u16, height: u16, layer: u8) -> usize
-    ensures { λ n. ⌜ (n ≡ width * height * depth layer) × (n < 17179869184) ⌝ }
+    ensures { λ n. ⌜ (n ≡ width * height * depth layer) × (n < 12884901888) ⌝ }
 {
-    let n = wide(width) * wide(height);
-    if layer % 2 == 0 { n } else { n * 3 }
+    let n = plane::wide(width) * plane::wide(height);
+    plane::sample_octets(n, layer)
 }
 
 // The layer is coded, and its samples lie in a buffer of so many octets.

@@ -15,7 +15,7 @@ use Rattle.octets.specs.Octets.{octets16, octets32, putAt, begins, stand
 use Rattle.octets.proofs.Laws.{put-put, length-octets16, drop-octet}
 
 -- stores one after the other
-sets-put : (d : List ℕ) (at : ℕ) (v : List ℕ) → at + length v ≤ length d → sets d at v ≡ putAt d at v
+pub sets-put : (d : List ℕ) (at : ℕ) (v : List ℕ) → at + length v ≤ length d → sets d at v ≡ putAt d at v
 unfolding putAt
 sets-put d at v h = sets-eq v d at h ∙ append-assoc (take at d) v (drop (at + length v) d)
 

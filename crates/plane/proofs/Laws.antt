@@ -1,6 +1,7 @@
 -- One law for each way out of the functions that gather a plane list: its premises are what is known there.
 -- Assumes nothing.
-use Prim.Native.Nat.{ℕ, zero, suc, _+_, _-_, _*_, _/_, _≤_, _<_}
+use Prim.Native.Nat.{ℕ, zero, suc, _+_, _-_, _*_, _/_, _%_, _≤_, _<_}
+use native.Mathlib.Nat.{mul-le-mul}
 use native.Mathlib.Omega.{arith}
 use mathlib.Core.Path.{_≡_, refl, sym, ap, _∙_}
 use mathlib.Core.Logic.{_≢_}
@@ -14,8 +15,25 @@ use Rattle.picture_rules.specs.declared.Plane.{Plane}
 use Rattle.picture_rules.specs.Planes.{planeSize, planeAt, planesFrom, startOf}
 use Rattle.picture_rules.specs.declared.Start.{Start}
 use Rattle.picture_rules.specs.declared.Start.the-variants.{From, Unread}
+use Rattle.picture_rules.specs.Line.{depth}
 use Rattle.plane.specs.declared.Listing.{Listing}
 use Rattle.plane.specs.Listing.{noPlanes, withPlane, gathered, listingOf, entryOf, entriesFrom, entriesOf}
+
+-- ---- the octets of samples
+
+module _ (n l : ℕ) (h : n < 4294967296) where
+  pub octets-mask : l % 2 ≡ 0 → (n ≡ n * depth l) × (n < 12884901888)
+  octets-mask e =
+      let d : depth l ≡ 1 = ap (λ t. cond t 1 3) (eq-eqb (l % 2) 0 e) in
+      (let z : n ≡ n * 1 = omega arith in z ∙ ap (λ (k : ℕ). n * k) (sym d), omega arith)
+
+  pub octets-image : l % 2 ≢ 0 → (n * 3 ≡ n * depth l) × (n * 3 < 12884901888)
+  octets-image e = let d : depth l ≡ 3 = ap (λ t. cond t 1 3) (ne-eqb (l % 2) 0 e) in (ap (λ (k : ℕ). n * k) (sym d), omega arith)
+
+pub product-small : (w h : ℕ) → w < 65536 → h < 65536 → w * h < 4294967296
+product-small w h a b = let p : w ≤ 65535 = omega arith in let q : h ≤ 65535 = omega arith in let m : w * h ≤ 65535 * 65535 = mul-le-mul p q in omega arith
+
+pub ruleset sizing = (needs, octets-mask, octets-image)
 
 -- ---- one entry
 

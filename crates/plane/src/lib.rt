@@ -1,11 +1,27 @@
 // The plane list as parallel numbers by value, and that list made from the octets that C lends.
 ghost use mathlib.Core.Path.{_≡_};
-ghost use Prim.Native.Nat.{_<_, _≤_, _/_};
+ghost use Prim.Native.Nat.{_*_, _<_, _≤_, _/_};
 ghost use lib.ListN.{length};
 ghost use Rattle.picture_rules.specs.Planes.{planeSize, planeAt, startOf};
+ghost use Rattle.picture_rules.specs.Line.{depth};
 ghost use Rattle.plane.specs.Listing.{noPlanes, withPlane, listingOf, entryOf, entriesOf};
 use picture_rules::Plane;
 use picture_rules::Start;
+
+// The bound comes with the value, so that a product of two needs no proof that they are small.
+pub fn wide(x: u16) -> usize
+    ensures { λ r. ⌜ (r ≡ x) × (r < 65536) ⌝ }
+{
+    x as usize
+}
+
+// The octets of n samples of a layer. In 64 bits, since width times height times three passes 32.
+pub fn sample_octets(n: usize, layer: u8) -> usize
+    requires { ⌜ n < 4294967296 ⌝ }
+    ensures { λ r. ⌜ (r ≡ n * depth layer) × (r < 12884901888) ⌝ }
+{
+    if layer % 2 == 0 { n } else { n * 3 }
+}
 
 // How many octets an entry from C has: the layer, and four of start.
 pub const PLANE_SIZE: usize = 5;
