@@ -1,0 +1,2 @@
+pub mod Division
+pub mod Scenes
