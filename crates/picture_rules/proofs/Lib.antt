@@ -1,2 +1,4 @@
 pub mod Division
 pub mod Scenes
+pub mod Rule
+pub mod Seen
