@@ -5,3 +5,4 @@ pub mod Seen
 pub mod Fours
 pub mod Ruled
 pub mod Demand3
+pub mod Exactly
