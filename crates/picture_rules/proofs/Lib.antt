@@ -6,3 +6,4 @@ pub mod Fours
 pub mod Ruled
 pub mod Demand3
 pub mod Exactly
+pub mod Pixels
