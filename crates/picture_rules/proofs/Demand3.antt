@@ -22,11 +22,10 @@ use Rattle.picture_rules.specs.Planes.{PlaneList}
 use Rattle.picture_rules.specs.Samples.{Scene, widthOf}
 use Rattle.picture_rules.specs.Decide.{pixelAt}
 use Rattle.picture_rules.specs.Content.{SeenAs}
-use Rattle.picture_rules.specs.Line.{unseen, fourOf, linePixels, Ruling, shows, refuses, rulingOf, lineAnswer, lineOf, lineHolds, lineInto}
+use Rattle.picture_rules.specs.Line.{unseen, fourOf, linePixels, Ruling, shows, refuses, rulingOf, lineAnswer, lineOf, lineHolds, lineInto, Lines}
 use Rattle.picture_rules.specs.Demand.{fourAt, seenIn, unseenFour, at, Tells, Shown}
-use Rattle.picture_rules.specs.Sentences.{sceneOf}
+use Rattle.picture_rules.specs.Sentences.{Accepted, HasLine, sceneOf, AllFine}
 use Rattle.picture_rules.proofs.Ruled.{ruling-cases}
-use Rattle.picture_rules.proofs.Scenes.{Stage, shows-stage}
 use Rattle.picture_rules.proofs.Seen.{seen-known-as, unseen-unknown}
 use Rattle.picture_rules.proofs.Fours.{four-known, known-four, four-unknown, unknown-four, length-line, put-four}
 
@@ -53,11 +52,13 @@ four-tells v y x =
 -- ---- a call that answers Done
 
 pub record DoneLine (s : List ℕ) (pl : PlaneList) (d : List ℕ) (k y : ℕ) (out : List ℕ) (n : ℕ) : Type 0 where
-  pub v : Scene
-  pub ruling : rulingOf s pl d k y ≡ shows v
-  pub size : n ≡ widthOf v * 4
+  pub accepted : Accepted s
+  pub line : HasLine s k y
+  pub listed : AllFine (sceneOf s pl d k) pl
+  pub ruling : rulingOf s pl d k y ≡ shows (sceneOf s pl d k)
+  pub size : n ≡ widthOf (sceneOf s pl d k) * 4
   pub room : n ≤ length out
-  pub into : lineInto s pl d k y out ≡ putAt out 0 (linePixels v y)
+  pub into : lineInto s pl d k y out ≡ putAt out 0 (linePixels (sceneOf s pl d k) y)
 
 module _ (s : List ℕ) (pl : PlaneList) (d : List ℕ) (k y : ℕ) (out : List ℕ) where
   pub done-line : (n : ℕ) → lineOf s pl d k y (length out) ≡ Done n → DoneLine s pl d k y out n
@@ -67,45 +68,41 @@ module _ (s : List ℕ) (pl : PlaneList) (d : List ℕ) (k y : ℕ) (out : List 
       (λ i b e q. clash cc)
       (λ a b e q. clash cc)
       (λ a b i f e q. clash cc)
-      (λ a b f e. by (sceneOf s pl d k) e)
+      (λ a b f e.
+      let v : Scene = sceneOf s pl d k in
+      cond-both (λ x z. lineHolds out y (shows v) ≡ z → x ≡ Done n → DoneLine s pl d k y out n) (ltb (length out) (widthOf v * 4))
+      (λ t h q. clash cc)
+      (λ t h q.
+      let z : widthOf v * 4 ≡ n = cc in
+      let l = ltb-false (length out) (widthOf v * 4) t in
+      record { accepted = a; line = b; listed = f; ruling = e; size = sym z; room = omega arith; into = ap (lineHolds out y) e ∙ h })
+      refl)
       refl
-    where
-      by : (v : Scene) → rulingOf s pl d k y ≡ shows v → lineAnswer (length out) (shows v) ≡ Done n → DoneLine s pl d k y out n
-      by v e =
-          cond-both (λ x z. lineHolds out y (shows v) ≡ z → x ≡ Done n → DoneLine s pl d k y out n) (ltb (length out) (widthOf v * 4))
-          (λ t h q. clash cc)
-          (λ t h q.
-          let z : widthOf v * 4 ≡ n = cc in
-          let f = ltb-false (length out) (widthOf v * 4) t in
-          record { v = v; ruling = e; size = sym z; room = omega arith; into = ap (lineHolds out y) e ∙ h })
-          refl
+
+  pub done-four : (n : ℕ) → lineOf s pl d k y (length out) ≡ Done n → (x : ℕ) → x < widthOf (sceneOf s pl d k)
+      → fourAt (lineInto s pl d k y out) x ≡ fourOf unseen (pixelAt (sceneOf s pl d k) (at x) (at y))
+  done-four n q x h = ap (λ (e : List ℕ). fourAt e x) (done-line n q .into) ∙ put-four (sceneOf s pl d k) y out x h
 
   -- ---- the theorem
 
-  pub demand-3 : (n : ℕ) → lineOf s pl d k y (length out) ≡ Done n → (v : Scene) × Shown s pl d k y out (lineInto s pl d k y out) n v
+  pub demand-3 : (n : ℕ) → lineOf s pl d k y (length out) ≡ Done n → Shown s pl d k y out (lineInto s pl d k y out) n
   demand-3 n q =
       let b = done-line n q in
-      let v : Scene = b .v in
-      let g = shows-stage s pl d k y v (b .ruling) in
+      let v : Scene = sceneOf s pl d k in
       let l = length-line v y in
       let f = b .room in
       let m = b .size in
-      let z : 0 + length (linePixels v y) ≡ n = omega arith in (
-        v,
-        record {
-          sheet = g .sheet;
-          row = g .found;
-          planes = g .planes;
-          samples = g .samples;
-          line = g .line;
-          size = b .size;
-          room = b .room;
-          pixels = λ x h.
-              subst (Tells v y x) (sym (ap (λ (e : List ℕ). fourAt e x) (b .into) ∙ put-four v y out x h)) (four-tells v y x);
-          past = ap₂ (λ (j : ℕ) (e : List ℕ). drop j e) (sym z) (b .into) ∙ put-rest out 0 (linePixels v y) (omega arith) ∙ ap (λ (j : ℕ). drop j out) z;
-          same = ap length (b .into) ∙ put-length out 0 (linePixels v y) (omega arith);
-        },
-      )
+      let z : 0 + length (linePixels v y) ≡ n = omega arith in
+      record {
+        accepted = b .accepted;
+        line = b .line;
+        listed = b .listed;
+        size = b .size;
+        room = b .room;
+        pixels = λ x h. subst (Tells v y x) (sym (done-four n q x h)) (four-tells v y x);
+        past = ap₂ (λ (j : ℕ) (e : List ℕ). drop j e) (sym z) (b .into) ∙ put-rest out 0 (linePixels v y) (omega arith) ∙ ap (λ (j : ℕ). drop j out) z;
+        same = ap length (b .into) ∙ put-length out 0 (linePixels v y) (omega arith);
+      }
 
   -- a refusal changes nothing
   pub refused-line : ((n : ℕ) → lineOf s pl d k y (length out) ≡ Done n → ⊥) → lineInto s pl d k y out ≡ out
@@ -127,3 +124,9 @@ module _ (s : List ℕ) (pl : PlaneList) (d : List ℕ) (k y : ℕ) (out : List 
           cond-with (λ (z : List ℕ). length z ≡ length out) (ltb (length out) (widthOf v * 4)) (λ t. refl)
           (λ t. let f = ltb-false (length out) (widthOf v * 4) t in let l = length-line v y in put-length out 0 (linePixels v y) (omega arith))
       by (refuses a) = refl
+
+-- ---- the promise determines the answer and the buffer
+
+pub lines-once : (s : List ℕ) (pl : PlaneList) (d : List ℕ) (k y : ℕ) (out : List ℕ) (a b : Answer) (e f : List ℕ)
+    → Lines s pl d k y out a e → Lines s pl d k y out b f → (a ≡ b) × (e ≡ f)
+lines-once s pl d k y out a b e f p q = (p .answers ∙ sym (q .answers), p .holds ∙ sym (q .holds))

@@ -3,21 +3,24 @@
 --   fourAt l x       the octets 4x to 4x + 3
 --   seenIn c         the colour, and 1 for seen
 --   Tells v y x four  four octets say what is seen of pixel x in line y: a colour if every possible content gives it, and else nothing
---   Shown ..         the line that a call answered with Done n: the scene it is of, each of its pixels, and the octets past it
-use Prim.Native.Nat.{ℕ, _*_, _<_, _≤_}
+--   Shown ..         what a call that answers Done n was lent, and leaves: each pixel of the line, and the octets past it
+--   Reread v w       all that was read in v was read in w, the same; AllRead v: every coded layer was read
+use Prim.Native.Nat.{ℕ, _+_, _*_, _<_, _≤_}
 use mathlib.Core.Path.{_≡_}
 use mathlib.Core.Logic.{_↔_, _⊎_}
-use mathlib.Core.List.{List, [], _∷_}
-use lib.ListN.{length, take, drop}
+use mathlib.Core.List.{List, [], _∷_, List·Memᴰ}
+use lib.ListN.{length, getD, take, drop}
+use Rattle.sheet_rules.specs.declared.Record.{Record}
 use Rattle.sheet_rules.specs.declared.Stripe.{Stripe}
-use Rattle.sheet_rules.specs.declared.FoundStripe.the-variants.{Row}
-use Rattle.sheet_rules.specs.Stripe.{findStripe}
+use Rattle.sheet_rules.specs.Sentences.{Coded}
 use Rattle.picture_rules.specs.declared.MainPos.{MainPos}
 use Rattle.picture_rules.specs.declared.Colour.{Colour}
 use Rattle.picture_rules.specs.declared.Plane.{Plane}
 use Rattle.picture_rules.specs.Planes.{PlaneList}
-use Rattle.picture_rules.specs.Samples.{Scene, widthOf}
+use Rattle.picture_rules.specs.Samples.{Scene, recordOf, widthOf}
 use Rattle.picture_rules.specs.Content.{SeenAs}
+use Rattle.picture_rules.specs.Line.{planeSpan}
+use Rattle.picture_rules.specs.Sentences.{Accepted, HasLine, sceneOf, AllFine}
 
 abbrev pub fourAt : List ℕ → ℕ → List ℕ
 fourAt l x = take 4 (drop (x * 4) l)
@@ -39,19 +42,31 @@ pub record Tells (v : Scene) (y x : ℕ) (four : List ℕ) : Type 0 where
   -- and there is no third
   pub either : ((c : Colour) × (four ≡ seenIn c)) ⊎ (four ≡ unseenFour)
 
--- the buffer was `out` and is `e`
-pub record Shown (s : List ℕ) (pl : PlaneList) (d : List ℕ) (k y : ℕ) (out e : List ℕ) (n : ℕ) (v : Scene) : Type 0 where
-  -- the scene: stripe k of this sheet, these entries, these samples
-  pub sheet : v .sheet ≡ s
-  pub row : findStripe s k ≡ Row (v .row)
-  pub planes : v .planes ≡ pl .entries
-  pub samples : v .samples ≡ d
-  -- line y is one of it, and four octets a pixel fit
-  pub line : y < v .row .height
-  pub size : n ≡ widthOf v * 4
+-- the call answered Done n; the buffer was `out` and is `e`
+pub record Shown (s : List ℕ) (pl : PlaneList) (d : List ℕ) (k y : ℕ) (out e : List ℕ) (n : ℕ) : Type 0 where
+  -- a sheet with this line, and a plane list without fault
+  pub accepted : Accepted s
+  pub line : HasLine s k y
+  pub listed : AllFine (sceneOf s pl d k) pl
+  -- four octets a pixel, and they fit
+  pub size : n ≡ widthOf (sceneOf s pl d k) * 4
   pub room : n ≤ length out
-  -- each pixel of the line
-  pub pixels : (x : ℕ) → x < widthOf v → Tells v y x (fourAt e x)
+  -- each pixel of the line, in stripe k of this sheet with these entries and samples
+  pub pixels : (x : ℕ) → x < widthOf (sceneOf s pl d k) → Tells (sceneOf s pl d k) y x (fourAt e x)
   -- the octets past the line stay
   pub past : drop n e ≡ drop n out
   pub same : length e ≡ length out
+
+-- ---- more that was read
+
+-- each entry of the first list has one of the same layer in the second, with the same samples
+abbrev pub Reread : Scene → Scene → Type 0
+Reread v w =
+    (p : Plane) → List·Memᴰ p (v .planes)
+    → (q : Plane) × List·Memᴰ q (w .planes) × (q .layer ≡ p .layer)
+    × ((i : ℕ) → i < planeSpan (recordOf v (p .layer)) → getD (w .samples) (q .start + i) 0 ≡ getD (v .samples) (p .start + i) 0)
+
+-- each coded layer of the stripe is listed
+abbrev pub AllRead : Scene → Type 0
+AllRead v =
+    (l : ℕ) → 1 ≤ l → l ≤ v .row .layers → Coded (recordOf v l) → (p : Plane) × List·Memᴰ p (v .planes) × (p .layer ≡ l)
