@@ -7,3 +7,5 @@ pub mod Ruled
 pub mod Demand3
 pub mod Exactly
 pub mod Pixels
+pub mod Starts
+pub mod More
