@@ -7,5 +7,6 @@ pub mod Ruled
 pub mod Demand3
 pub mod Exactly
 pub mod Pixels
+pub mod Highest
 pub mod Starts
 pub mod More
