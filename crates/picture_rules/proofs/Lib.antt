@@ -1,5 +1,6 @@
 pub mod Division
 pub mod Scenes
+pub mod Places
 pub mod Rule
 pub mod Seen
 pub mod Fours
