@@ -259,9 +259,9 @@ module _ (v : Scene) (all : AllRead v) (x z : MainPos) where
       subst (λ (q : Start). IsKnown (imageRead (v .samples) q (indexOf (mainOf v) (recordOf v l) x z))) (sym (r .1)) tt)
       (λ t. tt)
 
-  pixel-known : v .row .layers % 2 ≡ 1 → IsKnown (pixelAt v x z)
+  pixel-known : v .row .layers % 2 ≡ 1 → 3 ≤ v .row .layers → IsKnown (pixelAt v x z)
   unfolding pixelAt
-  pixel-known odd =
+  pixel-known odd some =
       known-all (stackAt v x z) (pairsOf v) (λ j a b. mask-known (j * 2) (omega arith) (omega arith)) (λ j a. image-known (j * 2 + 1) (omega arith) (omega arith))
 
 known-is : (p : Sample) → IsKnown p → (c : Colour) × (p ≡ Known c)
@@ -273,5 +273,5 @@ pub all-seen : (s : List ℕ) (pl : PlaneList) (d : List ℕ) (k y : ℕ) (out :
 all-seen s pl d k y out n a all x h =
     let v : Scene = sceneOf s pl d k in
     let c = stage-layers (shows-stage s pl d k y v (done-line s pl d k y out n a .ruling)) in
-    let p = known-is (pixelAt v (at x) (at y)) (pixel-known v all (at x) (at y) (c .0)) in
+    let p = known-is (pixelAt v (at x) (at y)) (pixel-known v all (at x) (at y) (c .0) (c .1)) in
     ap (λ (l : List ℕ). getD l 3 0) (done-four s pl d k y out n a x h) ∙ known-marked unseen (pixelAt v (at x) (at y)) (p .0) (p .1)
