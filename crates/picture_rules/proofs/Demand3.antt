@@ -3,25 +3,22 @@
 use Prim.Native.Nat.{ℕ, _+_, _*_, _≤_, _<_}
 use native.Mathlib.Omega.{arith}
 use mathlib.Core.Path.{_≡_, refl, sym, ap, ap₂, subst, _∙_}
-use mathlib.Core.Logic.{_↔_, _⊎_, inl, inr}
-use mathlib.Core.Bool.{Bool, true, false, cond}
-use mathlib.Core.List.{List, [], _∷_, _++_}
-use lib.ListN.{length, take, drop}
+use mathlib.Core.Logic.{_⊎_, inl, inr}
+use mathlib.Core.List.{List}
+use lib.ListN.{length, drop}
 use lib.Dec.{ltb}
 use borrow.Author.Tests.{ltb-false}
 use Rattle.cases.proofs.Cases.{cond-with, cond-both, clash}
 use Rattle.octets.specs.Octets.{putAt}
 use Rattle.octets.proofs.Laws.{put-rest, put-length}
 use Rattle.answers.specs.declared.Answer.{Answer}
-use Rattle.answers.specs.declared.Answer.the-variants.{Done, NoRoom}
-use Rattle.picture_rules.specs.declared.MainPos.{MainPos}
+use Rattle.answers.specs.declared.Answer.the-variants.{Done}
 use Rattle.picture_rules.specs.declared.Colour.{Colour}
 use Rattle.picture_rules.specs.declared.Sample.{Sample}
 use Rattle.picture_rules.specs.declared.Sample.the-variants.{Known, Unknown}
 use Rattle.picture_rules.specs.Planes.{PlaneList}
 use Rattle.picture_rules.specs.Samples.{Scene, widthOf}
 use Rattle.picture_rules.specs.Decide.{pixelAt}
-use Rattle.picture_rules.specs.Content.{SeenAs}
 use Rattle.picture_rules.specs.Line.{unseen, fourOf, linePixels, Ruling, shows, refuses, rulingOf, lineAnswer, lineOf, lineHolds, lineInto, Lines}
 use Rattle.picture_rules.specs.Demand.{fourAt, seenIn, unseenFour, at, Tells, Shown}
 use Rattle.picture_rules.specs.Sentences.{Accepted, HasLine, sceneOf, AllFine}

@@ -3,10 +3,9 @@
 use Prim.Native.Nat.{ℕ, _+_, _-_, _*_, _/_, _%_, _≤_, _<_}
 use native.Mathlib.Nat.{div-lt-iff-lt-mul, div-one, div-eq-of-lt-le, mul-le-mul-right, add-mul, one-mul, mul-comm, mul-zero}
 use native.Mathlib.Omega.{arith}
-use mathlib.Core.Path.{_≡_, refl, sym, ap, subst, _∙_}
+use mathlib.Core.Path.{_≡_, ap, _∙_}
 use mathlib.Core.Logic.{⊎-elim}
-use mathlib.Core.Bool.{Bool, true, false, cond}
-use lib.Dec.{eqb}
+use mathlib.Core.Bool.{Bool, true, cond}
 use borrow.Author.Tests.{eq-eqb, ne-eqb}
 use Rattle.cases.proofs.Says.{Says, says-le, says-lt, says-and, says-eq, says-else}
 use Rattle.sheet_rules.specs.declared.Record.{Record}

@@ -1,10 +1,9 @@
 -- A line call answers each number exactly when the sentences have it; and what it refuses with.
 -- Assumes nothing.
-use Prim.Native.Nat.{ℕ, _+_, _*_, _/_, _≤_, _<_}
+use Prim.Native.Nat.{ℕ, _*_, _/_, _≤_}
 use native.Mathlib.Omega.{arith}
-use mathlib.Core.Path.{_≡_, refl, sym, ap, subst, _∙_}
+use mathlib.Core.Path.{_≡_, refl, sym, ap, subst}
 use mathlib.Core.Logic.{_↔_, _⊎_, inl, inr}
-use mathlib.Core.Bool.{Bool, true, false, cond}
 use mathlib.Core.List.{List}
 use lib.ListN.{length}
 use lib.Dec.{ltb}
@@ -19,8 +18,8 @@ use Rattle.sheet_rules.proofs.Judged.{fault-once, fault-no-sheet}
 use Rattle.sheet_rules.proofs.Theorems.{sheet-refused, refused-few}
 use Rattle.picture_rules.specs.Planes.{PlaneList}
 use Rattle.picture_rules.specs.Samples.{Scene, widthOf}
-use Rattle.picture_rules.specs.Line.{Ruling, shows, refuses, rulingOf, lineAnswer, lineOf}
-use Rattle.picture_rules.specs.Sentences.{Accepted, HasLine, sceneOf, AllFine, PlaneAt, Gives}
+use Rattle.picture_rules.specs.Line.{lineAnswer, lineOf}
+use Rattle.picture_rules.specs.Sentences.{Accepted, sceneOf, PlaneAt, Gives}
 use Rattle.picture_rules.proofs.Ruled.{plane-once, plane-none, ruling-cases}
 
 module _ (s : List ℕ) (pl : PlaneList) (d : List ℕ) (k y room : ℕ) where

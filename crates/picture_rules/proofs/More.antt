@@ -1,22 +1,16 @@
 -- More that was read: what is seen stays as it is, and with every coded layer read all is seen.
 -- Assumes nothing.
-use Prim.Native.Nat.{ℕ, zero, suc, _+_, _*_, _/_, _%_, _<_, _≤_}
+use Prim.Native.Nat.{ℕ, zero, suc, _+_, _*_, _%_, _<_, _≤_}
 use native.Mathlib.Omega.{arith}
-use mathlib.Core.Path.{_≡_, refl, sym, ap, ap₂, subst, _∙_}
-use mathlib.Core.Logic.{_⊎_, inl, inr, ⊎-elim}
+use mathlib.Core.Path.{_≡_, refl, sym, ap, subst, _∙_}
 use mathlib.Core.Bool.{Bool, true, false, cond, _&&_}
-use mathlib.Core.List.{List, List·Memᴰ}
+use mathlib.Core.List.{List}
 use lib.ListN.{length, getD}
 use lib.Dec.{eqb}
 use Rattle.cases.proofs.Cases.{cond-with, cond-both, clash}
 use Rattle.cases.proofs.Says.{says-and, says-true, says-not, says-eq}
 use Rattle.answers.specs.declared.Answer.the-variants.{Done}
-use Rattle.sheet_rules.specs.declared.Record.{Record}
-use Rattle.sheet_rules.specs.declared.Stripe.{Stripe}
-use Rattle.sheet_rules.specs.Record.{records}
 use Rattle.sheet_rules.specs.Judge.{coded}
-use Rattle.sheet_rules.specs.Sentences.{Coded}
-use Rattle.sheet_rules.specs.Stripe.{rowOf}
 use Rattle.picture_rules.specs.declared.MainPos.{MainPos}
 use Rattle.picture_rules.specs.declared.Colour.{Colour}
 use Rattle.picture_rules.specs.declared.Plane.{Plane}
@@ -26,17 +20,17 @@ use Rattle.picture_rules.specs.declared.Mask.{Mask}
 use Rattle.picture_rules.specs.declared.Mask.the-variants.{Zero, One, Hidden}
 use Rattle.picture_rules.specs.Place.{inside}
 use Rattle.picture_rules.specs.Planes.{PlaneList, Start, from, unread, startOf}
-use Rattle.picture_rules.specs.Samples.{Scene, recordOf, mainOf, widthOf, indexOf, bitOf, colourAt, baseOf, virtual, maskRead, imageRead, maskAt, imageAt}
+use Rattle.picture_rules.specs.Samples.{Scene, recordOf, mainOf, widthOf, indexOf, bitOf, virtual, maskRead, imageRead, maskAt, imageAt}
 use Rattle.picture_rules.specs.Decide.{sameColour, agree, pairStep, Stack, decide, stackAt, pairsOf, pixelAt}
 use Rattle.picture_rules.specs.Line.{unseen, fourOf, planeSpan, lineOf, lineInto}
 use Rattle.picture_rules.specs.Sentences.{sceneOf, AllFine}
-use Rattle.picture_rules.specs.Demand.{fourAt, seenIn, unseenFour, at, Tells, Reread, AllRead}
+use Rattle.picture_rules.specs.Demand.{fourAt, at, Reread, AllRead}
 use Rattle.picture_rules.proofs.Division.{mask-within, image-within}
 use Rattle.picture_rules.proofs.Scenes.{Stage, shows-stage, stage-layers, stage-placed}
-use Rattle.picture_rules.proofs.Rule.{same-true, same-self, agree-self}
+use Rattle.picture_rules.proofs.Rule.{same-true, same-self}
 use Rattle.picture_rules.proofs.Fours.{known-four}
-use Rattle.picture_rules.proofs.Starts.{Entry, start-among, start-some, start-entry}
-use Rattle.picture_rules.proofs.Demand3.{done-line, done-four, four-tells}
+use Rattle.picture_rules.proofs.Starts.{start-among, start-some, start-entry}
+use Rattle.picture_rules.proofs.Demand3.{done-line, done-four}
 
 -- ---- samples that become known
 

@@ -1,23 +1,22 @@
 -- The pixels (a) to (j) of 01, "Pixels to prove": one table, one theorem. Each entry is a sheet's octets, a plane list's octets and samples, and the
 -- four octets due at a pixel, through the definitions that the line call's promise cites.
 -- Assumes nothing.
-use Prim.Native.Nat.{ℕ, _+_, _*_}
+use Prim.Native.Nat.{ℕ}
 use mathlib.Core.Path.{_≡_, refl}
 use mathlib.Core.List.{List, [], _∷_, _++_}
-use lib.ListN.{length, replicate}
+use lib.ListN.{replicate}
 use Rattle.octets.specs.Octets.{be16At, be32At, octets16, octets32, putAt}
 use Rattle.answers.specs.declared.Answer.the-variants.{Done}
 use Rattle.sheet_rules.specs.declared.Record.{Record}
 use Rattle.sheet_rules.specs.declared.Verdict.the-variants.{Good}
-use Rattle.sheet_rules.specs.Record.{recordAt, encode, sheetOf, recordsFrom, records, sumOf}
+use Rattle.sheet_rules.specs.Record.{recordAt, encode, sheetOf, recordsFrom, records}
 use Rattle.sheet_rules.specs.Judge.{keeps, after, after1, after2, after3, stepOf, endOf, onStep, walk, judge, judgeOf}
-use Rattle.sheet_rules.specs.Stripe.{rowOf, few, foundRow, findStripe}
+use Rattle.sheet_rules.specs.Stripe.{findStripe}
 use Rattle.picture_rules.specs.declared.Colour.{Colour}
-use Rattle.picture_rules.specs.Planes.{planeAt, planesFrom, listOf, startOf}
-use Rattle.picture_rules.specs.Samples.{recordOf, indexOf, bitOf, virtual, maskRead, imageRead, maskAt, imageAt}
-use Rattle.picture_rules.specs.Place.{scale, covers, inside}
-use Rattle.picture_rules.specs.Decide.{sameColour, agree, pairStep, decide, pixelAt}
-use Rattle.picture_rules.specs.Line.{fourOf, pixels, linePixels, planeSpan, planeOk, planesJudged, sceneRuling, stripeRuling, sheetRuling, rulingOf, lineAnswer, lineOf, lineHolds, lineInto}
+use Rattle.picture_rules.specs.Planes.{planeAt, planesFrom, listOf}
+use Rattle.picture_rules.specs.Samples.{recordOf, maskAt, imageAt}
+use Rattle.picture_rules.specs.Place.{scale}
+use Rattle.picture_rules.specs.Line.{lineOf, lineInto}
 use Rattle.picture_rules.specs.Demand.{fourAt, seenIn, unseenFour}
 
 -- line 0 of stripe 0, on a page 8 main pixels wide

@@ -1,11 +1,10 @@
 -- The sample of a layer at a place, case by case (01, "Colour of a pixel"): coded or not, inside or outside, read or unread.
 -- Assumes nothing.
 use Prim.Native.Nat.{ℕ, _+_, _*_}
-use mathlib.Core.Path.{_≡_, refl, sym, ap, _∙_}
+use mathlib.Core.Path.{_≡_, refl, sym, _∙_}
 use mathlib.Core.Logic.{_≢_}
-use mathlib.Core.Bool.{Bool, true, false, cond, _&&_, false≢true}
+use mathlib.Core.Bool.{true, false, _&&_, false≢true}
 use lib.ListN.{getD}
-use lib.Dec.{eqb}
 use borrow.Author.Tests.{eq-eqb, ne-eqb}
 use Rattle.cases.proofs.Cases.{cond-with}
 use Rattle.cases.proofs.Says.{says-and, says-true}
@@ -13,13 +12,10 @@ use Rattle.sheet_rules.specs.declared.Record.{Record}
 use Rattle.sheet_rules.specs.Judge.{coded}
 use Rattle.sheet_rules.specs.Sentences.{Coded, Uncoded}
 use Rattle.picture_rules.specs.declared.MainPos.{MainPos}
-use Rattle.picture_rules.specs.declared.Colour.{Colour}
-use Rattle.picture_rules.specs.declared.Sample.{Sample}
 use Rattle.picture_rules.specs.declared.Sample.the-variants.{Known, Unknown}
-use Rattle.picture_rules.specs.declared.Mask.{Mask}
 use Rattle.picture_rules.specs.declared.Mask.the-variants.{Zero, One, Hidden}
 use Rattle.picture_rules.specs.Place.{inside}
-use Rattle.picture_rules.specs.Planes.{Start, from, unread, startOf}
+use Rattle.picture_rules.specs.Planes.{from, unread, startOf}
 use Rattle.picture_rules.specs.Samples.{Scene, recordOf, mainOf, indexOf, bitOf, colourAt, baseOf, virtual, maskRead, imageRead, maskAt, imageAt}
 
 pub coded-true : (r : Record) → Coded r → coded r ≡ true

@@ -1,33 +1,31 @@
 -- The steps of a line call and the sentences: the plane list is judged fine exactly if no entry is at fault, and how each ruling comes about.
 -- Assumes nothing.
-use Prim.Native.Nat.{ℕ, zero, suc, _+_, _-_, _*_, _≤_, _<_}
+use Prim.Native.Nat.{ℕ, zero, suc, _+_, _≤_, _<_}
 use native.Mathlib.Omega.{arith}
-use mathlib.Core.Path.{_≡_, refl, sym, ap, subst, _∙_}
-use mathlib.Core.Logic.{_↔_, _⊎_, inl, inr, ⊎-elim}
-use mathlib.Core.Bool.{Bool, true, false, cond, false≢true}
+use mathlib.Core.Path.{_≡_, refl, sym, subst, _∙_}
+use mathlib.Core.Logic.{inl, inr, ⊎-elim}
+use mathlib.Core.Bool.{Bool, true, false, false≢true}
 use mathlib.Core.List.{List, [], _∷_}
 use lib.ListN.{length}
 use lib.Dec.{ltb}
-use borrow.Author.Tests.{ltb-true, ltb-false, eqb-false}
-use Rattle.cases.proofs.Cases.{cond-with, clash}
-use Rattle.cases.proofs.Says.{Says, says-eq, says-le, says-lt, says-and, says-not, says-as, says-else}
+use borrow.Author.Tests.{ltb-true, ltb-false}
+use Rattle.cases.proofs.Cases.{cond-with}
+use Rattle.cases.proofs.Says.{Says, says-eq, says-le, says-lt, says-and, says-not, says-else}
 use Rattle.answers.specs.declared.Answer.the-variants.{BadSheet, BadLine, BadPlane}
-use Rattle.sheet_rules.specs.declared.Stripe.{Stripe}
-use Rattle.sheet_rules.specs.declared.FoundStripe.{FoundStripe}
-use Rattle.sheet_rules.specs.declared.FoundStripe.the-variants.{Row, NoStripe}
+use Rattle.sheet_rules.specs.declared.FoundStripe.the-variants.{Row}
 use Rattle.sheet_rules.specs.declared.Verdict.{Verdict}
 use Rattle.sheet_rules.specs.declared.Verdict.the-variants.{Good, Bad}
-use Rattle.sheet_rules.specs.Record.{records, rest}
+use Rattle.sheet_rules.specs.Record.{records}
 use Rattle.sheet_rules.specs.Judge.{judgeOf, answerOf}
-use Rattle.sheet_rules.specs.Sentences.{Coded, Sheet, stripeCount, BadSheetAt}
+use Rattle.sheet_rules.specs.Sentences.{Coded, BadSheetAt}
 use Rattle.sheet_rules.specs.Stripe.{rowOf, findStripe}
 use Rattle.sheet_rules.proofs.Theorems.{sheet-accepted, sheet-refused}
 use Rattle.sheet_rules.proofs.Table.{stripe-found, stripe-missing}
 use Rattle.picture_rules.specs.declared.Plane.{Plane}
 use Rattle.picture_rules.specs.Planes.{PlaneList}
-use Rattle.picture_rules.specs.Samples.{Scene, recordOf, widthOf}
+use Rattle.picture_rules.specs.Samples.{Scene, recordOf}
 use Rattle.picture_rules.specs.Line.{planeSpan, planeOk, Judged, fine, fault, planesJudged, Ruling, shows, refuses, planeRuling, sceneRuling, stripeRuling, sheetRuling, rulingOf}
-use Rattle.picture_rules.specs.Sentences.{Accepted, HasLine, sceneOf, plane, layerBefore, Fine, AllFine, PlaneBreaks, PlaneStops, PlaneAt}
+use Rattle.picture_rules.specs.Sentences.{Accepted, HasLine, sceneOf, plane, Fine, AllFine, PlaneAt}
 
 -- ---- one entry, behind an entry of layer `last`
 

@@ -4,35 +4,33 @@ use Prim.Native.Nat.{ℕ, _+_, _-_, _*_, _/_, _%_, _≤_, _<_, _∣_}
 use native.Mathlib.Nat.{div-mul-cancel, mod-eq-zero-of-dvd}
 use native.Mathlib.Omega.{arith}
 use mathlib.Core.Path.{_≡_, refl, sym, ap, subst, _∙_}
-use mathlib.Core.Logic.{_↔_, _⊎_, inl, inr, ⊎-elim}
-use mathlib.Core.Bool.{Bool, true, false, _||_, cond, not}
+use mathlib.Core.Logic.{_⊎_, inl, inr, ⊎-elim}
+use mathlib.Core.Bool.{Bool, true, _||_, not}
 use mathlib.Core.List.{List}
 use lib.ListN.{length}
 use lib.Dec.{eqb, ltb}
 use borrow.Author.Tests.{lt-ltb, ltb-true, eq-eqb}
 use Rattle.cases.proofs.Cases.{cond-with, clash}
-use Rattle.cases.proofs.Says.{Says, says-eq, says-lt, says-or, says-as, says-group, says-else}
-use Rattle.answers.specs.declared.Answer.{Answer}
+use Rattle.cases.proofs.Says.{Says, says-eq, says-lt, says-or, says-else}
 use Rattle.sheet_rules.specs.declared.Record.{Record}
 use Rattle.sheet_rules.specs.declared.Stripe.{Stripe}
 use Rattle.sheet_rules.specs.declared.FoundStripe.{FoundStripe}
 use Rattle.sheet_rules.specs.declared.FoundStripe.the-variants.{Row, NoStripe}
 use Rattle.sheet_rules.specs.declared.Verdict.{Verdict}
 use Rattle.sheet_rules.specs.declared.Verdict.the-variants.{Good, Bad}
-use Rattle.sheet_rules.specs.Record.{recordSize, recordAt, recordsFrom, records, nth}
+use Rattle.sheet_rules.specs.Record.{recordSize, recordAt, records, nth}
 use Rattle.sheet_rules.specs.Judge.{judgeOf, divides}
-use Rattle.sheet_rules.specs.Sentences.{Among, Listed, Sheet, GoodSheet}
+use Rattle.sheet_rules.specs.Sentences.{Among, Listed, Sheet}
 use Rattle.sheet_rules.specs.Stripe.{rowOf, findStripe}
 use Rattle.sheet_rules.proofs.Among.{nth-among}
 use Rattle.sheet_rules.proofs.Cut.{length-records, nth-records}
 use Rattle.sheet_rules.proofs.Rows.{LayerCount}
 use Rattle.sheet_rules.proofs.Theorems.{sheet-accepted}
-use Rattle.sheet_rules.proofs.Table.{Table, sheet-table, stripe-found, stripe-missing, layer-found}
-use Rattle.picture_rules.specs.declared.Plane.{Plane}
+use Rattle.sheet_rules.proofs.Table.{sheet-table, stripe-found, stripe-missing, layer-found}
 use Rattle.picture_rules.specs.Place.{ratio}
 use Rattle.picture_rules.specs.Planes.{PlaneList}
 use Rattle.picture_rules.specs.Samples.{Scene, recordOf, mainOf}
-use Rattle.picture_rules.specs.Line.{Judged, fine, fault, planesJudged, Ruling, shows, refuses, planeRuling, sceneRuling, stripeRuling, sheetRuling, rulingOf}
+use Rattle.picture_rules.specs.Line.{Judged, fine, fault, planesJudged, shows, planeRuling, sceneRuling, stripeRuling, sheetRuling, rulingOf}
 
 -- the sheet is accepted, it has stripe k with line y, and the plane list is judged fine: the scene is of these octets, entries and samples
 pub record Stage (s : List ℕ) (pl : PlaneList) (d : List ℕ) (k y : ℕ) (v : Scene) : Type 0 where

@@ -10,7 +10,6 @@ use lib.Dec.{eqb, lit<}
 use borrow.Author.Tests.{eq-eqb, ne-eqb}
 use Rattle.cases.proofs.Cases.{clash}
 use Rattle.picture_rules.specs.declared.MainPos.{MainPos}
-use Rattle.picture_rules.specs.declared.SamplePos.{SamplePos}
 use Rattle.picture_rules.specs.declared.Colour.{Colour}
 use Rattle.picture_rules.specs.declared.Sample.{Sample}
 use Rattle.picture_rules.specs.declared.Sample.the-variants.{Known, Unknown}
@@ -18,8 +17,8 @@ use Rattle.picture_rules.specs.declared.Mask.{Mask}
 use Rattle.picture_rules.specs.declared.Mask.the-variants.{Zero, One, Hidden}
 use Rattle.picture_rules.specs.Place.{alongOf, downOf}
 use Rattle.picture_rules.specs.Samples.{Scene, recordOf, mainOf, maskAt, imageAt}
-use Rattle.picture_rules.specs.Decide.{sameColour, agree, pairStep, Stack, decide, stackAt, pairsOf, pixelAt}
-use Rattle.picture_rules.specs.Content.{Content, IsColour, Within, Possible, maskWith, imageWith, maskUnder, imageUnder, colourFrom, colourUnder, SeenAs}
+use Rattle.picture_rules.specs.Decide.{sameColour, agree, pairStep, Stack, decide, pairsOf, pixelAt}
+use Rattle.picture_rules.specs.Content.{Content, IsColour, Within, maskWith, imageWith, colourFrom, colourUnder, SeenAs}
 use Rattle.picture_rules.proofs.Rule.{same-true, same-false}
 
 -- every content whose colours are of this kind gives the colour

@@ -1,19 +1,19 @@
 -- Where a layer's samples start: found in the plane list exactly if it is listed, and a list without fault lists it once.
 -- Assumes nothing.
-use Prim.Native.Nat.{ℕ, zero, suc, _+_, _<_, _≤_}
+use Prim.Native.Nat.{ℕ, zero, suc, _<_}
 use native.Mathlib.Omega.{arith}
-use mathlib.Core.Path.{_≡_, refl, sym, ap, subst, _∙_}
-use mathlib.Core.Logic.{_⊎_, inl, inr, ⊎-elim}
-use mathlib.Core.Bool.{Bool, true, false, cond}
+use mathlib.Core.Path.{_≡_, refl, sym, ap, _∙_}
+use mathlib.Core.Logic.{⊎-elim}
+use mathlib.Core.Bool.{Bool, cond}
 use mathlib.Core.List.{List, [], _∷_, List·Memᴰ, List·Memᴰ·not-nil, List·Memᴰ·head, List·Memᴰ·tail, List·Memᴰ·cases-cons}
 use lib.ListN.{length}
 use lib.Dec.{eqb}
 use borrow.Author.Tests.{eqb-true, eq-eqb, ne-eqb}
 use Rattle.cases.proofs.Cases.{cond-with, clash}
 use Rattle.picture_rules.specs.declared.Plane.{Plane}
-use Rattle.picture_rules.specs.Planes.{PlaneList, Start, from, unread, startOf}
+use Rattle.picture_rules.specs.Planes.{PlaneList, Start, from, startOf}
 use Rattle.picture_rules.specs.Samples.{Scene}
-use Rattle.picture_rules.specs.Sentences.{plane, layerBefore, Fine, AllFine}
+use Rattle.picture_rules.specs.Sentences.{plane, Fine, AllFine}
 
 -- ---- an entry of the layer
 

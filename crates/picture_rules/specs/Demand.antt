@@ -10,8 +10,6 @@ use mathlib.Core.Path.{_≡_}
 use mathlib.Core.Logic.{_↔_, _⊎_}
 use mathlib.Core.List.{List, [], _∷_, List·Memᴰ}
 use lib.ListN.{length, getD, take, drop}
-use Rattle.sheet_rules.specs.declared.Record.{Record}
-use Rattle.sheet_rules.specs.declared.Stripe.{Stripe}
 use Rattle.sheet_rules.specs.Sentences.{Coded}
 use Rattle.picture_rules.specs.declared.MainPos.{MainPos}
 use Rattle.picture_rules.specs.declared.Colour.{Colour}

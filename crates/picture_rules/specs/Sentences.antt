@@ -11,13 +11,11 @@
 use Prim.Native.Nat.{ℕ, zero, suc, _+_, _*_, _≤_, _<_}
 use mathlib.Core.Path.{_≡_}
 use mathlib.Core.Logic.{_⊎_}
-use mathlib.Core.Bool.{Bool, true, false}
+use mathlib.Core.Bool.{true, false}
 use mathlib.Core.List.{List}
 use lib.ListN.{length, getD}
 use Rattle.answers.specs.declared.Answer.{Answer}
 use Rattle.answers.specs.declared.Answer.the-variants.{Done, Short, BadMark, BadLength, BadVersion, BadMode, BadCoder, BadRes, BadWidth, BadType, BadStripe, BadLayer, Trailing, NoRoom, BadSheet, BadPlane, Mismatch, BadLine, TooLong}
-use Rattle.sheet_rules.specs.declared.Record.{Record}
-use Rattle.sheet_rules.specs.declared.Stripe.{Stripe}
 use Rattle.sheet_rules.specs.Record.{records, rest}
 use Rattle.sheet_rules.specs.Sentences.{Coded, Sheet, stripeCount, BadSheetAt}
 use Rattle.sheet_rules.specs.Stripe.{rowOf}
