@@ -4,10 +4,12 @@ use Prim.Native.Nat.{ℕ, _+_, _*_, _≤_, _<_}
 use native.Mathlib.Omega.{arith}
 use mathlib.Core.Path.{_≡_, refl, sym, ap, ap₂, subst, _∙_}
 use mathlib.Core.Logic.{_⊎_, inl, inr}
+use mathlib.Core.Bool.{false}
 use mathlib.Core.List.{List}
-use lib.ListN.{length, drop}
+use lib.ListN.{length, take, drop}
+use lib.Seq.{take-at}
 use lib.Dec.{ltb}
-use borrow.Author.Tests.{ltb-false}
+use borrow.Author.Tests.{ltb-false, le-ltb}
 use Rattle.cases.proofs.Cases.{cond-with, cond-both, clash}
 use Rattle.octets.specs.Octets.{putAt}
 use Rattle.octets.proofs.Laws.{put-rest, put-length}
@@ -47,6 +49,10 @@ four-tells v y x =
     one Unknown = inr (unknown-four Unknown refl)
 
 -- ---- a call that answers Done
+
+put-front : (e v : List ℕ) (n : ℕ) → length v ≡ n → take n (putAt e 0 v) ≡ v
+unfolding putAt
+put-front e v n h = take-at v (drop (0 + length v) e) n h
 
 pub record DoneLine (s : List ℕ) (pl : PlaneList) (d : List ℕ) (k y : ℕ) (out : List ℕ) (n : ℕ) : Type 0 where
   pub accepted : Accepted s
@@ -121,6 +127,28 @@ module _ (s : List ℕ) (pl : PlaneList) (d : List ℕ) (k y : ℕ) (out : List 
           cond-with (λ (z : List ℕ). length z ≡ length out) (ltb (length out) (widthOf v * 4)) (λ t. refl)
           (λ t. let f = ltb-false (length out) (widthOf v * 4) t in let l = length-line v y in put-length out 0 (linePixels v y) (omega arith))
       by (refuses a) = refl
+
+-- ---- a line does not hang on what the buffer held, nor on how much more it holds
+
+pub line-anywhere : (s : List ℕ) (pl : PlaneList) (d : List ℕ) (k y : ℕ) (out put : List ℕ) (n : ℕ) → lineOf s pl d k y (length out) ≡ Done n → n ≤ length put
+    → (lineOf s pl d k y (length put) ≡ Done n) × (take n (lineInto s pl d k y put) ≡ take n (lineInto s pl d k y out))
+unfolding lineOf lineAnswer lineInto lineHolds
+line-anywhere s pl d k y out put n q h =
+    let b = done-line s pl d k y out n q in
+    let v : Scene = sceneOf s pl d k in
+    let m = b .size in
+    let l = length-line v y in
+    let t : ltb (length put) (widthOf v * 4) ≡ false = le-ltb (length put) (widthOf v * 4) (omega arith) in
+    let i : lineInto s pl d k y put ≡ putAt put 0 (linePixels v y) = ap (lineHolds put y) (b .ruling) ∙ simp t in (
+      ap (lineAnswer (length put)) (b .ruling) ∙ simp t (ap Done (sym m)),
+      ap (take n) i ∙ front put ∙ sym (ap (take n) (b .into) ∙ front out),
+    )
+  where
+    front : (e : List ℕ) → take n (putAt e 0 (linePixels (sceneOf s pl d k) y)) ≡ linePixels (sceneOf s pl d k) y
+    front e =
+        let b = done-line s pl d k y out n q .size in
+        let l = length-line (sceneOf s pl d k) y in
+        put-front e (linePixels (sceneOf s pl d k) y) n (omega arith)
 
 -- ---- the promise determines the answer and the buffer
 

@@ -29,6 +29,13 @@ covers-ratio o n k p e =
     let b = c .1 in
     ⊎-elim (λ (z : k ≡ 0). let m : n * k ≡ 0 = ap (λ (j : ℕ). n * j) z ∙ mul-zero n in absurd (omega arith)) (λ (z : k ≡ 0 → ⊥). omega arith) (says-else (says-eq k 0))
 
+-- an area ends where no 32-bit sum overflows
+pub area-most : (o n k : ℕ) → o ≤ 65535 → n ≤ 65535 → k ≤ 12 → o + n * k ≤ 851955
+area-most o n k a b c =
+    let m : k * n ≤ 12 * n = mul-le-mul-right n c in
+    let e = mul-comm n k in
+    omega arith
+
 -- a covered place has its sample within the layer
 pub scale-within : (o n k : ℕ) (p : MainPos) → covers o n k p ≡ true → scale k o p .0 < n
 unfolding scale

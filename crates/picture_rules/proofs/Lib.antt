@@ -9,5 +9,6 @@ pub mod Demand3
 pub mod Exactly
 pub mod Pixels
 pub mod Highest
+pub mod Lists
 pub mod Starts
 pub mod More

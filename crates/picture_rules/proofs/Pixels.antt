@@ -1,10 +1,13 @@
 -- The pixels (a) to (j) of 01, "Pixels to prove": one table, one theorem. Each entry is a sheet's octets, a plane list's octets and samples, and the
 -- four octets due at a pixel, through the definitions that the line call's promise cites.
 -- Assumes nothing.
-use Prim.Native.Nat.{ℕ}
-use mathlib.Core.Path.{_≡_, refl}
+use Prim.Native.Nat.{ℕ, _+_, _-_, _*_, _<_, _≤_}
+use native.Mathlib.Omega.{arith}
+use mathlib.Core.Path.{_≡_, refl, sym, ap, _∙_}
 use mathlib.Core.List.{List, [], _∷_, _++_}
-use lib.ListN.{replicate}
+use lib.ListN.{length, take, drop, replicate}
+use lib.Dec.{lit<}
+use lib.Seq.{length-take-le, take-take, take-add, drop-at}
 use Rattle.octets.specs.Octets.{be16At, be32At, octets16, octets32, putAt}
 use Rattle.answers.specs.declared.Answer.the-variants.{Done}
 use Rattle.sheet_rules.specs.declared.Record.{Record}
@@ -17,6 +20,7 @@ use Rattle.picture_rules.specs.Planes.{planeAt, planesFrom, listOf}
 use Rattle.picture_rules.specs.Samples.{recordOf, maskAt, imageAt}
 use Rattle.picture_rules.specs.Place.{scale}
 use Rattle.picture_rules.specs.Line.{lineOf, lineInto}
+use Rattle.picture_rules.proofs.Demand3.{line-length, line-anywhere}
 use Rattle.picture_rules.specs.Demand.{fourAt, seenIn, unseenFour}
 
 -- line 0 of stripe 0, on a page 8 main pixels wide
@@ -28,11 +32,13 @@ pub record Pixel : Type 0 where
   pub x : ℕ
   pub due : List ℕ
 
+-- the sheet is accepted, and whatever buffer of 32 octets or more is lent, the call is done and leaves the octets due
 abbrev pub Holds : Pixel → Type 0
 Holds p =
     (judgeOf (p .sheet) ≡ Good (p .records) 1)
-    × (lineOf (p .sheet) (listOf (p .planes)) (p .samples) 0 0 32 ≡ Done 32)
-    × (fourAt (lineInto (p .sheet) (listOf (p .planes)) (p .samples) 0 0 (replicate 32 7)) (p .x) ≡ p .due)
+    × ((out : List ℕ) → 32 ≤ length out
+    → (lineOf (p .sheet) (listOf (p .planes)) (p .samples) 0 0 (length out) ≡ Done 32)
+    × (fourAt (lineInto (p .sheet) (listOf (p .planes)) (p .samples) 0 0 out) (p .x) ≡ p .due))
 
 abbrev pub Each : List Pixel → Type 0
 Each [] = Unit
@@ -185,12 +191,49 @@ abbrev pub table : List Pixel
 table =
     pixel-a ∷ pixel-b ∷ pixel-c ∷ pixel-d ∷ pixel-e ∷ pixel-f ∷ pixel-g ∷ pixel-h ∷ pixel-i ∷ pixel-j ∷ []
 
+-- ---- the theorem
+
 infixr 4 _&_
 abbrev _&_ : {A B : Type 0} → A → B → A × B
 a & b = (a, b)
 
+four-take : (e : List ℕ) (x n : ℕ) → x * 4 + 4 ≤ n → n ≤ length e → fourAt (take n e) x ≡ fourAt e x
+four-take e x n h l =
+    let z : x * 4 + (n - x * 4) ≡ n = omega arith in
+    ap (λ (i : ℕ). fourAt (take i e) x) (sym z)
+    ∙ ap (λ (u : List ℕ). fourAt u x) (take-add (x * 4) (n - x * 4) e)
+    ∙ ap (take 4) (drop-at (take (x * 4) e) (take (n - x * 4) (drop (x * 4) e)) (x * 4) (length-take-le (x * 4) e (omega arith)))
+    ∙ take-take 4 (n - x * 4) (drop (x * 4) e) (omega arith)
+
+-- from one buffer to every other
+entry-holds : (p : Pixel) → judgeOf (p .sheet) ≡ Good (p .records) 1
+    → lineOf (p .sheet) (listOf (p .planes)) (p .samples) 0 0 32 ≡ Done 32
+    → fourAt (lineInto (p .sheet) (listOf (p .planes)) (p .samples) 0 0 (replicate 32 7)) (p .x) ≡ p .due
+    → p .x < 8 → Holds p
+entry-holds p g q f h = (
+  g,
+  λ out l.
+      let one = line-anywhere (p .sheet) (listOf (p .planes)) (p .samples) 0 0 (replicate 32 7) out 32 q l in
+      let a = line-length (p .sheet) (listOf (p .planes)) (p .samples) 0 0 out in
+      let b = line-length (p .sheet) (listOf (p .planes)) (p .samples) 0 0 (replicate 32 7) in
+      let c : 32 ≤ length (lineInto (p .sheet) (listOf (p .planes)) (p .samples) 0 0 out) = omega arith in
+      let e : 32 ≤ length (lineInto (p .sheet) (listOf (p .planes)) (p .samples) 0 0 (replicate 32 7)) = omega arith in (
+        one .0,
+        sym (four-take _ (p .x) 32 (omega arith) c) ∙ ap (λ (u : List ℕ). fourAt u (p .x)) (one .1) ∙ four-take _ (p .x) 32 (omega arith) e ∙ f,
+      ),
+)
+
 pub pixels-hold : Each table
 unfolding octets16 octets32 sheetOf encode judgeOf judge walk onStep stepOf keeps after after1 after2 after3 endOf records recordsFrom recordAt be16At be32At lineOf lineInto putAt findStripe planeAt planesFrom recordOf maskAt imageAt scale
 pixels-hold =
-    (refl, refl, refl) & (refl, refl, refl) & (refl, refl, refl) & (refl, refl, refl) & (refl, refl, refl) & (refl, refl, refl) & (refl, refl, refl)
-    & (refl, refl, refl) & (refl, refl, refl) & (refl, refl, refl) & tt
+    entry-holds pixel-a refl refl refl (lit< tt)
+    & entry-holds pixel-b refl refl refl (lit< tt)
+    & entry-holds pixel-c refl refl refl (lit< tt)
+    & entry-holds pixel-d refl refl refl (lit< tt)
+    & entry-holds pixel-e refl refl refl (lit< tt)
+    & entry-holds pixel-f refl refl refl (lit< tt)
+    & entry-holds pixel-g refl refl refl (lit< tt)
+    & entry-holds pixel-h refl refl refl (lit< tt)
+    & entry-holds pixel-i refl refl refl (lit< tt)
+    & entry-holds pixel-j refl refl refl (lit< tt)
+    & tt

@@ -8,7 +8,7 @@ use mathlib.Core.Logic.{_⊎_, inl, inr, ⊎-elim}
 use mathlib.Core.Bool.{Bool, true, _||_, not}
 use mathlib.Core.List.{List}
 use lib.ListN.{length}
-use lib.Dec.{eqb, ltb}
+use lib.Dec.{eqb, ltb, lit<, lit≤}
 use borrow.Author.Tests.{lt-ltb, ltb-true, eq-eqb}
 use Rattle.cases.proofs.Cases.{cond-with, clash}
 use Rattle.cases.proofs.Says.{Says, says-eq, says-lt, says-or, says-else}
@@ -29,7 +29,7 @@ use Rattle.sheet_rules.proofs.Theorems.{sheet-accepted}
 use Rattle.sheet_rules.proofs.Table.{sheet-table, stripe-found, stripe-missing, layer-found}
 use Rattle.picture_rules.specs.Place.{ratio}
 use Rattle.picture_rules.specs.Planes.{PlaneList}
-use Rattle.picture_rules.specs.Samples.{Scene, recordOf, mainOf}
+use Rattle.picture_rules.specs.Samples.{Scene, recordOf, mainOf, widthOf}
 use Rattle.picture_rules.specs.Line.{Judged, fine, fault, planesJudged, shows, planeRuling, sceneRuling, stripeRuling, sheetRuling, rulingOf}
 
 -- the sheet is accepted, it has stripe k with line y, and the plane list is judged fine: the scene is of these octets, entries and samples
@@ -134,6 +134,17 @@ ratio-some q (inr (inr (inr (inl z)))) = omega arith
 ratio-some q (inr (inr (inr (inr (inl z))))) = omega arith
 ratio-some q (inr (inr (inr (inr (inr z))))) = omega arith
 
+pub ratio-most : (q : ℕ) → Ratio q → q ≤ 12
+ratio-most q (inl z) = omega arith
+ratio-most q (inr (inl z)) = omega arith
+ratio-most q (inr (inr (inl z))) = omega arith
+ratio-most q (inr (inr (inr (inl z)))) = omega arith
+ratio-most q (inr (inr (inr (inr (inl z))))) = omega arith
+ratio-most q (inr (inr (inr (inr (inr z))))) = omega arith
+
+pub listed-some : (n : ℕ) → Listed n → 0 < n
+listed-some n l = six (λ m. 0 < m) (lit< tt) (lit< tt) (lit< tt) (lit< tt) (lit< tt) (lit< tt) n l
+
 module _ {s : List ℕ} {pl : PlaneList} {d : List ℕ} {k y : ℕ} {v : Scene} (g : Stage s pl d k y v) where
   pub stage-sheet : Sheet (records s)
   stage-sheet = sheet-accepted s (g .records) (g .stripes) .0 (g .good) .sheet
@@ -194,3 +205,28 @@ module _ {s : List ℕ} {pl : PlaneList} {d : List ℕ} {k y : ℕ} {v : Scene} 
 
   pub scene-ratio-some : (l : ℕ) → 1 ≤ l → l ≤ v .row .layers → 0 < ratio (mainOf v) (recordOf v l)
   scene-ratio-some l a b = ratio-some (ratio (mainOf v) (recordOf v l)) (scene-ratio l a b .0)
+
+  pub scene-res : (l : ℕ) → 1 ≤ l → l ≤ v .row .layers → 0 < recordOf v l .res
+  scene-res l a b = listed-some (recordOf v l .res) (stage-sheet .unbroken .listed (recordOf v l) (stage-among l a b))
+
+  -- the page's width, and the stripe's height: those of layer 2
+  pub scene-width : (1 ≤ widthOf v) × (widthOf v ≤ 32768)
+  scene-width =
+      let c = stage-layers in
+      stage-sheet .unbroken .wide (recordOf v 2) (stage-among 2 (omega arith) (omega arith)) (stage-placed 2 (omega arith) (omega arith) .layer)
+
+  pub scene-height : v .row .height ≡ recordOf v 2 .height
+  unfolding records
+  scene-height =
+      let c = sheet-accepted s (g .records) (g .stripes) .0 (g .good) .stripes in
+      let h = stage-stripe in
+      let m = stage-layers in
+      let m1 = m .1 in
+      let two : 2 ≤ rowOf k (records s) .layers = subst (λ (row : Stripe). 2 ≤ row .layers) stage-row (omega arith) in
+      let i : ℕ = rowOf k (records s) .first + 1 in
+      let w = layer-found s (g .records) (g .stripes) (g .good) k 2 (lit≤ tt) two .3 in
+      let n = sheet-accepted s (g .records) (g .stripes) .0 (g .good) .count in
+      let z : 0 + i ≡ i = omega arith in
+      let l = length-records s (length s / recordSize) 0 in
+      let r : nth (records s) i ≡ recordOf v 2 = nth-records s (length s / recordSize) 0 i (omega arith) ∙ ap (recordAt s) z ∙ sym (stage-record 2) in
+      ap (λ (row : Stripe). row .height) stage-row ∙ sheet-table (records s) stage-sheet .height k (omega arith) ∙ ap (λ (x : Record). x .height) r
