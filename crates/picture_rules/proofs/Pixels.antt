@@ -23,22 +23,25 @@ use Rattle.picture_rules.specs.Line.{lineOf, lineInto}
 use Rattle.picture_rules.proofs.Demand3.{line-length, line-anywhere}
 use Rattle.picture_rules.specs.Demand.{fourAt, seenIn, unseenFour}
 
--- line 0 of stripe 0, on a page 8 main pixels wide
+-- a pixel of a page 8 main pixels wide
 pub record Pixel : Type 0 where
   pub sheet : List ℕ
   pub records : ℕ
+  pub stripes : ℕ
   pub planes : List ℕ
   pub samples : List ℕ
+  pub stripe : ℕ
+  pub line : ℕ
   pub x : ℕ
   pub due : List ℕ
 
 -- the sheet is accepted, and whatever buffer of 32 octets or more is lent, the call is done and leaves the octets due
 abbrev pub Holds : Pixel → Type 0
 Holds p =
-    (judgeOf (p .sheet) ≡ Good (p .records) 1)
+    (judgeOf (p .sheet) ≡ Good (p .records) (p .stripes))
     × ((out : List ℕ) → 32 ≤ length out
-    → (lineOf (p .sheet) (listOf (p .planes)) (p .samples) 0 0 (length out) ≡ Done 32)
-    × (fourAt (lineInto (p .sheet) (listOf (p .planes)) (p .samples) 0 0 out) (p .x) ≡ p .due))
+    → (lineOf (p .sheet) (listOf (p .planes)) (p .samples) (p .stripe) (p .line) (length out) ≡ Done 32)
+    × (fourAt (lineInto (p .sheet) (listOf (p .planes)) (p .samples) (p .stripe) (p .line) out) (p .x) ≡ p .due))
 
 abbrev pub Each : List Pixel → Type 0
 Each [] = Unit
@@ -106,10 +109,10 @@ abbrev pub sheet-ab : List ℕ
 sheet-ab = sheetOf (image 1 2 1 1 200 white ∷ noMask2 ∷ blankImage 3 black ∷ [])
 
 abbrev pub pixel-a : Pixel
-pixel-a = record { sheet = sheet-ab; records = 3; planes = entry 1 1; samples = 9 ∷ 10 ∷ 20 ∷ 30 ∷ []; x = 1; due = seenIn white }
+pixel-a = record { sheet = sheet-ab; records = 3; stripes = 1; planes = entry 1 1; samples = 9 ∷ 10 ∷ 20 ∷ 30 ∷ []; stripe = 0; line = 0; x = 1; due = seenIn white }
 
 abbrev pub pixel-b : Pixel
-pixel-b = record { sheet = sheet-ab; records = 3; planes = entry 1 1; samples = 9 ∷ 10 ∷ 20 ∷ 30 ∷ []; x = 3; due = 10 ∷ 20 ∷ 30 ∷ 1 ∷ [] }
+pixel-b = record { sheet = sheet-ab; records = 3; stripes = 1; planes = entry 1 1; samples = 9 ∷ 10 ∷ 20 ∷ 30 ∷ []; stripe = 0; line = 0; x = 3; due = 10 ∷ 20 ∷ 30 ∷ 1 ∷ [] }
 
 -- (c): mask 1, layer 3 uncoded and black
 abbrev pub pixel-c : Pixel
@@ -117,8 +120,11 @@ pixel-c =
     record {
       sheet = sheetOf (blankImage 1 white ∷ mask2 ∷ blankImage 3 black ∷ []);
       records = 3;
+      stripes = 1;
       planes = entry 2 0;
-      samples = replicate 5 0 ++ (1 ∷ replicate 10 0);
+      samples = replicate 13 0 ++ (1 ∷ replicate 2 0);
+      stripe = 0;
+      line = 1;
       x = 5;
       due = seenIn black;
     }
@@ -126,21 +132,21 @@ pixel-c =
 -- (d), (e): mask unread, layers 1 and 3 uncoded, both white; and white and black
 abbrev pub pixel-d : Pixel
 pixel-d =
-    record { sheet = sheetOf (blankImage 1 white ∷ mask2 ∷ blankImage 3 white ∷ []); records = 3; planes = []; samples = []; x = 5; due = seenIn white }
+    record { sheet = sheetOf (blankImage 1 white ∷ mask2 ∷ blankImage 3 white ∷ []); records = 3; stripes = 1; planes = []; samples = []; stripe = 0; line = 1; x = 5; due = seenIn white }
 
 abbrev pub pixel-e : Pixel
 pixel-e =
-    record { sheet = sheetOf (blankImage 1 white ∷ mask2 ∷ blankImage 3 black ∷ []); records = 3; planes = []; samples = []; x = 5; due = unseenFour }
+    record { sheet = sheetOf (blankImage 1 white ∷ mask2 ∷ blankImage 3 black ∷ []); records = 3; stripes = 1; planes = []; samples = []; stripe = 0; line = 1; x = 5; due = unseenFour }
 
 -- (f), (g): layer 3 unread, from main pixel 2 to 5, mask 1: inside, and outside
 abbrev pub sheet-fg : List ℕ
 sheet-fg = sheetOf (blankImage 1 white ∷ mask2 ∷ image 3 2 2 1 200 black ∷ [])
 
 abbrev pub pixel-f : Pixel
-pixel-f = record { sheet = sheet-fg; records = 3; planes = entry 2 0; samples = replicate 16 1; x = 5; due = unseenFour }
+pixel-f = record { sheet = sheet-fg; records = 3; stripes = 1; planes = entry 2 0; samples = replicate 16 1; stripe = 0; line = 1; x = 5; due = unseenFour }
 
 abbrev pub pixel-g : Pixel
-pixel-g = record { sheet = sheet-fg; records = 3; planes = entry 2 0; samples = replicate 16 1; x = 6; due = seenIn black }
+pixel-g = record { sheet = sheet-fg; records = 3; stripes = 1; planes = entry 2 0; samples = replicate 16 1; stripe = 0; line = 1; x = 6; due = seenIn black }
 
 -- (h): layer 1 unread, mask 4 is 1, layer 5 read
 abbrev pub pixel-h : Pixel
@@ -148,8 +154,11 @@ pixel-h =
     record {
       sheet = sheetOf (image 1 0 8 2 400 white ∷ noMask2 ∷ blankImage 3 black ∷ mask 4 1 4 1 200 ∷ image 5 0 2 1 100 black ∷ []);
       records = 5;
+      stripes = 1;
       planes = entry 4 0 ++ entry 5 4;
       samples = 0 ∷ 0 ∷ 255 ∷ 0 ∷ 11 ∷ 12 ∷ 13 ∷ 21 ∷ 22 ∷ 23 ∷ [];
+      stripe = 0;
+      line = 0;
       x = 5;
       due = 21 ∷ 22 ∷ 23 ∷ 1 ∷ [];
     }
@@ -166,23 +175,50 @@ pixel-i =
     record {
       sheet = sheetOf (two 1 ∷ mask2 ∷ two 3 ∷ twoBits 4 ∷ two 5 ∷ twoBits 6 ∷ two 7 ∷ twoBits 8 ∷ two 9 ∷ twoBits 10 ∷ two 11 ∷ twoBits 12 ∷ two 13 ∷ []);
       records = 13;
+      stripes = 1;
       planes = entry 1 0 ++ (entry 2 42 ++ (entry 3 6 ++ (entry 4 58 ++ (entry 5 12 ++ (entry 6 58 ++ (entry 7 18 ++ (entry 8 58 ++ (entry 9 24 ++ (entry 10 42 ++ (entry 11 30 ++ (entry 12 58 ++ entry 13 36)))))))))));
       samples =
           1 ∷ 1 ∷ 1 ∷ 1 ∷ 1 ∷ 1 ∷ 3 ∷ 3 ∷ 3 ∷ 3 ∷ 3 ∷ 3 ∷ 5 ∷ 5 ∷ 5 ∷ 5 ∷ 5 ∷ 5 ∷ 7 ∷ 7 ∷ 7 ∷ 7 ∷ 7 ∷ 7
           ∷ 9 ∷ 9 ∷ 9 ∷ 9 ∷ 9 ∷ 9 ∷ 11 ∷ 11 ∷ 11 ∷ 110 ∷ 111 ∷ 112 ∷ 13 ∷ 13 ∷ 13 ∷ 13 ∷ 13 ∷ 13
           ∷ replicate 16 1 ++ (0 ∷ 0 ∷ []);
+      stripe = 0;
+      line = 0;
       x = 6;
       due = 110 ∷ 111 ∷ 112 ∷ 1 ∷ [];
     }
 
--- (j): only layer 3 coded, read, inside
+-- the same record, of stripe 1
+abbrev below : Record → Record
+below r =
+    record {
+      stripe = 1;
+      layer = r .layer;
+      coder = r .coder;
+      x = r .x;
+      y = r .y;
+      width = r .width;
+      height = r .height;
+      res = r .res;
+      base0 = r .base0;
+      base1 = r .base1;
+      base2 = r .base2;
+      octet17 = 0;
+      start = r .start;
+      len = r .len;
+      octets26 = 0;
+    }
+
+-- (j): only layer 3 coded, read, inside; in the second of two stripes
 abbrev pub pixel-j : Pixel
 pixel-j =
     record {
-      sheet = sheetOf (blankImage 1 white ∷ noMask2 ∷ image 3 2 2 1 200 black ∷ []);
-      records = 3;
+      sheet = sheetOf (blankImage 1 white ∷ mask2 ∷ blankImage 3 black ∷ below (blankImage 1 white) ∷ below noMask2 ∷ below (image 3 2 2 1 200 black) ∷ []);
+      records = 6;
+      stripes = 2;
       planes = entry 3 0;
       samples = 31 ∷ 32 ∷ 33 ∷ 41 ∷ 42 ∷ 43 ∷ [];
+      stripe = 1;
+      line = 1;
       x = 4;
       due = 41 ∷ 42 ∷ 43 ∷ 1 ∷ [];
     }
@@ -206,18 +242,18 @@ four-take e x n h l =
     ∙ take-take 4 (n - x * 4) (drop (x * 4) e) (omega arith)
 
 -- from one buffer to every other
-entry-holds : (p : Pixel) → judgeOf (p .sheet) ≡ Good (p .records) 1
-    → lineOf (p .sheet) (listOf (p .planes)) (p .samples) 0 0 32 ≡ Done 32
-    → fourAt (lineInto (p .sheet) (listOf (p .planes)) (p .samples) 0 0 (replicate 32 7)) (p .x) ≡ p .due
+entry-holds : (p : Pixel) → judgeOf (p .sheet) ≡ Good (p .records) (p .stripes)
+    → lineOf (p .sheet) (listOf (p .planes)) (p .samples) (p .stripe) (p .line) 32 ≡ Done 32
+    → fourAt (lineInto (p .sheet) (listOf (p .planes)) (p .samples) (p .stripe) (p .line) (replicate 32 7)) (p .x) ≡ p .due
     → p .x < 8 → Holds p
 entry-holds p g q f h = (
   g,
   λ out l.
-      let one = line-anywhere (p .sheet) (listOf (p .planes)) (p .samples) 0 0 (replicate 32 7) out 32 q l in
-      let a = line-length (p .sheet) (listOf (p .planes)) (p .samples) 0 0 out in
-      let b = line-length (p .sheet) (listOf (p .planes)) (p .samples) 0 0 (replicate 32 7) in
-      let c : 32 ≤ length (lineInto (p .sheet) (listOf (p .planes)) (p .samples) 0 0 out) = omega arith in
-      let e : 32 ≤ length (lineInto (p .sheet) (listOf (p .planes)) (p .samples) 0 0 (replicate 32 7)) = omega arith in (
+      let one = line-anywhere (p .sheet) (listOf (p .planes)) (p .samples) (p .stripe) (p .line) (replicate 32 7) out 32 q l in
+      let a = line-length (p .sheet) (listOf (p .planes)) (p .samples) (p .stripe) (p .line) out in
+      let b = line-length (p .sheet) (listOf (p .planes)) (p .samples) (p .stripe) (p .line) (replicate 32 7) in
+      let c : 32 ≤ length (lineInto (p .sheet) (listOf (p .planes)) (p .samples) (p .stripe) (p .line) out) = omega arith in
+      let e : 32 ≤ length (lineInto (p .sheet) (listOf (p .planes)) (p .samples) (p .stripe) (p .line) (replicate 32 7)) = omega arith in (
         one .0,
         sym (four-take _ (p .x) 32 (omega arith) c) ∙ ap (λ (u : List ℕ). fourAt u (p .x)) (one .1) ∙ four-take _ (p .x) 32 (omega arith) e ∙ f,
       ),
