@@ -1,10 +1,12 @@
 -- Demand 3, as a statement about octets: what a line says of each pixel, without a word about how it is found.
 --
---   fourAt l x       the octets 4x to 4x + 3
---   seenIn c         the colour, and 1 for seen
---   Tells v y x four  four octets say what is seen of pixel x in line y: a colour if every possible content gives it, and else nothing
---   Shown ..         what a call that answers Done n was lent, and leaves: each pixel of the line, and the octets past it
---   Reread v w       all that was read in v was read in w, the same; AllRead v: every coded layer was read
+--   fourAt l x         the octets 4x to 4x + 3
+--   seenIn c           the colour, and 1 for seen; unseenFour: 0 0 0 0
+--   at x               the place x along a line, or down a stripe
+--   Tells v y x four   the four octets are what is seen of pixel x of line y: a colour if every possible content gives it, and else none
+--   Shown ..           what a call that answers Done n was lent, and what it leaves: each pixel of the line, and the octets past it
+--   Reread v w         all that was read in v was read in w, the same
+--   AllRead v          every coded layer of the stripe was read
 use Prim.Native.Nat.{ℕ, _+_, _*_, _<_, _≤_}
 use mathlib.Core.Path.{_≡_}
 use mathlib.Core.Logic.{_↔_, _⊎_}
