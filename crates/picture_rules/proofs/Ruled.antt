@@ -29,12 +29,12 @@ use Rattle.picture_rules.specs.Sentences.{Accepted, HasLine, sceneOf, pl
 
 -- ---- one entry, behind an entry of layer `last`
 
-abbrev Good-entry : Scene → ℕ → Plane → Type 0
-Good-entry v last p =
+abbrev GoodEntry : Scene → ℕ → Plane → Type 0
+GoodEntry v last p =
     (((last < p .layer) × (p .layer ≤ v .row .layers)) × Coded (recordOf v (p .layer)))
     × (p .start + planeSpan (recordOf v (p .layer)) ≤ length (v .samples))
 
-pub says-plane : (v : Scene) (last : ℕ) (p : Plane) → Says (planeOk v last p) (Good-entry v last p)
+pub says-plane : (v : Scene) (last : ℕ) (p : Plane) → Says (planeOk v last p) (GoodEntry v last p)
 unfolding planeOk
 says-plane v last p =
     says-and
@@ -47,7 +47,7 @@ before last ps zero = last
 before last ps (suc i) = plane ps i .layer
 
 abbrev FineAt : Scene → ℕ → List Plane → ℕ → Type 0
-FineAt v last ps i = Good-entry v (before last ps i) (plane ps i)
+FineAt v last ps i = GoodEntry v (before last ps i) (plane ps i)
 
 -- entry i of a list with one more in front
 later : (v : Scene) (last : ℕ) (p : Plane) (ps : List Plane) (i : ℕ) → FineAt v (p .layer) ps i → FineAt v last (p ∷ ps) (suc i)
@@ -58,12 +58,12 @@ sooner : (v : Scene) (last : ℕ) (p : Plane) (ps : List Plane) (i : ℕ) → Fi
 sooner v last p ps zero k = k
 sooner v last p ps (suc i) k = k
 
-record Breaks-at (v : Scene) (last : ℕ) (ps : List Plane) (i : ℕ) : Type 0 where
+record BreaksAt (v : Scene) (last : ℕ) (ps : List Plane) (i : ℕ) : Type 0 where
   within : i < length ps
   first : (j : ℕ) → j < i → FineAt v last ps j
   broken : FineAt v last ps i → ⊥
 
-all-more : (v : Scene) (last : ℕ) (p : Plane) (ps : List Plane) (n : ℕ) → Good-entry v last p → ((j : ℕ) → j < n → FineAt v (p .layer) ps j)
+all-more : (v : Scene) (last : ℕ) (p : Plane) (ps : List Plane) (n : ℕ) → GoodEntry v last p → ((j : ℕ) → j < n → FineAt v (p .layer) ps j)
     → (j : ℕ) → j < suc n → FineAt v last (p ∷ ps) j
 all-more v last p ps n k f zero h = k
 all-more v last p ps n k f (suc j) h = later v last p ps j (f j (omega arith))
@@ -72,7 +72,7 @@ all-more v last p ps n k f (suc j) h = later v last p ps j (f j (omega arith))
 module _ (v : Scene) (part : Bool) where
   planes-cases : (last i : ℕ) (ps : List Plane) (P : Judged → Type 0)
       → (((j : ℕ) → j < length ps → FineAt v last ps j) → part ≡ false → P fine)
-      → ((j : ℕ) → Breaks-at v last ps j → P (fault (i + j)))
+      → ((j : ℕ) → BreaksAt v last ps j → P (fault (i + j)))
       → (((j : ℕ) → j < length ps → FineAt v last ps j) → part ≡ true → P (fault (i + length ps)))
       → P (planesJudged v part last i ps)
   unfolding planesJudged

@@ -45,17 +45,17 @@ pub record Stage (s : List ℕ) (pl : PlaneList) (d : List ℕ) (k y : ℕ) (v :
   pub judged : planesJudged v (pl .part) 0 0 (v .planes) ≡ fine
 
 module _ (s : List ℕ) (pl : PlaneList) (d : List ℕ) (k y : ℕ) where
-  abbrev sceneOf : Stripe → Scene
-  sceneOf row = record { sheet = s; row = row; planes = pl .entries; samples = d }
+  abbrev staged : Stripe → Scene
+  staged row = record { sheet = s; row = row; planes = pl .entries; samples = d }
 
   pub shows-stage : (v : Scene) → rulingOf s pl d k y ≡ shows v → Stage s pl d k y v
   unfolding rulingOf sheetRuling stripeRuling sceneRuling
   shows-stage v = by (judgeOf s) refl
     where
       of-planes : (n m : ℕ) → judgeOf s ≡ Good n m → (row : Stripe) → findStripe s k ≡ Row row → y < row .height
-          → (j : Judged) → planesJudged (sceneOf row) (pl .part) 0 0 (pl .entries) ≡ j → planeRuling (sceneOf row) j ≡ shows v → Stage s pl d k y v
+          → (j : Judged) → planesJudged (staged row) (pl .part) 0 0 (pl .entries) ≡ j → planeRuling (staged row) j ≡ shows v → Stage s pl d k y v
       of-planes n m g row f l fine e q =
-          let z : sceneOf row ≡ v = cc in
+          let z : staged row ≡ v = cc in
           subst (Stage s pl d k y) z
           (record { records = n; stripes = m; good = g; found = f; line = l; sheet = refl; planes = refl; samples = refl; judged = e })
       of-planes n m g row f l (fault i) e q = clash cc
@@ -63,7 +63,7 @@ module _ (s : List ℕ) (pl : PlaneList) (d : List ℕ) (k y : ℕ) where
       of-stripe : (n m : ℕ) → judgeOf s ≡ Good n m → (x : FoundStripe) → findStripe s k ≡ x → stripeRuling s pl d y x ≡ shows v → Stage s pl d k y v
       of-stripe n m g (Row row) f =
           cond-with (λ x. x ≡ shows v → Stage s pl d k y v) (ltb y (row .height))
-          (λ t q. of-planes n m g row f (ltb-true y (row .height) t) (planesJudged (sceneOf row) (pl .part) 0 0 (pl .entries)) refl q)
+          (λ t q. of-planes n m g row f (ltb-true y (row .height) t) (planesJudged (staged row) (pl .part) 0 0 (pl .entries)) refl q)
           (λ t q. clash cc)
       of-stripe n m g NoStripe f = λ q. clash cc
 
@@ -74,8 +74,8 @@ module _ (s : List ℕ) (pl : PlaneList) (d : List ℕ) (k y : ℕ) where
   pub stage-shows : (v : Scene) → Stage s pl d k y v → rulingOf s pl d k y ≡ shows v
   unfolding rulingOf sheetRuling stripeRuling sceneRuling
   stage-shows v g =
-      let same : sceneOf (v .row) ≡ v = sym (λ i. record { sheet = g .sheet i; row = v .row; planes = g .planes i; samples = g .samples i }) in
-      let j : planesJudged (sceneOf (v .row)) (pl .part) 0 0 (pl .entries) ≡ fine =
+      let same : staged (v .row) ≡ v = sym (λ i. record { sheet = g .sheet i; row = v .row; planes = g .planes i; samples = g .samples i }) in
+      let j : planesJudged (staged (v .row)) (pl .part) 0 0 (pl .entries) ≡ fine =
       ap (λ (w : Scene). planesJudged w (pl .part) 0 0 (w .planes)) same ∙ g .judged in
       simp (g .good, g .found, lt-ltb y (v .row .height) (g .line), j) (ap shows same)
 
