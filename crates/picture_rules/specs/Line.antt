@@ -32,6 +32,8 @@ use Rattle.sheet_rules.specs.Judge.{coded, judgeOf, answerOf}
 use Rattle.sheet_rules.specs.Stripe.{findStripe}
 use Rattle.picture_rules.specs.declared.MainPos.{MainPos}
 use Rattle.picture_rules.specs.declared.Plane.{Plane}
+use Rattle.picture_rules.specs.declared.Judged.{Judged}
+use Rattle.picture_rules.specs.declared.Judged.the-variants.{Fine, Fault}
 use Rattle.picture_rules.specs.declared.Colour.{Colour}
 use Rattle.picture_rules.specs.declared.Sample.{Sample}
 use Rattle.picture_rules.specs.declared.Sample.the-variants.{Known, Unknown}
@@ -74,15 +76,11 @@ planeOk v last p =
     && coded (recordOf v (p .layer))
     && leb (p .start + planeSpan (recordOf v (p .layer))) (length (v .samples))
 
-pub data Judged : Type 0 where
-  fine : Judged
-  fault : ℕ → Judged
-
 -- entry i on, behind an entry of layer `last`
 unfoldable pub planesJudged : Scene → Bool → ℕ → ℕ → List Plane → Judged
 unfolding planeOk
-planesJudged v part last i [] = cond part (fault i) fine
-planesJudged v part last i (p ∷ ps) = cond (planeOk v last p) (planesJudged v part (p .layer) (i + 1) ps) (fault i)
+planesJudged v part last i [] = cond part (Fault i) Fine
+planesJudged v part last i (p ∷ ps) = cond (planeOk v last p) (planesJudged v part (p .layer) (i + 1) ps) (Fault i)
 
 -- ---- the call
 
@@ -91,8 +89,8 @@ pub data Ruling : Type 0 where
   refuses : Answer → Ruling
 
 abbrev pub planeRuling : Scene → Judged → Ruling
-planeRuling v fine = shows v
-planeRuling v (fault i) = refuses (BadPlane i)
+planeRuling v Fine = shows v
+planeRuling v (Fault i) = refuses (BadPlane i)
 
 -- no layer is listed before the first entry
 unfoldable pub sceneRuling : Scene → Bool → Ruling

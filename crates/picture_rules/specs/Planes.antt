@@ -5,7 +5,7 @@
 --   planesFrom s k i   so many entries from entry i on
 --   PlaneList          the entries, and whether a part entry stands behind them
 --   listOf s           the list of these octets; listed ps: the list of these entries, which has no part
---   Start, startOf     where a layer's samples start, or that it is unread
+--   startOf            where a layer's samples start, or that it is unread
 use Prim.Native.Nat.{ℕ, zero, suc, _+_, _*_, _/_, _%_}
 use mathlib.Core.Bool.{Bool, false, not, cond}
 use mathlib.Core.List.{List, [], _∷_}
@@ -13,6 +13,8 @@ use lib.ListN.{length, getD}
 use lib.Dec.{eqb}
 use Rattle.octets.specs.Octets.{be32At}
 use Rattle.picture_rules.specs.declared.Plane.{Plane}
+use Rattle.picture_rules.specs.declared.Start.{Start}
+use Rattle.picture_rules.specs.declared.Start.the-variants.{From, Unread}
 
 abbrev pub planeSize : ℕ
 planeSize = 5
@@ -34,10 +36,6 @@ listOf s = record { entries = planesFrom s (length s / planeSize) 0; part = not 
 abbrev pub listed : List Plane → PlaneList
 listed ps = record { entries = ps; part = false }
 
-pub data Start : Type 0 where
-  from : ℕ → Start
-  unread : Start
-
 unfoldable pub startOf : List Plane → ℕ → Start
-startOf [] l = unread
-startOf (p ∷ ps) l = cond (eqb (p .layer) l) (from (p .start)) (startOf ps l)
+startOf [] l = Unread
+startOf (p ∷ ps) l = cond (eqb (p .layer) l) (From (p .start)) (startOf ps l)

@@ -20,13 +20,15 @@ use Rattle.sheet_rules.specs.Record.{recordAt}
 use Rattle.sheet_rules.specs.Judge.{coded}
 use Rattle.picture_rules.specs.declared.MainPos.{MainPos}
 use Rattle.picture_rules.specs.declared.Plane.{Plane}
+use Rattle.picture_rules.specs.declared.Start.{Start}
+use Rattle.picture_rules.specs.declared.Start.the-variants.{From, Unread}
 use Rattle.picture_rules.specs.declared.Colour.{Colour}
 use Rattle.picture_rules.specs.declared.Sample.{Sample}
 use Rattle.picture_rules.specs.declared.Sample.the-variants.{Known, Unknown}
 use Rattle.picture_rules.specs.declared.Mask.{Mask}
 use Rattle.picture_rules.specs.declared.Mask.the-variants.{Zero, One, Hidden}
 use Rattle.picture_rules.specs.Place.{inside, alongOf, downOf}
-use Rattle.picture_rules.specs.Planes.{Start, from, unread, startOf}
+use Rattle.picture_rules.specs.Planes.{startOf}
 
 pub record Scene : Type 0 where
   pub sheet : List ℕ
@@ -64,12 +66,12 @@ virtual v l = cond (eqb l 2 && coded (recordOf v 3)) One Zero
 -- one octet a sample in a mask, three in an image layer
 unfoldable pub maskRead : List ℕ → Start → ℕ → Mask
 unfolding bitOf
-maskRead d (from a) i = bitOf (getD d (a + i) 0)
-maskRead d unread i = Hidden
+maskRead d (From a) i = bitOf (getD d (a + i) 0)
+maskRead d Unread i = Hidden
 
 unfoldable pub imageRead : List ℕ → Start → ℕ → Sample
-imageRead d (from a) i = Known (colourAt d (a + i * 3))
-imageRead d unread i = Unknown
+imageRead d (From a) i = Known (colourAt d (a + i * 3))
+imageRead d Unread i = Unknown
 
 unfoldable pub maskAt : Scene → ℕ → MainPos → MainPos → Mask
 unfolding virtual maskRead startOf inside indexOf

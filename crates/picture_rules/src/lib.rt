@@ -1,10 +1,10 @@
 // The types of a picture: places, samples and the plane list. Its definitions stand in specs/, the theorems about them in proofs/.
 
 // A place along a line or down a stripe, in main mask pixels from the stripe's corner.
-pub struct MainPos(pub u32);
+pub struct MainPos(pub usize);
 
 // A place along or down a layer, in its own samples from the layer's corner. Only the scaling step makes one of a place in main mask pixels.
-pub struct SamplePos(pub u32);
+pub struct SamplePos(pub usize);
 
 // Three CIELAB code octets, carried as they stand.
 pub struct Colour {
@@ -31,4 +31,16 @@ pub enum Mask {
 pub struct Plane {
     pub layer: u8,
     pub start: u32,
+}
+
+// Where a layer's samples start in the sample buffer, or that it is unread.
+pub enum Start {
+    From(u32),
+    Unread,
+}
+
+// A plane list judged: fine, or the entry at fault.
+pub enum Judged {
+    Fine,
+    Fault(u32),
 }

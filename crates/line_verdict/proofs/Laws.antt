@@ -1,0 +1,200 @@
+-- One law for each way out of the functions of a line's verdict: its premises are what is known there.
+-- Assumes nothing.
+use Prim.Native.Nat.{ℕ, zero, suc, _+_, _-_, _*_, _/_, _%_, _≤_, _<_}
+use native.Mathlib.Omega.{arith}
+use native.Mathlib.Nat.{mul-le-mul}
+use mathlib.Core.Path.{_≡_, refl, sym, ap, ap₂, subst, _∙_}
+use mathlib.Core.Logic.{_≢_, ⊎-elim}
+use Rattle.cases.proofs.Cases.{clash}
+use Rattle.cases.proofs.Says.{says-lt, says-else}
+use mathlib.Core.Bool.{Bool, true, false, _&&_, not, cond}
+use mathlib.Core.List.{List, [], _∷_}
+use lib.ListN.{length}
+use lib.Dec.{eqb, leb, ltb}
+use borrow.Author.Tests.{eq-eqb, ne-eqb, lt-ltb, le-ltb, le-leb, lt-leb}
+use borrow.Author.Needs.{needs}
+use Rattle.answers.specs.declared.Answer.{Answer}
+use Rattle.answers.specs.declared.Answer.the-variants.{BadSheet, BadPlane, BadLine}
+use Rattle.sheet_rules.specs.declared.Record.{Record}
+use Rattle.sheet_rules.specs.declared.Stripe.{Stripe}
+use Rattle.sheet_rules.specs.declared.FoundStripe.{FoundStripe}
+use Rattle.sheet_rules.specs.declared.FoundStripe.the-variants.{Row, NoStripe}
+use Rattle.sheet_rules.specs.declared.Verdict.{Verdict}
+use Rattle.sheet_rules.specs.declared.Verdict.the-variants.{Good, Bad}
+use Rattle.sheet_rules.specs.Record.{recordSize, recordAt, records}
+use Rattle.sheet_rules.specs.Judge.{coded, judgeOf, answerOf}
+use Rattle.sheet_rules.specs.Stripe.{rowOf, findStripe}
+use Rattle.sheet_rules.proofs.Theorems.{sheet-accepted, refused-few, sheet-few}
+use Rattle.sheet_rules.proofs.Table.{sheet-table, stripe-found, stripe-missing, layer-found}
+use Rattle.picture_rules.specs.declared.Plane.{Plane}
+use Rattle.picture_rules.specs.declared.Judged.{Judged}
+use Rattle.picture_rules.specs.declared.Judged.the-variants.{Fine, Fault}
+use Rattle.picture_rules.specs.Planes.{PlaneList}
+use Rattle.picture_rules.specs.Samples.{Scene, recordOf}
+use Rattle.picture_rules.specs.Line.{depth, planeSpan, planeOk, planesJudged, Ruling, shows, refuses, planeRuling, sceneRuling, stripeRuling, sheetRuling, rulingOf}
+use Rattle.plane.specs.declared.Listing.{Listing}
+use Rattle.plane.specs.Listing.{entryOf, entriesFrom, entriesOf}
+use Rattle.line_verdict.specs.declared.Ruled.{Ruled}
+use Rattle.line_verdict.specs.declared.Ruled.the-variants.{Shows, Refuses}
+use Rattle.line_verdict.specs.Ruled.{bareScene, listFrom, lineRuling, ruledOf, Whole, Accepted}
+
+-- ---- the span of a plane
+
+pub product-small : (w h : ℕ) → w < 65536 → h < 65536 → w * h < 4294967296
+product-small w h a b = let p : w ≤ 65535 = omega arith in let q : h ≤ 65535 = omega arith in let m : w * h ≤ 65535 * 65535 = mul-le-mul p q in omega arith
+
+module _ (width height l w h : ℕ) (ew : w ≡ width) (a : w < 65536) (eh : h ≡ height) (b : h < 65536) where
+  pub span-mask : l % 2 ≡ 0 → (w * h ≡ width * height * depth l) × (w * h < 17179869184)
+  span-mask e =
+      let m = product-small w h a b in
+      let d : depth l ≡ 1 = ap (λ t. cond t 1 3) (eq-eqb (l % 2) 0 e) in
+      (let z : w * h ≡ w * h * 1 = omega arith in z ∙ ap₂ (λ (i j : ℕ). i * j * 1) ew eh ∙ ap (λ (n : ℕ). width * height * n) (sym d), omega arith)
+
+  pub span-image : l % 2 ≢ 0 → (w * h * 3 ≡ width * height * depth l) × (w * h * 3 < 17179869184)
+  span-image e =
+      let m = product-small w h a b in
+      let d : depth l ≡ 3 = ap (λ t. cond t 1 3) (ne-eqb (l % 2) 0 e) in
+      (ap₂ (λ (i j : ℕ). i * j * 3) ew eh ∙ ap (λ (n : ℕ). width * height * n) (sym d), omega arith)
+
+-- ---- an entry
+
+module _ (p : Plane) (r : Record) (room : ℕ) where
+  pub within-uncoded : r .len ≡ 0 → false ≡ coded r && leb (p .start + planeSpan r) room
+  within-uncoded e = simp (eq-eqb (r .len) 0 e)
+
+  pub within-coded : (n : ℕ) → r .len ≢ 0 → n ≡ r .width * r .height * depth (r .layer) → leb (p .start + n) room ≡ coded r && leb (p .start + planeSpan r) room
+  unfolding planeSpan
+  within-coded n d e = simp (ne-eqb (r .len) 0 d, e)
+
+module _ (s : List ℕ) (row : Stripe) (d : List ℕ) (last : ℕ) (p : Plane) where
+  pub plane-low : p .layer ≤ last → false ≡ planeOk (bareScene s row d) last p
+  unfolding planeOk
+  plane-low h = simp (le-ltb last (p .layer) h)
+
+  pub plane-absent : last < p .layer → row .layers < p .layer → false ≡ planeOk (bareScene s row d) last p
+  unfolding planeOk
+  plane-absent h k = simp (lt-ltb last (p .layer) h, lt-leb (p .layer) (row .layers) k)
+
+  pub plane-there : (r : Record) (b : Bool) → last < p .layer → p .layer ≤ row .layers → r ≡ recordAt s (row .first + (p .layer - 1))
+      → b ≡ coded r && leb (p .start + planeSpan r) (length d) → b ≡ planeOk (bareScene s row d) last p
+  unfolding planeOk recordOf
+  plane-there r b h k e f = simp (lt-ltb last (p .layer) h, le-leb (p .layer) (row .layers) k, f, e)
+
+  pub plane-place : Whole s row → last < p .layer → p .layer ≤ row .layers → row .first + (p .layer - 1) < length s / recordSize
+  plane-place w h k = let r = w .records in omega arith
+
+-- ---- the loop over the entries: the judgement of the whole list is that of what is left
+
+pub record Judging (s : List ℕ) (row : Stripe) (d : List ℕ) (t : Listing) (part : Bool) (n last i : ℕ) : Type 0 where
+  pub within : i ≤ n
+  pub few : n ≤ 16
+  pub all : n ≡ t .count
+  pub left : planesJudged (bareScene s row d) part 0 0 (entriesOf t) ≡ planesJudged (bareScene s row d) part last i (entriesFrom t (n - i) i)
+
+module _ (s : List ℕ) (row : Stripe) (d : List ℕ) (t : Listing) (part : Bool) (n : ℕ) where
+  pub judging-none : t .count ≤ 16 → n ≡ t .count → Judging s row d t part n 0 0
+  unfolding entriesOf
+  judging-none h e = record { within = omega arith; few = omega arith; all = e; left = let z : t .count - 0 ≡ t .count = omega arith in rw (e, z) refl }
+
+  next-entry : (i : ℕ) → i < n → entriesFrom t (n - i) i ≡ entryOf t i ∷ entriesFrom t (n - (i + 1)) (i + 1)
+  unfolding entriesFrom
+  next-entry i h = let e : n - i ≡ suc (n - (i + 1)) = omega arith in rw e
+
+  module _ (p : Plane) (b : Bool) (last i : ℕ) (g : Judging s row d t part n last i) (h : i < n) (e : p ≡ entryOf t i) (k : b ≡ planeOk (bareScene s row d) last p) where
+    opened : planesJudged (bareScene s row d) part 0 0 (entriesOf t) ≡ cond b (planesJudged (bareScene s row d) part (p .layer) (i + 1) (entriesFrom t (n - (i + 1)) (i + 1))) (Fault i)
+    unfolding planesJudged
+    opened =
+        g .left ∙ ap (planesJudged (bareScene s row d) part last i) (next-entry i h)
+        ∙ rw (k, e) refl
+
+    pub judging-more : b ≡ true → Judging s row d t part n (p .layer) (i + 1)
+    judging-more z = record { within = omega arith; few = g .few; all = g .all; left = opened ∙ rw z refl }
+
+    pub judging-fault : b ≡ false → Fault i ≡ planesJudged (bareScene s row d) part 0 0 (entriesOf t)
+    judging-fault z = sym (opened ∙ rw z refl)
+
+  pub judging-part : (last i : ℕ) → Judging s row d t part n last i → n ≤ i → part ≡ true → Fault n ≡ planesJudged (bareScene s row d) part 0 0 (entriesOf t)
+  unfolding planesJudged entriesFrom
+  judging-part last i g h z = let a = g .within in let q : i ≡ n = omega arith in let e : n - n ≡ 0 = omega arith in sym (g .left ∙ rw (q, e, z) refl)
+
+  pub judging-fine : (last i : ℕ) → Judging s row d t part n last i → n ≤ i → part ≡ false → Fine ≡ planesJudged (bareScene s row d) part 0 0 (entriesOf t)
+  unfolding planesJudged entriesFrom
+  judging-fine last i g h z = let a = g .within in let q : i ≡ n = omega arith in let e : n - n ≡ 0 = omega arith in sym (g .left ∙ rw (q, e, z) refl)
+
+-- ---- the ruling on a line, on a stripe, on a sheet
+
+module _ (s : List ℕ) (pl : PlaneList) (d : List ℕ) (y : ℕ) where
+  -- an entry is judged without a look at the list
+  bare : (row : Stripe) (part : Bool) (last i : ℕ) (ps qs : List Plane)
+      → planesJudged (record { sheet = s; row = row; planes = qs; samples = d }) part last i ps ≡ planesJudged (bareScene s row d) part last i ps
+  unfolding planesJudged planeOk recordOf
+  bare row part last i [] qs = refl
+  bare row part last i (p ∷ ps) qs =
+      ap (λ j. cond (planeOk (bareScene s row d) last p) j (Fault i)) (bare row part (p .layer) (i + 1) ps qs)
+
+  pub line-past : (row : Stripe) → row .height ≤ y → Refuses BadLine ≡ ruledOf (lineRuling s pl d y row)
+  unfolding ruledOf stripeRuling
+  line-past row h = simp (le-ltb y (row .height) h)
+
+  module _ (row : Stripe) (h : y < row .height) where
+    on-line : (j : Judged) → j ≡ planesJudged (bareScene s row d) (pl .part) 0 0 (pl .entries)
+        → planeRuling (record { sheet = s; row = row; planes = pl .entries; samples = d }) j ≡ lineRuling s pl d y row
+    unfolding stripeRuling sceneRuling
+    on-line j e = rw (lt-ltb y (row .height) h) (ap (planeRuling (record { sheet = s; row = row; planes = pl .entries; samples = d })) (e ∙ sym (bare row (pl .part) 0 0 (pl .entries) (pl .entries))))
+
+    pub line-fine : (j : Judged) → j ≡ planesJudged (bareScene s row d) (pl .part) 0 0 (pl .entries) → j ≡ Fine → Shows row ≡ ruledOf (lineRuling s pl d y row)
+    unfolding ruledOf
+    line-fine j e z = ap ruledOf (rw z at (on-line j e))
+
+    pub line-fault : (j : Judged) (i : ℕ) → j ≡ planesJudged (bareScene s row d) (pl .part) 0 0 (pl .entries) → j ≡ Fault i
+        → Refuses (BadPlane i) ≡ ruledOf (lineRuling s pl d y row)
+    unfolding ruledOf
+    line-fault j i e z = ap ruledOf (rw z at (on-line j e))
+
+module _ (s : List ℕ) (pl : PlaneList) (d : List ℕ) (k y : ℕ) where
+  good-ruling : Accepted s → rulingOf s pl d k y ≡ stripeRuling s pl d y (findStripe s k)
+  unfolding rulingOf sheetRuling
+  good-ruling g = rw (g .good) refl
+
+  pub stripe-none : (f : FoundStripe) → Accepted s → f ≡ findStripe s k → f ≡ NoStripe → Refuses BadLine ≡ ruledOf (rulingOf s pl d k y)
+  unfolding ruledOf stripeRuling
+  stripe-none f g e z = sym (ap ruledOf (good-ruling g ∙ ap (stripeRuling s pl d y) (sym e ∙ z)))
+
+  pub stripe-row : (f : FoundStripe) (row : Stripe) (r : Ruled) → Accepted s → f ≡ findStripe s k → f ≡ Row row → r ≡ ruledOf (lineRuling s pl d y row)
+      → r ≡ ruledOf (rulingOf s pl d k y)
+  stripe-row f row r g e z q = q ∙ ap ruledOf (sym (good-ruling g ∙ ap (stripeRuling s pl d y) (sym e ∙ z)))
+
+  pub sheet-bad : (v : Verdict) (i : ℕ) → v ≡ judgeOf s → v ≡ Bad i → Refuses (BadSheet i) ≡ ruledOf (rulingOf s pl d k y)
+  unfolding ruledOf rulingOf sheetRuling answerOf
+  sheet-bad v i e z = rw (← e, z) refl
+
+pub sheet-good : (s : List ℕ) (v : Verdict) (n m : ℕ) → v ≡ judgeOf s → v ≡ Good n m → Accepted s
+sheet-good s v n m e z = record { records = n; stripes = m; good = sym e ∙ z }
+
+-- a stripe that is found has its records in the sheet
+pub found-whole : (s : List ℕ) (k : ℕ) (f : FoundStripe) (row : Stripe) → Accepted s → f ≡ findStripe s k → f ≡ Row row → Whole s row
+found-whole s k f row g e z = ⊎-elim in-sheet past (says-else (says-lt k (g .stripes)))
+  where
+    in-sheet : k < g .stripes → Whole s row
+    in-sheet h =
+        let q : row ≡ rowOf k (records s) = let w = stripe-found s (g .records) (g .stripes) (g .good) k h in cc in
+        let n = sheet-few s (g .records) (g .stripes) (g .good) .3 in
+        let z = sheet-accepted s (g .records) (g .stripes) .0 (g .good) in
+        let st = z .stripes in
+        let c = sheet-table (records s) (z .sheet) .layers k (omega arith) in
+        let l = layer-found s (g .records) (g .stripes) (g .good) k (rowOf k (records s) .layers) (omega arith) (omega arith) .3 in
+        subst (Whole s) (sym q) (record { records = omega arith })
+
+    past : (k < g .stripes → ⊥) → Whole s row
+    past h = let w = stripe-missing s (g .records) (g .stripes) (g .good) k (omega arith) in clash cc
+
+pub fault-small : (s : List ℕ) (v : Verdict) (i : ℕ) → v ≡ judgeOf s → v ≡ Bad i → i < 4294967296
+fault-small s v i e z = let f = refused-few s i (sym e ∙ z) .0 in omega arith
+
+pub ruleset ruling = (needs, line-past, line-fine, line-fault, stripe-none, stripe-row, sheet-good, sheet-bad, found-whole, fault-small)
+
+pub ruleset spanning = (needs, product-small, span-mask, span-image, within-uncoded, within-coded)
+
+pub ruleset entering = (needs, plane-low, plane-absent, plane-there, plane-place)
+
+pub ruleset judging = (needs, judging-none, judging-more, judging-fault, judging-part, judging-fine)

@@ -1,0 +1,12 @@
+use Rattle.pixel.proofs.Laws.{rows}
+use Rattle.pixel.proofs.bit_of.Statement.{statement}
+use Rattle.pixel.proofs.bit_of.Tie as tie
+
+returns : tie.Need-returns
+returns c = search rows
+
+returns-2 : tie.Need-returns-2
+returns-2 c = search rows
+
+pub bit-of-spec : {M : Type 1} → statement M
+bit-of-spec = tie.close (tie.spec returns returns-2)

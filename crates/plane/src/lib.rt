@@ -1,0 +1,100 @@
+// The plane list as parallel numbers by value, and that list made from the octets that C lends.
+ghost use mathlib.Core.Path.{_≡_};
+ghost use Prim.Native.Nat.{_<_, _≤_, _/_};
+ghost use lib.ListN.{length};
+ghost use Rattle.picture_rules.specs.Planes.{planeSize, planeAt, startOf};
+ghost use Rattle.plane.specs.Listing.{noPlanes, withPlane, listingOf, entryOf, entriesOf};
+use picture_rules::Plane;
+use picture_rules::Start;
+
+// How many octets an entry from C has: the layer, and four of start.
+pub const PLANE_SIZE: usize = 5;
+
+// The first sixteen entries of a plane list, layers and starts in parallel. Layers rise from 1 to at most 15, so that a list of sixteen entries has a
+// fault within them, and the rest is not looked at.
+pub struct Listing {
+    pub count: usize,
+    pub layers: [u8; 16],
+    pub starts: [u32; 16],
+}
+
+pub fn no_planes() -> Listing
+    ensures { λ r. ⌜ r ≡ noPlanes ⌝ }
+{
+    Listing {
+        count: 0,
+        layers: [0; 16],
+        starts: [0; 16],
+    }
+}
+
+// One entry more, behind those before.
+pub fn with_plane(t: Listing, p: Plane) -> Listing
+    ensures { λ r. ⌜ r ≡ withPlane t p ⌝ }
+{
+    let i = t.count;
+    if i < 16 {
+        let mut n = t;
+        n.count = i + 1;
+        n.layers[i] = p.layer;
+        n.starts[i] = p.start;
+        return n;
+    }
+    t
+}
+
+pub fn plane_at(s: &[u8], i: usize) -> Plane
+    requires { ⌜ i < length (now s) / planeSize ⌝ }
+    ensures { λ r. ⌜ r ≡ planeAt (now (s .entry)) i ⌝ }
+{
+    let at = i * PLANE_SIZE;
+    Plane {
+        layer: s[at],
+        start: octets::be32(s, at + 1),
+    }
+}
+
+// The whole entries of a list from C.
+pub fn listing_of(s: &[u8]) -> Listing
+    ensures { λ r. ⌜ r ≡ listingOf (now (s .entry)) ⌝ }
+{
+    let n = s.len() / PLANE_SIZE;
+    let mut t = no_planes();
+    let mut i: usize = 0;
+    while i < n {
+        if t.count == 16 {
+            return t;
+        }
+        t = with_plane(t, plane_at(s, i));
+        i += 1;
+    }
+    t
+}
+
+// Entry i of a list as parallel numbers.
+pub fn entry_at(t: Listing, i: usize) -> Plane
+    requires { ⌜ i < 16 ⌝ }
+    ensures { λ p. ⌜ p ≡ entryOf t i ⌝ }
+{
+    Plane {
+        layer: t.layers[i],
+        start: t.starts[i],
+    }
+}
+
+// Where a layer's samples start, if it was read. A list has few entries, and they are looked through once a line.
+pub fn start_of(t: Listing, layer: u8) -> Start
+    requires { ⌜ t .count ≤ 16 ⌝ }
+    ensures { λ r. ⌜ r ≡ startOf (entriesOf t) layer ⌝ }
+{
+    let n = t.count;
+    let mut i: usize = 0;
+    while i < n {
+        let p = entry_at(t, i);
+        if p.layer == layer {
+            return Start::From(p.start);
+        }
+        i += 1;
+    }
+    Start::Unread
+}
