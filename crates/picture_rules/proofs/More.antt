@@ -19,7 +19,9 @@ use Rattle.picture_rules.specs.declared.Sample.the-variants.{Known, Unkn
 use Rattle.picture_rules.specs.declared.Mask.{Mask}
 use Rattle.picture_rules.specs.declared.Mask.the-variants.{Zero, One, Hidden}
 use Rattle.picture_rules.specs.Place.{inside}
-use Rattle.picture_rules.specs.Planes.{PlaneList, Start, from, unread, startOf}
+use Rattle.picture_rules.specs.declared.Start.{Start}
+use Rattle.picture_rules.specs.declared.Start.the-variants.{From, Unread}
+use Rattle.picture_rules.specs.Planes.{PlaneList, startOf}
 use Rattle.picture_rules.specs.Samples.{Scene, recordOf, mainOf, widthOf, indexOf, bitOf, virtual, maskRead, imageRead, maskAt, imageAt}
 use Rattle.picture_rules.specs.Decide.{sameColour, agree, pairStep, Stack, decide, stackAt, pairsOf, pixelAt}
 use Rattle.picture_rules.specs.Line.{unseen, fourOf, planeSpan, lineOf, lineInto}
@@ -93,14 +95,14 @@ module _ (s : List ℕ) (k y : ℕ) (pl qm : PlaneList) (d e : List ℕ) (g : St
   new = sceneOf s qm e k
 
   -- a start in the first list has one in the second, and the octets from there are the same
-  again-start : (l a : ℕ) → startOf (pl .entries) l ≡ from a
-      → (b : ℕ) × (startOf (qm .entries) l ≡ from b) × ((i : ℕ) → i < planeSpan (recordOf old l) → getD e (b + i) 0 ≡ getD d (a + i) 0)
+  again-start : (l a : ℕ) → startOf (pl .entries) l ≡ From a
+      → (b : ℕ) × (startOf (qm .entries) l ≡ From b) × ((i : ℕ) → i < planeSpan (recordOf old l) → getD e (b + i) 0 ≡ getD d (a + i) 0)
   again-start l a f =
       let n = start-among (pl .entries) l a f in
       let r = again (n .p) (n .among) in
       let q : Plane = r .0 in (
         q .start,
-        subst (λ (j : ℕ). startOf (qm .entries) j ≡ from (q .start)) (r .2 ∙ n .layer) (start-entry new qm fine q (r .1)),
+        subst (λ (j : ℕ). startOf (qm .entries) j ≡ From (q .start)) (r .2 ∙ n .layer) (start-entry new qm fine q (r .1)),
         λ i h.
             r .3 i (subst (λ (j : ℕ). i < planeSpan (recordOf old j)) (sym (n .layer)) h)
             ∙ ap (λ (j : ℕ). getD d (j + i) 0) (n .start),
@@ -108,15 +110,15 @@ module _ (s : List ℕ) (k y : ℕ) (pl qm : PlaneList) (d e : List ℕ) (g : St
 
   mask-read : (l i : ℕ) → i < planeSpan (recordOf old l) → (z : Start) → startOf (pl .entries) l ≡ z → MaskGrows (maskRead d z i) (maskRead e (startOf (qm .entries) l) i)
   unfolding maskRead
-  mask-read l i h (from a) f =
+  mask-read l i h (From a) f =
       let r = again-start l a f in
       let same : maskRead e (startOf (qm .entries) l) i ≡ bitOf (getD d (a + i) 0) = ap (λ (x : Start). maskRead e x i) (r .1) ∙ ap bitOf (r .2 i h) in
       subst (MaskGrows (bitOf (getD d (a + i) 0))) (sym same) (mask-self (bitOf (getD d (a + i) 0)))
-  mask-read l i h unread f = tt
+  mask-read l i h Unread f = tt
 
   image-read : (l i : ℕ) → i * 3 + 3 ≤ planeSpan (recordOf old l) → (z : Start) → startOf (pl .entries) l ≡ z → ImageGrows (imageRead d z i) (imageRead e (startOf (qm .entries) l) i)
   unfolding imageRead
-  image-read l i h (from a) f =
+  image-read l i h (From a) f =
       let r = again-start l a f in
       let b : ℕ = r .0 in
       let o : (j : ℕ) → j < 3 → getD e (b + i * 3 + j) 0 ≡ getD d (a + i * 3 + j) 0 =
@@ -130,7 +132,7 @@ module _ (s : List ℕ) (k y : ℕ) (pl qm : PlaneList) (d e : List ℕ) (g : St
       let c1 = o 1 (omega arith) in
       let c2 = o 2 (omega arith) in
       ap (λ (x : Start). imageRead e x i) (r .1) ∙ ap Known (λ t. record { c0 = c0 t; c1 = c1 t; c2 = c2 t })
-  image-read l i h unread f = tt
+  image-read l i h Unread f = tt
 
   module _ (x z : MainPos) where
     mask-grows : (l : ℕ) → 1 ≤ l → l ≤ old .row .layers → l % 2 ≡ 0 → MaskGrows (maskAt old l x z) (maskAt new l x z)
@@ -217,10 +219,10 @@ known-all s (suc n) m i =
     (i (suc n) (omega arith))
 
 module _ (v : Scene) (all : AllRead v) (x z : MainPos) where
-  read-start : (l : ℕ) → 1 ≤ l → l ≤ v .row .layers → coded (recordOf v l) ≡ true → (a : ℕ) × (startOf (v .planes) l ≡ from a)
+  read-start : (l : ℕ) → 1 ≤ l → l ≤ v .row .layers → coded (recordOf v l) ≡ true → (a : ℕ) × (startOf (v .planes) l ≡ From a)
   read-start l a b t =
       let p = all l a b (says-not (says-eq (recordOf v l .len) 0) .told t) in
-      subst (λ (j : ℕ). (c : ℕ) × (startOf (v .planes) j ≡ from c)) (p .2) (start-some (v .planes) (p .0) (p .1))
+      subst (λ (j : ℕ). (c : ℕ) × (startOf (v .planes) j ≡ From c)) (p .2) (start-some (v .planes) (p .0) (p .1))
 
   bit-is : (n : ℕ) → IsBit (bitOf n)
   unfolding bitOf

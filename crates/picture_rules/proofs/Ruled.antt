@@ -22,10 +22,12 @@ use Rattle.sheet_rules.specs.Stripe.{rowOf, findStripe}
 use Rattle.sheet_rules.proofs.Theorems.{sheet-accepted, sheet-refused}
 use Rattle.sheet_rules.proofs.Table.{stripe-found, stripe-missing}
 use Rattle.picture_rules.specs.declared.Plane.{Plane}
+use Rattle.picture_rules.specs.declared.Judged.{Judged}
+use Rattle.picture_rules.specs.declared.Judged.the-variants.{Fine, Fault}
 use Rattle.picture_rules.specs.Planes.{PlaneList}
 use Rattle.picture_rules.specs.Samples.{Scene, recordOf}
-use Rattle.picture_rules.specs.Line.{planeSpan, planeOk, Judged, fine, fault, planesJudged, Ruling, shows, refuses, planeRuling, sceneRuling, stripeRuling, sheetRuling, rulingOf}
-use Rattle.picture_rules.specs.Sentences.{Accepted, HasLine, sceneOf, plane, Fine, AllFine, PlaneAt}
+use Rattle.picture_rules.specs.Line.{planeSpan, planeOk, planesJudged, Ruling, shows, refuses, planeRuling, sceneRuling, stripeRuling, sheetRuling, rulingOf}
+use Rattle.picture_rules.specs.Sentences.{Accepted, HasLine, sceneOf, plane, FineEntry, AllFine, PlaneAt}
 
 -- ---- one entry, behind an entry of layer `last`
 
@@ -71,14 +73,14 @@ all-more v last p ps n k f (suc j) h = later v last p ps j (f j (omega arith))
 -- the list is fine where every entry is and no part follows; else it is at fault at the first that is not, or at the part
 module _ (v : Scene) (part : Bool) where
   planes-cases : (last i : ℕ) (ps : List Plane) (P : Judged → Type 0)
-      → (((j : ℕ) → j < length ps → FineAt v last ps j) → part ≡ false → P fine)
-      → ((j : ℕ) → BreaksAt v last ps j → P (fault (i + j)))
-      → (((j : ℕ) → j < length ps → FineAt v last ps j) → part ≡ true → P (fault (i + length ps)))
+      → (((j : ℕ) → j < length ps → FineAt v last ps j) → part ≡ false → P Fine)
+      → ((j : ℕ) → BreaksAt v last ps j → P (Fault (i + j)))
+      → (((j : ℕ) → j < length ps → FineAt v last ps j) → part ≡ true → P (Fault (i + length ps)))
       → P (planesJudged v part last i ps)
   unfolding planesJudged
   planes-cases last i [] P good bad stop =
       let z : i + 0 ≡ i = omega arith in
-      cond-with P part (λ t. subst (λ (n : ℕ). P (fault n)) z (stop (λ j h. absurd (omega arith)) t)) (λ t. good (λ j h. absurd (omega arith)) t)
+      cond-with P part (λ t. subst (λ (n : ℕ). P (Fault n)) z (stop (λ j h. absurd (omega arith)) t)) (λ t. good (λ j h. absurd (omega arith)) t)
   planes-cases last i (p ∷ ps) P good bad stop =
       cond-with P (planeOk v last p)
       (λ t.
@@ -88,38 +90,38 @@ module _ (v : Scene) (part : Bool) where
       (λ j b.
       let z : i + suc j ≡ i + 1 + j = omega arith in
       let w = b .within in
-      subst (λ (n : ℕ). P (fault n)) z
+      subst (λ (n : ℕ). P (Fault n)) z
       (bad (suc j) (record { within = omega arith; first = all-more v last p ps j k (b .first); broken = λ q. b .broken (sooner v last p ps j q) })))
       (λ f n.
       let z : i + suc (length ps) ≡ i + 1 + length ps = omega arith in
-      subst (λ (m : ℕ). P (fault m)) z (stop (all-more v last p ps (length ps) k f) n)))
+      subst (λ (m : ℕ). P (Fault m)) z (stop (all-more v last p ps (length ps) k f) n)))
       (λ t.
       let z : i + 0 ≡ i = omega arith in
-      subst (λ (n : ℕ). P (fault n)) z
+      subst (λ (n : ℕ). P (Fault n)) z
       (bad 0 (record { within = omega arith; first = λ j h. absurd (omega arith); broken = λ k. false≢true (sym t ∙ says-plane v last p .shown k) })))
 
 -- ---- the same in the words of the sentences
 
-fine-in : (v : Scene) (ps : List Plane) (i : ℕ) → FineAt v 0 ps i → Fine v ps i
+fine-in : (v : Scene) (ps : List Plane) (i : ℕ) → FineAt v 0 ps i → FineEntry v ps i
 fine-in v ps zero k = record { rises = k .0 .0 .0; present = k .0 .0 .1; coded = k .0 .1; within = k .1 }
 fine-in v ps (suc i) k = record { rises = k .0 .0 .0; present = k .0 .0 .1; coded = k .0 .1; within = k .1 }
 
-fine-out : (v : Scene) (ps : List Plane) (i : ℕ) → Fine v ps i → FineAt v 0 ps i
+fine-out : (v : Scene) (ps : List Plane) (i : ℕ) → FineEntry v ps i → FineAt v 0 ps i
 fine-out v ps zero k = (((k .rises, k .present), k .coded), k .within)
 fine-out v ps (suc i) k = (((k .rises, k .present), k .coded), k .within)
 
-pub planes-answers : (v : Scene) (pl : PlaneList) (P : Judged → Type 0) → (AllFine v pl → P fine) → ((i : ℕ) → PlaneAt v pl i → P (fault i))
+pub planes-answers : (v : Scene) (pl : PlaneList) (P : Judged → Type 0) → (AllFine v pl → P Fine) → ((i : ℕ) → PlaneAt v pl i → P (Fault i))
     → P (planesJudged v (pl .part) 0 0 (pl .entries))
 planes-answers v pl P good bad =
     planes-cases v (pl .part) 0 0 (pl .entries) P
     (λ f n. good (record { entries = λ i h. fine-in v (pl .entries) i (f i h); whole = n }))
     (λ j b.
     let z : j ≡ 0 + j = omega arith in
-    subst (λ (n : ℕ). P (fault n)) z
+    subst (λ (n : ℕ). P (Fault n)) z
     (bad j (inl (record { within = b .within; before = λ i h. fine-in v (pl .entries) i (b .first i h); broken = λ k. b .broken (fine-out v (pl .entries) j k) }))))
     (λ f n.
     let z : length (pl .entries) ≡ 0 + length (pl .entries) = omega arith in
-    subst (λ (m : ℕ). P (fault m)) z (bad (length (pl .entries)) (inr (record { due = refl; before = λ i h. fine-in v (pl .entries) i (f i h); part = n }))))
+    subst (λ (m : ℕ). P (Fault m)) z (bad (length (pl .entries)) (inr (record { due = refl; before = λ i h. fine-in v (pl .entries) i (f i h); part = n }))))
 
 -- one entry is at fault at most, and none where all are fine
 pub plane-once : (v : Scene) (pl : PlaneList) (i j : ℕ) → PlaneAt v pl i → PlaneAt v pl j → i ≡ j

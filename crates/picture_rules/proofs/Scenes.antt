@@ -28,9 +28,11 @@ use Rattle.sheet_rules.proofs.Rows.{LayerCount}
 use Rattle.sheet_rules.proofs.Theorems.{sheet-accepted}
 use Rattle.sheet_rules.proofs.Table.{sheet-table, stripe-found, stripe-missing, layer-found}
 use Rattle.picture_rules.specs.Place.{ratio}
+use Rattle.picture_rules.specs.declared.Judged.{Judged}
+use Rattle.picture_rules.specs.declared.Judged.the-variants.{Fine, Fault}
 use Rattle.picture_rules.specs.Planes.{PlaneList}
 use Rattle.picture_rules.specs.Samples.{Scene, recordOf, mainOf, widthOf}
-use Rattle.picture_rules.specs.Line.{Judged, fine, fault, planesJudged, shows, planeRuling, sceneRuling, stripeRuling, sheetRuling, rulingOf}
+use Rattle.picture_rules.specs.Line.{planesJudged, shows, planeRuling, sceneRuling, stripeRuling, sheetRuling, rulingOf}
 
 -- the sheet is accepted, it has stripe k with line y, and the plane list is judged fine: the scene is of these octets, entries and samples
 pub record Stage (s : List ℕ) (pl : PlaneList) (d : List ℕ) (k y : ℕ) (v : Scene) : Type 0 where
@@ -42,7 +44,7 @@ pub record Stage (s : List ℕ) (pl : PlaneList) (d : List ℕ) (k y : ℕ) (v :
   pub sheet : v .sheet ≡ s
   pub planes : v .planes ≡ pl .entries
   pub samples : v .samples ≡ d
-  pub judged : planesJudged v (pl .part) 0 0 (v .planes) ≡ fine
+  pub judged : planesJudged v (pl .part) 0 0 (v .planes) ≡ Fine
 
 module _ (s : List ℕ) (pl : PlaneList) (d : List ℕ) (k y : ℕ) where
   abbrev staged : Stripe → Scene
@@ -54,11 +56,11 @@ module _ (s : List ℕ) (pl : PlaneList) (d : List ℕ) (k y : ℕ) where
     where
       of-planes : (n m : ℕ) → judgeOf s ≡ Good n m → (row : Stripe) → findStripe s k ≡ Row row → y < row .height
           → (j : Judged) → planesJudged (staged row) (pl .part) 0 0 (pl .entries) ≡ j → planeRuling (staged row) j ≡ shows v → Stage s pl d k y v
-      of-planes n m g row f l fine e q =
+      of-planes n m g row f l Fine e q =
           let z : staged row ≡ v = cc in
           subst (Stage s pl d k y) z
           (record { records = n; stripes = m; good = g; found = f; line = l; sheet = refl; planes = refl; samples = refl; judged = e })
-      of-planes n m g row f l (fault i) e q = clash cc
+      of-planes n m g row f l (Fault i) e q = clash cc
 
       of-stripe : (n m : ℕ) → judgeOf s ≡ Good n m → (x : FoundStripe) → findStripe s k ≡ x → stripeRuling s pl d y x ≡ shows v → Stage s pl d k y v
       of-stripe n m g (Row row) f =
@@ -75,7 +77,7 @@ module _ (s : List ℕ) (pl : PlaneList) (d : List ℕ) (k y : ℕ) where
   unfolding rulingOf sheetRuling stripeRuling sceneRuling
   stage-shows v g =
       let same : staged (v .row) ≡ v = sym (λ i. record { sheet = g .sheet i; row = v .row; planes = g .planes i; samples = g .samples i }) in
-      let j : planesJudged (staged (v .row)) (pl .part) 0 0 (pl .entries) ≡ fine =
+      let j : planesJudged (staged (v .row)) (pl .part) 0 0 (pl .entries) ≡ Fine =
       ap (λ (w : Scene). planesJudged w (pl .part) 0 0 (w .planes)) same ∙ g .judged in
       simp (g .good, g .found, lt-ltb y (v .row .height) (g .line), j) (ap shows same)
 

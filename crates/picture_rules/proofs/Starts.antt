@@ -11,9 +11,11 @@ use lib.Dec.{eqb}
 use borrow.Author.Tests.{eqb-true, eq-eqb, ne-eqb}
 use Rattle.cases.proofs.Cases.{cond-with, clash}
 use Rattle.picture_rules.specs.declared.Plane.{Plane}
-use Rattle.picture_rules.specs.Planes.{PlaneList, Start, from, startOf}
+use Rattle.picture_rules.specs.declared.Start.{Start}
+use Rattle.picture_rules.specs.declared.Start.the-variants.{From}
+use Rattle.picture_rules.specs.Planes.{PlaneList, startOf}
 use Rattle.picture_rules.specs.Samples.{Scene}
-use Rattle.picture_rules.specs.Sentences.{plane, Fine, AllFine}
+use Rattle.picture_rules.specs.Sentences.{plane, FineEntry, AllFine}
 
 -- ---- an entry of the layer
 
@@ -27,20 +29,20 @@ entry-more : (q : Plane) (ps : List Plane) (l a : ℕ) → Entry ps l a → Entr
 entry-more q ps l a e = record { p = e .p; among = List·Memᴰ·tail (e .among); layer = e .layer; start = e .start }
 
 -- a start that is found is that of an entry of the layer
-pub start-among : (ps : List Plane) (l a : ℕ) → startOf ps l ≡ from a → Entry ps l a
+pub start-among : (ps : List Plane) (l a : ℕ) → startOf ps l ≡ From a → Entry ps l a
 unfolding startOf
 start-among [] l a = λ e. clash cc
 start-among (q ∷ ps) l a =
-    cond-with (λ (x : Start). x ≡ from a → Entry (q ∷ ps) l a) (eqb (q .layer) l)
+    cond-with (λ (x : Start). x ≡ From a → Entry (q ∷ ps) l a) (eqb (q .layer) l)
     (λ t e. let z : q .start ≡ a = cc in record { p = q; among = List·Memᴰ·head refl; layer = eqb-true (q .layer) l t; start = z })
     (λ t e. entry-more q ps l a (start-among ps l a e))
 
 -- a layer that is listed has a start
-pub start-some : (ps : List Plane) (p : Plane) → List·Memᴰ p ps → (a : ℕ) × (startOf ps (p .layer) ≡ from a)
+pub start-some : (ps : List Plane) (p : Plane) → List·Memᴰ p ps → (a : ℕ) × (startOf ps (p .layer) ≡ From a)
 unfolding startOf
 start-some [] p m = absurd (List·Memᴰ·not-nil m)
 start-some (q ∷ ps) p m =
-    cond-with (λ (x : Start). (a : ℕ) × (x ≡ from a)) (eqb (q .layer) (p .layer))
+    cond-with (λ (x : Start). (a : ℕ) × (x ≡ From a)) (eqb (q .layer) (p .layer))
     (λ t. (q .start, refl))
     (λ t.
     ⊎-elim (λ (e : p ≡ q). let z = eq-eqb (q .layer) (p .layer) (ap (λ (r : Plane). r .layer) (sym e)) in clash cc) (λ (k : List·Memᴰ p ps). start-some ps p k)
@@ -60,17 +62,17 @@ rises-above (q ∷ ps) last p r m =
     (List·Memᴰ·cases-cons m)
 
 -- each layer once: an entry's layer starts where the entry says
-rises-start : (ps : List Plane) (last : ℕ) (p : Plane) → Rises last ps → List·Memᴰ p ps → startOf ps (p .layer) ≡ from (p .start)
+rises-start : (ps : List Plane) (last : ℕ) (p : Plane) → Rises last ps → List·Memᴰ p ps → startOf ps (p .layer) ≡ From (p .start)
 unfolding startOf
 rises-start [] last p r m = absurd (List·Memᴰ·not-nil m)
 rises-start (q ∷ ps) last p r m =
     ⊎-elim
     (λ (e : p ≡ q).
     let z = eq-eqb (q .layer) (p .layer) (ap (λ (x : Plane). x .layer) (sym e)) in
-    ap (λ (b : Bool). cond b (from (q .start)) (startOf ps (p .layer))) z ∙ ap (λ (x : Plane). from (x .start)) (sym e))
+    ap (λ (b : Bool). cond b (From (q .start)) (startOf ps (p .layer))) z ∙ ap (λ (x : Plane). From (x .start)) (sym e))
     (λ (k : List·Memᴰ p ps).
     let h = rises-above ps (q .layer) p (r .1) k in
-    ap (λ (b : Bool). cond b (from (q .start)) (startOf ps (p .layer))) (ne-eqb (q .layer) (p .layer) (λ z. omega arith)) ∙ rises-start ps (q .layer) p (r .1) k)
+    ap (λ (b : Bool). cond b (From (q .start)) (startOf ps (p .layer))) (ne-eqb (q .layer) (p .layer) (λ z. omega arith)) ∙ rises-start ps (q .layer) p (r .1) k)
     (List·Memᴰ·cases-cons m)
 
 -- each entry is above the one before it
@@ -86,9 +88,9 @@ rises-from (p ∷ ps) last f = (f 0 (omega arith), rises-from ps (p .layer) (λ 
     next zero h = f 1 (omega arith)
     next (suc i) h = f (suc (suc i)) (omega arith)
 
-fine-last : (v : Scene) (ps : List Plane) (i : ℕ) → Fine v ps i → lastOf 0 ps i < plane ps i .layer
+fine-last : (v : Scene) (ps : List Plane) (i : ℕ) → FineEntry v ps i → lastOf 0 ps i < plane ps i .layer
 fine-last v ps zero k = k .rises
 fine-last v ps (suc i) k = k .rises
 
-pub start-entry : (v : Scene) (pl : PlaneList) → AllFine v pl → (p : Plane) → List·Memᴰ p (pl .entries) → startOf (pl .entries) (p .layer) ≡ from (p .start)
+pub start-entry : (v : Scene) (pl : PlaneList) → AllFine v pl → (p : Plane) → List·Memᴰ p (pl .entries) → startOf (pl .entries) (p .layer) ≡ From (p .start)
 start-entry v pl f p m = rises-start (pl .entries) 0 p (rises-from (pl .entries) 0 (λ i h. fine-last v (pl .entries) i (f .entries i h))) m

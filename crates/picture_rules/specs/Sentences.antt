@@ -4,7 +4,7 @@
 --   HasLine s k y       the sheet has a stripe k, and that a line y
 --   sceneOf s pl d k    stripe k of the sheet, the entries of the plane list, and the samples
 --   layerBefore ps i    the layer of the entry before entry i; 0 before the first
---   Fine v ps i         entry i: its layer is above the one before it, present and coded, and its samples lie within the buffer
+--   FineEntry v ps i    entry i: its layer is above the one before it, present and coded, and its samples lie within the buffer
 --   PlaneAt v pl i      the entry at fault: the first that is not fine, or a part entry behind fine ones
 --   AllFine v pl        no entry is at fault
 --   Gives .. room a     the call answers a, where the buffer holds so many octets
@@ -44,26 +44,26 @@ abbrev pub layerBefore : List Plane → ℕ → ℕ
 layerBefore ps zero = 0
 layerBefore ps (suc i) = plane ps i .layer
 
-pub record Fine (v : Scene) (ps : List Plane) (i : ℕ) : Type 0 where
+pub record FineEntry (v : Scene) (ps : List Plane) (i : ℕ) : Type 0 where
   pub rises : layerBefore ps i < plane ps i .layer
   pub present : plane ps i .layer ≤ v .row .layers
   pub coded : Coded (recordOf v (plane ps i .layer))
   pub within : plane ps i .start + planeSpan (recordOf v (plane ps i .layer)) ≤ length (v .samples)
 
 pub record AllFine (v : Scene) (pl : PlaneList) : Type 0 where
-  pub entries : (i : ℕ) → i < length (pl .entries) → Fine v (pl .entries) i
+  pub entries : (i : ℕ) → i < length (pl .entries) → FineEntry v (pl .entries) i
   pub whole : pl .part ≡ false
 
 -- the first entry that is not fine
 pub record PlaneBreaks (v : Scene) (ps : List Plane) (i : ℕ) : Type 0 where
   pub within : i < length ps
-  pub before : (j : ℕ) → j < i → Fine v ps j
-  pub broken : Fine v ps i → ⊥
+  pub before : (j : ℕ) → j < i → FineEntry v ps j
+  pub broken : FineEntry v ps i → ⊥
 
 -- all are fine, and a part entry follows
 pub record PlaneStops (v : Scene) (pl : PlaneList) (i : ℕ) : Type 0 where
   pub due : i ≡ length (pl .entries)
-  pub before : (j : ℕ) → j < length (pl .entries) → Fine v (pl .entries) j
+  pub before : (j : ℕ) → j < length (pl .entries) → FineEntry v (pl .entries) j
   pub part : pl .part ≡ true
 
 abbrev pub PlaneAt : Scene → PlaneList → ℕ → Type 0
