@@ -11,4 +11,5 @@ pub mod Pixels
 pub mod Highest
 pub mod Lists
 pub mod Starts
+pub mod Within
 pub mod More
