@@ -3,7 +3,7 @@
 -- Assumes nothing.
 use Prim.Native.Nat.{ℕ, zero, suc, _+_, _*_, _<_}
 use native.Mathlib.Omega.{arith}
-use mathlib.Core.Path.{_≡_, refl, sym, ap, _∙_}
+use mathlib.Core.Path.{_≡_, refl, sym, ap, subst, _∙_}
 use mathlib.Core.Logic.{_↔_}
 use mathlib.Core.Bool.{Bool, true, false, cond}
 use lib.Dec.{eqb, lit<}
@@ -183,7 +183,8 @@ module _ (Can : ℕ → Colour → Type 0) (x y : ℕ → Colour) (can-x : (l : 
     known-in : (c : Colour) → pixelAt v p q ≡ Known c → SeenAsIn Can v p q c
     unfolding pixelAt colourUnder
     known-in c e w can =
-        rw e at (allows (λ l. maskAt v l p q) (λ l. imageAt v l p q)
+        subst (λ (r : Sample). Allows r (colourUnder v w p q)) e
+        (allows (λ l. maskAt v l p q) (λ l. imageAt v l p q)
         (λ l. w .bit l (alongOf (mainOf v) (recordOf v l) p) (downOf (mainOf v) (recordOf v l) q))
         (λ l. w .colour l (alongOf (mainOf v) (recordOf v l) p) (downOf (mainOf v) (recordOf v l) q))
         (pairsOf v))
