@@ -4,3 +4,5 @@ pub mod Samples
 pub mod Decide
 pub mod Content
 pub mod Line
+pub mod Sentences
+pub mod Demand

@@ -1,0 +1,99 @@
+-- The laws of division: the one step from main mask pixels to a layer's samples, and a layer's area.
+-- Assumes nothing.
+use Prim.Native.Nat.{ℕ, _+_, _-_, _*_, _/_, _%_, _≤_, _<_}
+use native.Mathlib.Nat.{div-lt-iff-lt-mul, div-one, div-eq-of-lt-le, mul-le-mul-right, add-mul, one-mul, mul-comm, mul-zero}
+use native.Mathlib.Omega.{arith}
+use mathlib.Core.Path.{_≡_, ap, _∙_}
+use mathlib.Core.Logic.{⊎-elim}
+use mathlib.Core.Bool.{Bool, true, cond}
+use borrow.Author.Tests.{eq-eqb, ne-eqb}
+use Rattle.cases.proofs.Says.{Says, says-le, says-lt, says-and, says-eq, says-else}
+use Rattle.sheet_rules.specs.declared.Record.{Record}
+use Rattle.picture_rules.specs.declared.MainPos.{MainPos}
+use Rattle.picture_rules.specs.declared.SamplePos.{SamplePos}
+use Rattle.picture_rules.specs.Place.{ratio, scale, covers, inside, alongOf, downOf}
+use Rattle.picture_rules.specs.Samples.{indexOf}
+use Rattle.picture_rules.specs.Line.{depth, planeSpan}
+
+-- ---- along one side
+
+pub says-covers : (o n k : ℕ) (p : MainPos) → Says (covers o n k p) ((o ≤ p .0) × (p .0 < o + n * k))
+unfolding covers
+says-covers o n k p = says-and (says-le o (p .0)) (says-lt (p .0) (o + n * k))
+
+-- nothing is covered by samples of no main pixel
+pub covers-ratio : (o n k : ℕ) (p : MainPos) → covers o n k p ≡ true → 0 < k
+covers-ratio o n k p e =
+    let c = says-covers o n k p .told e in
+    let a = c .0 in
+    let b = c .1 in
+    ⊎-elim (λ (z : k ≡ 0). let m : n * k ≡ 0 = ap (λ (j : ℕ). n * j) z ∙ mul-zero n in absurd (omega arith)) (λ (z : k ≡ 0 → ⊥). omega arith) (says-else (says-eq k 0))
+
+-- an area ends where no 32-bit sum overflows
+pub area-most : (o n k : ℕ) → o ≤ 65535 → n ≤ 65535 → k ≤ 12 → o + n * k ≤ 851955
+area-most o n k a b c =
+    let m : k * n ≤ 12 * n = mul-le-mul-right n c in
+    let e = mul-comm n k in
+    omega arith
+
+-- a covered place has its sample within the layer
+pub scale-within : (o n k : ℕ) (p : MainPos) → covers o n k p ≡ true → scale k o p .0 < n
+unfolding scale
+scale-within o n k p e =
+    let c = says-covers o n k p .told e in
+    let a = c .0 in
+    let b = c .1 in
+    div-lt-iff-lt-mul (covers-ratio o n k p e) .1 (omega arith)
+
+-- at the main resolution only the offset is taken away
+pub scale-one : (o : ℕ) (p : MainPos) → scale 1 o p ≡ record { 0 = p .0 - o }
+unfolding scale
+scale-one o p = ap (λ (i : ℕ). let q : SamplePos = record { 0 = i } in q) (div-one (p .0 - o))
+
+-- the k main pixels from the offset plus i times k on have sample i
+pub scale-block : (k o i j : ℕ) → j < k → scale k o (record { 0 = o + (i * k + j) }) ≡ record { 0 = i }
+unfolding scale
+scale-block k o i j h =
+    let z : o + (i * k + j) - o ≡ i * k + j = omega arith in
+    let m : (i + 1) * k ≡ i * k + k = add-mul i 1 k ∙ ap (λ (n : ℕ). i * k + n) (one-mul k) in
+    let d : (i * k + j) / k ≡ i = div-eq-of-lt-le k (omega arith) (omega arith) in
+    ap (λ (n : ℕ). let q : SamplePos = record { 0 = n } in q) (ap (λ (n : ℕ). n / k) z ∙ d)
+
+-- ---- in a layer's area
+
+pub says-inside : (main : ℕ) (r : Record) (x y : MainPos) → Says (inside main r x y) ((covers (r .x) (r .width) (ratio main r) x ≡ true) × (covers (r .y) (r .height) (ratio main r) y ≡ true))
+unfolding inside
+says-inside main r x y = says-and (record { told = λ e. e; shown = λ e. e }) (record { told = λ e. e; shown = λ e. e })
+
+-- sample i of row j, of rows of w samples
+pub index-below : (w h i j : ℕ) → i < w → j < h → j * w + i < w * h
+index-below w h i j a b =
+    let m : (j + 1) * w ≡ j * w + w = add-mul j 1 w ∙ ap (λ (n : ℕ). j * w + n) (one-mul w) in
+    let c : (j + 1) * w ≤ h * w = mul-le-mul-right w (omega arith) in
+    let d = mul-comm h w in
+    omega arith
+
+pub index-within : (main : ℕ) (r : Record) (x y : MainPos) → inside main r x y ≡ true → indexOf main r x y < r .width * r .height
+unfolding indexOf
+index-within main r x y e =
+    let c = says-inside main r x y .told e in
+    index-below (r .width) (r .height) (alongOf main r x .0) (downOf main r y .0)
+    (scale-within (r .x) (r .width) (ratio main r) x (c .0))
+    (scale-within (r .y) (r .height) (ratio main r) y (c .1))
+
+-- ---- in a layer's octets
+
+pub span-mask : (r : Record) → r .layer % 2 ≡ 0 → planeSpan r ≡ r .width * r .height
+unfolding planeSpan
+span-mask r e = let d : depth (r .layer) ≡ 1 = ap (λ (b : Bool). cond b 1 3) (eq-eqb (r .layer % 2) 0 e) in ap (λ (n : ℕ). r .width * r .height * n) d ∙ omega arith
+
+pub span-image : (r : Record) → r .layer % 2 ≡ 1 → planeSpan r ≡ r .width * r .height * 3
+unfolding planeSpan
+span-image r e = let d : depth (r .layer) ≡ 3 = ap (λ (b : Bool). cond b 1 3) (ne-eqb (r .layer % 2) 0 (λ z. omega arith)) in ap (λ (n : ℕ). r .width * r .height * n) d
+
+-- a mask's octet, and an image layer's three, lie within the layer's octets
+pub mask-within : (main : ℕ) (r : Record) (x y : MainPos) → r .layer % 2 ≡ 0 → inside main r x y ≡ true → indexOf main r x y < planeSpan r
+mask-within main r x y l e = let a = index-within main r x y e in let s = span-mask r l in omega arith
+
+pub image-within : (main : ℕ) (r : Record) (x y : MainPos) → r .layer % 2 ≡ 1 → inside main r x y ≡ true → indexOf main r x y * 3 + 3 ≤ planeSpan r
+image-within main r x y l e = let a = index-within main r x y e in let s = span-image r l in omega arith

@@ -1,0 +1,89 @@
+-- The octets of a line, four a pixel: how many, and which stand where.
+-- Assumes nothing.
+use Prim.Native.Nat.{ℕ, zero, suc, _+_, _*_, _<_}
+use native.Mathlib.Omega.{arith}
+use mathlib.Core.Path.{_≡_, refl, sym, ap, _∙_}
+use mathlib.Core.Logic.{⊎-elim}
+use mathlib.Core.List.{List}
+use lib.ListN.{length, getD, take, drop, length-append, length-drop}
+use lib.Seq.{take-all, take-append-le, drop-append-le, drop-at}
+use Rattle.cases.proofs.Cases.{clash}
+use Rattle.cases.proofs.Says.{says-lt, says-else}
+use Rattle.octets.specs.Octets.{putAt}
+use Rattle.picture_rules.specs.declared.MainPos.{MainPos}
+use Rattle.picture_rules.specs.declared.Colour.{Colour}
+use Rattle.picture_rules.specs.declared.Sample.{Sample}
+use Rattle.picture_rules.specs.declared.Sample.the-variants.{Known, Unknown}
+use Rattle.picture_rules.specs.Samples.{Scene, widthOf}
+use Rattle.picture_rules.specs.Decide.{pixelAt}
+use Rattle.picture_rules.specs.Line.{unseen, fourOf, pixels, linePixels}
+use Rattle.picture_rules.specs.Demand.{fourAt, seenIn, unseenFour, at}
+
+-- ---- the four octets of a decided pixel
+
+pub length-four : (u : Colour) (p : Sample) → length (fourOf u p) ≡ 4
+unfolding fourOf
+length-four u (Known c) = refl
+length-four u Unknown = refl
+
+pub four-known : (u : Colour) (p : Sample) (c : Colour) → fourOf u p ≡ seenIn c → p ≡ Known c
+unfolding fourOf
+four-known u (Known d) c e = ap Known (λ i. record { c0 = getD (e i) 0 0; c1 = getD (e i) 1 0; c2 = getD (e i) 2 0 })
+four-known u Unknown c e = clash (ap (λ (l : List ℕ). getD l 3 0) e)
+
+pub known-four : (u : Colour) (p : Sample) (c : Colour) → p ≡ Known c → fourOf u p ≡ seenIn c
+unfolding fourOf
+known-four u p c e = rw e
+
+pub four-unknown : (p : Sample) → fourOf unseen p ≡ unseenFour → p ≡ Unknown
+unfolding fourOf
+four-unknown (Known d) e = clash (sym (ap (λ (l : List ℕ). getD l 3 0) e))
+four-unknown Unknown e = refl
+
+pub unknown-four : (p : Sample) → p ≡ Unknown → fourOf unseen p ≡ unseenFour
+unfolding fourOf
+unknown-four p e = rw e
+
+-- ---- a line of them
+
+pub length-pixels : (f : MainPos → Sample) (n : ℕ) → length (pixels f n) ≡ n * 4
+unfolding pixels
+length-pixels f zero = refl
+length-pixels f (suc n) =
+    let l = length-pixels f n in let m = length-four unseen (f (at n)) in let a = length-append (pixels f n) (fourOf unseen (f (at n))) in omega arith
+
+-- pixel x has the octets 4x to 4x + 3
+pub pixels-four : (f : MainPos → Sample) (n x : ℕ) → x < n → fourAt (pixels f n) x ≡ fourOf unseen (f (at x))
+unfolding pixels
+pixels-four f zero x h = absurd (omega arith)
+pixels-four f (suc n) x h =
+    let l = length-pixels f n in
+    let m = length-four unseen (f (at n)) in
+    ⊎-elim
+    (λ (b : x < n).
+    let r = length-drop (x * 4) (pixels f n) in
+    ap (take 4) (drop-append-le (x * 4) (pixels f n) (fourOf unseen (f (at n))) (omega arith))
+    ∙ take-append-le 4 (drop (x * 4) (pixels f n)) (fourOf unseen (f (at n))) (omega arith)
+    ∙ pixels-four f n x b)
+    (λ (b : x < n → ⊥).
+    let z : x ≡ n = omega arith in
+    ap (take 4) (drop-at (pixels f n) (fourOf unseen (f (at n))) (x * 4) (omega arith))
+    ∙ take-all 4 (fourOf unseen (f (at n))) (omega arith)
+    ∙ ap (λ (i : ℕ). fourOf unseen (f (at i))) (sym z))
+    (says-else (says-lt x n))
+
+-- ---- a line put in front of a buffer
+
+module _ (v : Scene) (y : ℕ) where
+  pub length-line : length (linePixels v y) ≡ widthOf v * 4
+  unfolding linePixels
+  length-line = length-pixels (λ (x : MainPos). pixelAt v x (at y)) (widthOf v)
+
+  pub put-four : (out : List ℕ) (x : ℕ) → x < widthOf v → fourAt (putAt out 0 (linePixels v y)) x ≡ fourOf unseen (pixelAt v (at x) (at y))
+  unfolding linePixels putAt
+  put-four out x h =
+      let l = length-line in
+      let r = length-drop (x * 4) (linePixels v y) in
+      ap (take 4) (drop-append-le (x * 4) (linePixels v y) (drop (0 + length (linePixels v y)) out) (omega arith))
+      ∙ take-append-le 4 (drop (x * 4) (linePixels v y)) (drop (0 + length (linePixels v y)) out) (omega arith)
+      ∙ pixels-four (λ (p : MainPos). pixelAt v p (at y)) (widthOf v) x h

@@ -1,0 +1,15 @@
+pub mod Division
+pub mod Scenes
+pub mod Places
+pub mod Rule
+pub mod Seen
+pub mod Fours
+pub mod Ruled
+pub mod Demand3
+pub mod Exactly
+pub mod Pixels
+pub mod Highest
+pub mod Lists
+pub mod Starts
+pub mod Within
+pub mod More

@@ -1,0 +1,97 @@
+-- The samples that a scene reads lie within the sample buffer; and a sample's number taken row by row.
+-- Assumes nothing.
+use Prim.Native.Nat.{ℕ, suc, _+_, _*_, _%_, _≤_, _<_}
+use native.Mathlib.Nat.{add-assoc, add-mul}
+use native.Mathlib.Omega.{arith}
+use mathlib.Core.Path.{_≡_, sym, ap, subst, _∙_}
+use mathlib.Core.Logic.{⊎-elim}
+use mathlib.Core.Bool.{true}
+use mathlib.Core.List.{List, [], _∷_, List·Memᴰ, List·Memᴰ·not-nil, List·Memᴰ·cases-cons}
+use lib.ListN.{length}
+use Rattle.cases.proofs.Cases.{clash}
+use Rattle.sheet_rules.specs.declared.Record.{Record}
+use Rattle.sheet_rules.specs.Sentences.{Coded}
+use Rattle.picture_rules.specs.declared.MainPos.{MainPos}
+use Rattle.picture_rules.specs.declared.Plane.{Plane}
+use Rattle.picture_rules.specs.declared.Judged.the-variants.{Fine}
+use Rattle.picture_rules.specs.declared.Start.the-variants.{From}
+use Rattle.picture_rules.specs.Place.{inside, alongOf, downOf}
+use Rattle.picture_rules.specs.Planes.{PlaneList, startOf}
+use Rattle.picture_rules.specs.Samples.{Scene, recordOf, mainOf, indexOf}
+use Rattle.picture_rules.specs.Line.{planeSpan, planesJudged}
+use Rattle.picture_rules.specs.Sentences.{plane, layerBefore, AllFine}
+use Rattle.picture_rules.proofs.Division.{mask-within, image-within}
+use Rattle.picture_rules.proofs.Scenes.{Stage, stage-placed}
+use Rattle.picture_rules.proofs.Ruled.{planes-answers}
+use Rattle.picture_rules.proofs.Starts.{start-among}
+
+-- ---- a sample's number, row by row: the row's first, and how far along
+
+pub mask-row : (main : ℕ) (r : Record) (x y : MainPos) (a : ℕ) → a + indexOf main r x y ≡ a + downOf main r y .0 * r .width + alongOf main r x .0
+unfolding indexOf
+mask-row main r x y a = sym (add-assoc a (downOf main r y .0 * r .width) (alongOf main r x .0))
+
+pub image-row : (main : ℕ) (r : Record) (x y : MainPos) (a : ℕ) → a + indexOf main r x y * 3 ≡ a + downOf main r y .0 * r .width * 3 + alongOf main r x .0 * 3
+unfolding indexOf
+image-row main r x y a =
+    ap (λ (n : ℕ). a + n) (add-mul (downOf main r y .0 * r .width) (alongOf main r x .0) 3)
+    ∙ sym (add-assoc a (downOf main r y .0 * r .width * 3) (alongOf main r x .0 * 3))
+
+-- ---- what a start that is found says of its layer
+
+pub among-plane : (ps : List Plane) (p : Plane) → List·Memᴰ p ps → (i : ℕ) × (i < length ps) × (plane ps i ≡ p)
+among-plane [] p m = absurd (List·Memᴰ·not-nil m)
+among-plane (q ∷ ps) p m =
+    ⊎-elim (λ (e : p ≡ q). (0, omega arith, sym e)) (λ (k : List·Memᴰ p ps). let r = among-plane ps p k in let h = r .1 in (suc (r .0), omega arith, r .2))
+    (List·Memᴰ·cases-cons m)
+
+before-some : (ps : List Plane) (i l : ℕ) → layerBefore ps i < l → 1 ≤ l
+before-some ps i l h = omega arith
+
+pub record Read (v : Scene) (l a : ℕ) : Type 0 where
+  pub least : 1 ≤ l
+  pub most : l ≤ v .row .layers
+  pub coded : Coded (recordOf v l)
+  pub room : a + planeSpan (recordOf v l) ≤ length (v .samples)
+
+pub start-read : (v : Scene) (pl : PlaneList) → AllFine v pl → (l a : ℕ) → startOf (pl .entries) l ≡ From a → Read v l a
+start-read v pl f l a e =
+    let n = start-among (pl .entries) l a e in
+    let i = among-plane (pl .entries) (n .p) (n .among) in
+    let g = f .entries (i .0) (i .1) in
+    let z : plane (pl .entries) (i .0) .layer ≡ l = ap (λ (p : Plane). p .layer) (i .2) ∙ n .layer in
+    let b : plane (pl .entries) (i .0) .start ≡ a = ap (λ (p : Plane). p .start) (i .2) ∙ n .start in
+    record {
+      least = before-some (pl .entries) (i .0) l (subst (λ (j : ℕ). layerBefore (pl .entries) (i .0) < j) z (g .rises));
+      most = subst (λ (j : ℕ). j ≤ v .row .layers) z (g .present);
+      coded = subst (λ (j : ℕ). Coded (recordOf v j)) z (g .coded);
+      room = subst (λ (j : ℕ). j + planeSpan (recordOf v l) ≤ length (v .samples)) b (subst (λ (j : ℕ). plane (pl .entries) (i .0) .start + planeSpan (recordOf v j) ≤ length (v .samples)) z (g .within));
+    }
+
+-- ---- the octets of a sample that is read are there
+
+module _ {s : List ℕ} {pl : PlaneList} {d : List ℕ} {k y : ℕ} {v : Scene} (g : Stage s pl d k y v) where
+  pub stage-fine : AllFine v pl
+  stage-fine =
+      planes-answers v pl (λ j. j ≡ Fine → AllFine v pl) (λ f e. f) (λ i f e. clash cc)
+      (ap (λ (ps : List Plane). planesJudged v (pl .part) 0 0 ps) (sym (g .planes)) ∙ g .judged)
+
+  module _ (l a : ℕ) (e : startOf (v .planes) l ≡ From a) (x z : MainPos) (o : inside (mainOf v) (recordOf v l) x z ≡ true) where
+    stage-read : Read v l a
+    stage-read = start-read v pl stage-fine l a (ap (λ (ps : List Plane). startOf ps l) (sym (g .planes)) ∙ e)
+
+    pub mask-there : l % 2 ≡ 0 → a + indexOf (mainOf v) (recordOf v l) x z < length (v .samples)
+    mask-there even =
+        let r = stage-read in
+        let p = stage-placed g l (r .least) (r .most) .layer in
+        let i = mask-within (mainOf v) (recordOf v l) x z (ap (λ (n : ℕ). n % 2) p ∙ even) o in
+        let w = r .room in
+        omega arith
+
+    pub image-there : l % 2 ≡ 1 → a + indexOf (mainOf v) (recordOf v l) x z * 3 + 3 ≤ length (v .samples)
+    image-there odd =
+        let r = stage-read in
+        let p = stage-placed g l (r .least) (r .most) .layer in
+        let i = image-within (mainOf v) (recordOf v l) x z (ap (λ (n : ℕ). n % 2) p ∙ odd) o in
+        let w = r .room in
+        omega arith
