@@ -1,0 +1,125 @@
+// The rows of a line: for each layer of a stripe what one line of the picture needs of it, worked out once a line.
+ghost use mathlib.Core.Path.{_≡_};
+ghost use mathlib.Core.Bool.{_&&_};
+ghost use Prim.Native.Nat.{_+_, _-_, _*_, _/_, _<_, _≤_};
+ghost use lib.ListN.{length};
+ghost use Rattle.octets.specs.Octets.{putAt};
+ghost use Rattle.sheet_rules.specs.Record.{recordSize};
+ghost use Rattle.sheet_rules.specs.Judge.{coded};
+ghost use Rattle.picture_rules.specs.Place.{covers};
+ghost use Rattle.picture_rules.specs.Line.{depth};
+ghost use Rattle.plane.specs.Listing.{entriesOf};
+ghost use Rattle.pixel.specs.Rows.{numbersOf};
+ghost use Rattle.rows.specs.Rows.{layerAt, mainAt, rowIn, rowOut, rowBy, otherOf, rowOf, rowsOf, Covered, Standing};
+use picture_rules::MainPos;
+use picture_rules::SamplePos;
+use picture_rules::Start;
+use pixel::ROW_SIZE;
+use pixel::Row;
+use plane::Listing;
+use sheet_rules::RECORD_SIZE;
+use sheet_rules::Record;
+use sheet_rules::Stripe;
+
+// Where n samples of k main pixels each end, from an offset on.
+pub fn area_end(o: usize, n: usize, k: usize) -> usize
+    requires { ⌜ (o < 65536) × (n < 65536) × (k < 65536) ⌝ }
+    ensures { λ r. ⌜ r ≡ o + n * k ⌝ }
+{
+    o + n * k
+}
+
+// The line crosses the layer's area.
+pub fn line_covers(o: usize, n: usize, k: usize, y: MainPos) -> bool
+    requires { ⌜ (o < 65536) × (n < 65536) × (k < 65536) ⌝ }
+    ensures { λ b. ⌜ b ≡ covers o n k y ⌝ }
+{
+    let to = area_end(o, n, k);
+    (o <= y.0) & (y.0 < to)
+}
+
+// Where the samples of a row start, so many rows down.
+pub fn row_start(a: u32, width: u16, layer: u8, down: SamplePos) -> usize
+    requires { ⌜ down .0 < 65536 ⌝ }
+    ensures { λ r. ⌜ r ≡ a + down .0 * width * depth layer ⌝ }
+{
+    let n = down.0 * plane::wide(width);
+    a as usize + plane::sample_octets(n, layer)
+}
+
+// A layer that the line crosses.
+pub fn row_in(r: Record, k: usize, y: MainPos, p: Start, other: usize) -> Row
+    requires { ⌜ Covered r k y ⌝ }
+    ensures { λ w. ⌜ w ≡ rowIn r k y p other ⌝ }
+{
+    let from = plane::wide(r.x);
+    let to = area_end(from, plane::wide(r.width), k);
+    match p {
+        Start::Unread => Row {
+            from: from,
+            to: to,
+            k: k,
+            read: 0,
+            at: 0,
+            other: other,
+        },
+        Start::From(a) => Row {
+            from: from,
+            to: to,
+            k: k,
+            read: 1,
+            at: row_start(
+                a,
+                r.width,
+                r.layer,
+                pixel::scale_pos(k, plane::wide(r.y), y),
+            ),
+            other: other,
+        },
+    }
+}
+
+// A layer that is not coded, or that the line passes by: it gives the same all along.
+pub fn row_out(other: usize) -> Row
+    ensures { λ w. ⌜ w ≡ rowOut other ⌝ }
+{
+    Row {
+        from: 0,
+        to: 0,
+        k: 1,
+        read: 0,
+        at: 0,
+        other: other,
+    }
+}
+
+pub fn row_by(r: Record, k: usize, y: MainPos, p: Start, other: usize) -> Row
+    requires { ⌜ (0 < k) × (k < 65536) ⌝ }
+    ensures { λ w. ⌜ w ≡ rowBy r k y p other ⌝ }
+{
+    if r.len == 0 {
+        return row_out(other);
+    }
+    if line_covers(plane::wide(r.y), plane::wide(r.height), k, y) {
+        row_in(r, k, y, p, other)
+    } else {
+        row_out(other)
+    }
+}
+
+// What a layer gives outside its area: a mask its value, an image layer the place of its base colour in the sheet. An uncoded layer 2 gives 1 all
+// over a stripe whose layer 3 is coded.
+pub fn other_of(coded3: bool, r: Record, i: usize, l: usize) -> usize
+    requires { ⌜ i < 17179869184 ⌝ }
+    ensures { λ n. ⌜ n ≡ otherOf coded3 r i l ⌝ }
+{
+    if l % 2 == 0 {
+        if (r.len == 0) & (l == 2) & coded3 {
+            1
+        } else {
+            0
+        }
+    } else {
+        i * RECORD_SIZE + 14
+    }
+}
