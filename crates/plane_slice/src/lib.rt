@@ -1,0 +1,53 @@
+// The plane list as a lent slice of structs: gathered into parallel numbers by value, which covered code takes, and a lookup in it.
+ghost use mathlib.Core.Path.{_≡_};
+ghost use Rattle.picture_rules.specs.Planes.{startOf};
+ghost use Rattle.plane.specs.Listing.{noPlanes, gathered};
+ghost use Rattle.plane_slice.specs.Start.{startIs};
+use picture_rules::Plane;
+use plane::Listing;
+
+// Where a layer's samples start in the sample buffer, or that the layer was not read.
+pub enum PlaneStart {
+    From(u32),
+    Unread,
+}
+
+// The entries of the list, in their order.
+pub fn gather_planes(planes: &[Plane]) -> Listing
+    ensures { λ r. ⌜ r ≡ gathered noPlanes (now (planes .entry)) ⌝ }
+{
+    let mut t = plane::no_planes();
+    let mut i = 0;
+    while i < planes.len() {
+        t = plane::with_plane(t, planes[i]);
+        i += 1;
+    }
+    t
+}
+
+fn start_in(p: Plane) -> PlaneStart
+    ensures { λ r. ⌜ r ≡ PlaneStart.From (p .start) ⌝ }
+{
+    PlaneStart::From(p.start)
+}
+
+fn unread() -> PlaneStart
+    ensures { λ r. ⌜ r ≡ PlaneStart.Unread ⌝ }
+{
+    PlaneStart::Unread
+}
+
+// Where a layer's samples start, by its first entry.
+pub fn plane_start(planes: &[Plane], layer: u8) -> PlaneStart
+    ensures { λ r. ⌜ startIs r ≡ startOf (now (planes .entry)) layer ⌝ }
+{
+    let mut i = 0;
+    while i < planes.len() {
+        let p = planes[i];
+        if p.layer == layer {
+            return start_in(p);
+        }
+        i += 1;
+    }
+    unread()
+}
