@@ -3,15 +3,11 @@
 -- Assumes nothing.
 use mathlib.Core.Path.{_≡_, refl, sym, ap, _∙_}
 use Prim.Native.Nat.{ℕ, zero, suc, _+_, _*_, _/_, _%_, _<_}
-use native.Mathlib.Nat.{add-zero, add-assoc}
 use native.Mathlib.Omega.{arith}
-use mathlib.Core.Bool.{Bool, false, not}
 use mathlib.Core.List.{List, [], _∷_, _++_}
-use lib.Dec.{eqb}
-use lib.ListN.{length, getD, drop, length-append}
+use lib.ListN.{length, getD, length-append}
 use lib.Seq.{getD-append-add}
-use borrow.Author.Tests.{eq-eqb}
-use Rattle.octets.specs.Octets.{be32At, octets32, Octets}
+use Rattle.octets.specs.Octets.{be32At, Octets}
 use Rattle.octets.proofs.Laws.{length-octets32, be32-shift, be32-there, octets-append, octets-32}
 use Rattle.picture_rules.specs.declared.Plane.{Plane}
 use Rattle.picture_rules.specs.Planes.{planeAt, planesFrom, PlaneList, listOf, listed, Start, from, unread, startOf}
@@ -25,7 +21,7 @@ use Rattle.plane_slice.specs.Entries.{entryOctets, planeOctets, Fitting}
 -- ---- the octets of the entries, read back
 
 length-entry : (p : Plane) → length (entryOctets p) ≡ 5
-length-entry p = ap suc (length-octets32 (p .start))
+length-entry p = ap suc (length-octets32 _)
 
 length-planes : (ps : List Plane) → length (planeOctets ps) ≡ length ps * 5
 unfolding planeOctets

@@ -17,7 +17,7 @@ pub fn gather_planes(planes: &[Plane]) -> Listing
     ensures { λ r. ⌜ r ≡ gathered noPlanes (now (planes .entry)) ⌝ }
 {
     let mut t = plane::no_planes();
-    let mut i = 0;
+    let mut i: usize = 0;
     while i < planes.len() {
         t = plane::with_plane(t, planes[i]);
         i += 1;
@@ -41,13 +41,13 @@ fn unread() -> PlaneStart
 pub fn plane_start(planes: &[Plane], layer: u8) -> PlaneStart
     ensures { λ r. ⌜ startIs r ≡ startOf (now (planes .entry)) layer ⌝ }
 {
-    let mut i = 0;
-    while i < planes.len() {
-        let p = planes[i];
+    let mut k: usize = 0;
+    while k < planes.len() {
+        let p = planes[k];
         if p.layer == layer {
             return start_in(p);
         }
-        i += 1;
+        k += 1;
     }
     unread()
 }
