@@ -248,6 +248,8 @@ module _ {M : Type 1} (𝓤 : URA M) (H : Heap 𝓤) (A : Atoms 𝓤) (W : Given
       land ! (from ! (stop !)) (init ! 11 refl (LL.lawful S.the-type S′.the-laws 𝓤 H A W .typed r (u ∷ []) is .0)) $ drop ! $
       rewrite ! 10 (λ (v : Val). ‵ (fat fullShare S′.mir l₂ 0 v)) (ap only (LL.tells S.the-type S′.the-laws r (u ∷ []) is)) refl $
       assigns ! (of-opd ! (lit ! tt)) (from ! (stop !)) (init ! 8 refl (tt, record { fits = lit< tt })) $
+      -- the first entry is entry 0
+      rewrite ! 8 (λ (j : ℕ). ‵ (fat fullShare word l₃ 0 (vint w64 j))) (λ i. 0) refl $
       -- [_7; …; _0; …; the token and true; what the parameter owns]: the slice's part is had twice
       move ! (17 ∷ []) $ fsplit ! $ use1 W (‵ Own ⊛ ‵ Own) (shr-slice-copy 𝓤 H A W (named 0) κ T.the-row .twice (x .0) (at .0)) $ split ! $
       fsplit ! $ drop ! $ fsplit ! $ drop ! $ move ! (19 ∷ []) $ split ! $
