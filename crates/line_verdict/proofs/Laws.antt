@@ -1,6 +1,6 @@
 -- One law for each way out of the functions of a line's verdict: its premises are what is known there.
 -- Assumes nothing.
-use Prim.Native.Nat.{ℕ, zero, suc, _+_, _-_, _*_, _/_, _%_, _≤_, _<_}
+use Prim.Native.Nat.{ℕ, zero, suc, _+_, _-_, _*_, _/_, _%_, _≤_, _<_, min}
 use native.Mathlib.Omega.{arith}
 use mathlib.Core.Path.{_≡_, refl, sym, ap, ap₂, subst, _∙_}
 use mathlib.Core.Logic.{_≢_, ⊎-elim}
@@ -75,13 +75,12 @@ module _ (s : List ℕ) (row : Stripe) (d : List ℕ) (last : ℕ) (p : Plane) w
 pub record Judging (s : List ℕ) (row : Stripe) (d : List ℕ) (t : Listing) (part : Bool) (n last i : ℕ) : Type 0 where
   pub within : i ≤ n
   pub few : n ≤ 16
-  pub all : n ≡ t .count
   pub left : planesJudged (bareScene s row d) part 0 0 (entriesOf t) ≡ planesJudged (bareScene s row d) part last i (entriesFrom t (n - i) i)
 
 module _ (s : List ℕ) (row : Stripe) (d : List ℕ) (t : Listing) (part : Bool) (n : ℕ) where
-  pub judging-none : t .count ≤ 16 → n ≡ t .count → Judging s row d t part n 0 0
+  pub judging-none : n ≡ min (t .count) 16 → Judging s row d t part n 0 0
   unfolding entriesOf
-  judging-none h e = record { within = omega arith; few = omega arith; all = e; left = let z : t .count - 0 ≡ t .count = omega arith in rw (e, z) refl }
+  judging-none e = record { within = omega arith; few = omega arith; left = let z : min (t .count) 16 - 0 ≡ min (t .count) 16 = omega arith in rw (e, z) refl }
 
   next-entry : (i : ℕ) → i < n → entriesFrom t (n - i) i ≡ entryOf t i ∷ entriesFrom t (n - (i + 1)) (i + 1)
   unfolding entriesFrom
@@ -95,7 +94,7 @@ module _ (s : List ℕ) (row : Stripe) (d : List ℕ) (t : Listing) (part : Bool
         ∙ rw (k, e) refl
 
     pub judging-more : b ≡ true → Judging s row d t part n (p .layer) (i + 1)
-    judging-more z = record { within = omega arith; few = g .few; all = g .all; left = opened ∙ rw z refl }
+    judging-more z = record { within = omega arith; few = g .few; left = opened ∙ rw z refl }
 
     pub judging-fault : b ≡ false → Fault i ≡ planesJudged (bareScene s row d) part 0 0 (entriesOf t)
     judging-fault z = sym (opened ∙ rw z refl)

@@ -59,10 +59,10 @@ pub fn plane_ok(sheet: &[u8], row: Stripe, samples: &[u8], last: u8, p: Plane) -
 }
 
 pub fn judge_planes(sheet: &[u8], row: Stripe, samples: &[u8], t: Listing, part: bool) -> Judged
-    requires { ⌜ Whole (now sheet) row × (t .count ≤ 16) ⌝ }
+    requires { ⌜ Whole (now sheet) row ⌝ }
     ensures { λ j. ⌜ j ≡ planesJudged (bareScene (now (sheet .entry)) row (now (samples .entry))) part 0 0 (entriesOf t) ⌝ }
 {
-    let n = t.count;
+    let n = plane::entry_count(t);
     let mut last: u8 = 0;
     let mut i: usize = 0;
     while i < n {
@@ -90,7 +90,7 @@ pub fn rule_line(
     samples: &[u8],
     line: u32,
 ) -> Ruled
-    requires { ⌜ Whole (now sheet) row × (t .count ≤ 16) ⌝ }
+    requires { ⌜ Whole (now sheet) row ⌝ }
     ensures { λ r. ⌜ r ≡ ruledOf (lineRuling (now (sheet .entry)) (listFrom t part) (now (samples .entry)) line row) ⌝ }
 {
     if row.height <= line {
@@ -111,7 +111,7 @@ pub fn rule_stripe(
     stripe: u32,
     line: u32,
 ) -> Ruled
-    requires { ⌜ Accepted (now sheet) × (t .count ≤ 16) ⌝ }
+    requires { ⌜ Accepted (now sheet) ⌝ }
     ensures { λ r. ⌜ r ≡ ruledOf (rulingOf (now (sheet .entry)) (listFrom t part) (now (samples .entry)) stripe line) ⌝ }
 {
     match stripe::find_stripe(sheet, stripe as usize) {
@@ -128,7 +128,6 @@ pub fn judge_line(
     stripe: u32,
     line: u32,
 ) -> Ruled
-    requires { ⌜ t .count ≤ 16 ⌝ }
     ensures { λ r. ⌜ r ≡ ruledOf (rulingOf (now (sheet .entry)) (listFrom t part) (now (samples .entry)) stripe line) ⌝ }
 {
     match sheet::judge(sheet) {

@@ -13,3 +13,4 @@ pub mod Lists
 pub mod Starts
 pub mod Within
 pub mod More
+pub mod First

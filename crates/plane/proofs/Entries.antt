@@ -1,6 +1,6 @@
 -- What a list gathered as parallel numbers holds: its first sixteen entries.
 -- Assumes nothing.
-use Prim.Native.Nat.{ℕ, zero, suc, _+_, _-_, _≤_, _<_}
+use Prim.Native.Nat.{ℕ, zero, suc, _+_, _-_, _≤_, _<_, min}
 use native.Mathlib.Omega.{arith}
 use native.Mathlib.Numerals.{add-one}
 use mathlib.Core.Path.{_≡_, refl, sym, ap, ap₂, subst, _∙_}
@@ -69,8 +69,10 @@ module _ (t : Listing) (p : Plane) (w : Wide t) (h : t .count < 16) where
   more-entries : entriesOf more ≡ entriesOf t ++ (p ∷ [])
   unfolding entriesOf
   more-entries =
-      last-entry more (t .count) 0
-      ∙ ap₂ (λ ps q. ps ++ (q ∷ [])) (same-entries t more (t .count) 0 (λ j l. entry-old j (omega arith))) (ap (entryOf more) (let z : 0 + t .count ≡ t .count = omega arith in z) ∙ entry-new)
+      let a : min (t .count + 1) 16 ≡ t .count + 1 = omega arith in
+      let b : min (t .count) 16 ≡ t .count = omega arith in
+      ap (λ (n : ℕ). entriesFrom more n 0) a ∙ last-entry more (t .count) 0
+      ∙ ap₂ (λ ps q. ps ++ (q ∷ [])) (same-entries t more (t .count) 0 (λ j l. entry-old j (omega arith)) ∙ ap (λ (n : ℕ). entriesFrom t n 0) (sym b)) (ap (entryOf more) (let z : 0 + t .count ≡ t .count = omega arith in z) ∙ entry-new)
 
 -- ---- the whole list
 

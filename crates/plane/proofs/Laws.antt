@@ -1,6 +1,6 @@
 -- One law for each way out of the functions that gather a plane list: its premises are what is known there.
 -- Assumes nothing.
-use Prim.Native.Nat.{ℕ, zero, suc, _+_, _-_, _*_, _/_, _%_, _≤_, _<_}
+use Prim.Native.Nat.{ℕ, zero, suc, _+_, _-_, _*_, _/_, _%_, _≤_, _<_, min}
 use native.Mathlib.Nat.{mul-le-mul}
 use native.Mathlib.Omega.{arith}
 use mathlib.Core.Path.{_≡_, refl, sym, ap, _∙_}
@@ -82,17 +82,26 @@ module _ (s : List ℕ) (n : ℕ) where
   unfolding gathered planesFrom
   gather-end t i g h = sym (g .left ∙ (let e : n - i ≡ 0 = omega arith in rw e))
 
+-- ---- how many entries there are
+
+module _ (t : Listing) where
+  pub count-few : t .count < 16 → t .count ≡ min (t .count) 16
+  count-few h = omega arith
+
+  pub count-full : 16 ≤ t .count → 16 ≡ min (t .count) 16
+  count-full h = omega arith
+
 -- ---- a layer looked for: where it starts is where it starts among the entries left
 
 pub record Seeking (t : Listing) (l n i : ℕ) : Type 0 where
   pub within : i ≤ n
-  pub all : n ≡ t .count
+  pub all : n ≡ min (t .count) 16
   pub left : startOf (entriesOf t) l ≡ startOf (entriesFrom t (n - i) i) l
 
 module _ (t : Listing) (l n : ℕ) where
-  pub seek-none : n ≡ t .count → Seeking t l n 0
+  pub seek-none : n ≡ min (t .count) 16 → Seeking t l n 0
   unfolding entriesOf
-  seek-none e = record { within = omega arith; all = e; left = let z : t .count - 0 ≡ t .count = omega arith in rw (e, z) refl }
+  seek-none e = record { within = omega arith; all = e; left = let z : min (t .count) 16 - 0 ≡ min (t .count) 16 = omega arith in rw (e, z) refl }
 
   next-entry : (i : ℕ) → i < n → entriesFrom t (n - i) i ≡ entryOf t i ∷ entriesFrom t (n - (i + 1)) (i + 1)
   unfolding entriesFrom
@@ -118,6 +127,6 @@ module _ (t : Listing) (l n : ℕ) where
   unfolding startOf entriesFrom
   seek-end i g h = sym (g .left ∙ (let e : n - i ≡ 0 = omega arith in rw e))
 
-pub ruleset seeking = (needs, seek-none, seek-more, seek-found, seek-end)
+pub ruleset seeking = (needs, count-few, count-full, seek-none, seek-more, seek-found, seek-end)
 
 pub ruleset gathering = (needs, plane-read, plane-kept, plane-passed, gather-none, gather-more, gather-stop, gather-end)

@@ -5,8 +5,8 @@
 --   gathered t ps    the entries ps, in their order, behind those of t
 --   listingOf s      the whole entries of a list from C
 --   entryOf t i      entry i of it
---   entriesFrom      so many entries from entry i on; entriesOf: all that it has
-use Prim.Native.Nat.{ℕ, zero, suc, _+_}
+--   entriesFrom      so many entries from entry i on; entriesOf: all that it has, at most sixteen
+use Prim.Native.Nat.{ℕ, zero, suc, _+_, min}
 use mathlib.Core.Bool.{cond}
 use mathlib.Core.List.{List, [], _∷_}
 use lib.ListN.{getD, set, replicate}
@@ -42,4 +42,4 @@ entriesFrom t (suc k) i = entryOf t i ∷ entriesFrom t k (i + 1)
 
 unfoldable pub entriesOf : Listing → List Plane
 unfolding entriesFrom
-entriesOf t = entriesFrom t (t .count) 0
+entriesOf t = entriesFrom t (min (t .count) 16) 0

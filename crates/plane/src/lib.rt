@@ -1,6 +1,6 @@
 // The plane list as parallel numbers by value, and that list made from the octets that C lends.
 ghost use mathlib.Core.Path.{_≡_};
-ghost use Prim.Native.Nat.{_*_, _<_, _≤_, _/_};
+ghost use Prim.Native.Nat.{_*_, _<_, _/_, min};
 ghost use lib.ListN.{length};
 ghost use Rattle.picture_rules.specs.Planes.{planeSize, planeAt, startOf};
 ghost use Rattle.picture_rules.specs.Line.{depth};
@@ -98,12 +98,17 @@ pub fn entry_at(t: Listing, i: usize) -> Plane
     }
 }
 
+pub fn entry_count(t: Listing) -> usize
+    ensures { λ n. ⌜ n ≡ min (t .count) 16 ⌝ }
+{
+    if t.count < 16 { t.count } else { 16 }
+}
+
 // Where a layer's samples start, if it was read. A list has few entries, and they are looked through once a line.
 pub fn start_of(t: Listing, layer: u8) -> Start
-    requires { ⌜ t .count ≤ 16 ⌝ }
     ensures { λ r. ⌜ r ≡ startOf (entriesOf t) layer ⌝ }
 {
-    let n = t.count;
+    let n = entry_count(t);
     let mut i: usize = 0;
     while i < n {
         let p = entry_at(t, i);

@@ -9,6 +9,9 @@ Inv-loop sheet row samples t part n last₀ i₀ last i = Judging sheet row samp
 abbrev μ-loop : tie.MeasureT-loop
 μ-loop sheet row samples t part n last₀ i₀ last i = n - i
 
+entry-count-requires : tie.Need-entry-count-requires Inv-loop μ-loop
+entry-count-requires c κs = search judging
+
 loop-holds : tie.Need-loop-holds Inv-loop μ-loop
 loop-holds c = search judging
 
@@ -48,6 +51,7 @@ judge-planes-spec =
     (tie.spec
     Inv-loop
     μ-loop
+    entry-count-requires
     loop-holds
     entry-at-requires
     plane-ok-requires

@@ -9,6 +9,9 @@ Inv-loop t layer n i₀ i = Seeking t layer n i
 abbrev μ-loop : tie.MeasureT-loop
 μ-loop t layer n i₀ i = n - i
 
+entry-count-requires : tie.Need-entry-count-requires Inv-loop μ-loop
+entry-count-requires c κs = search seeking
+
 loop-holds : tie.Need-loop-holds Inv-loop μ-loop
 loop-holds c = search seeking
 
@@ -36,6 +39,7 @@ start-of-spec =
     (tie.spec
     Inv-loop
     μ-loop
+    entry-count-requires
     loop-holds
     entry-at-requires
     returns
