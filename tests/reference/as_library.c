@@ -33,6 +33,6 @@ spirerook_answer spirerook_line(const uint8_t *sheet, size_t sheet_len,
         sheet, sheet_len, planes, planes_len, samples, samples_len,
         stripe, line};
     struct reference_answer composed = reference_line(&call, out, out_len);
-    spirerook_answer told = {composed.number, composed.place, composed.count};
-    return told;
+    spirerook_answer shown = {composed.number, composed.place, composed.count};
+    return shown;
 }
