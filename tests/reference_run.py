@@ -18,6 +18,7 @@ READ_DRIVER = ("sheet.c", "console.c", os.path.join(DRIVER, "lent.c"),
                os.path.join(DRIVER, "read.c"))
 WRITE_DRIVER = READ_DRIVER[:-1] + (os.path.join(DRIVER, "write.c"),)
 LINE_DRIVER = READ_DRIVER[:-1] + (os.path.join(DRIVER, "line.c"),)
+FAR_DRIVER = ("sheet.c", "console.c", os.path.join(DRIVER, "line_far.c"))
 CALLS = ("page.c", "reading.c", "stripe.c", "jpeg.c", "write.c", "line.c", "as_library.c")
 READ = CALLS + READ_DRIVER
 WRITE = CALLS + WRITE_DRIVER
