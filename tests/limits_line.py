@@ -32,7 +32,7 @@ class Wide(Work):
     """64 stripes of fifteen layers, or fewer, all coded, on the widest page."""
 
     def __init__(self, rng, number, read, stripes=64):
-        self.colours, self.planes, self.samples, self.behind = COLOURS, {}, bytearray(), b""
+        self.colours, self.planes, self.samples = COLOURS, {}, bytearray()
         heights = [1] * 62 + [65472, 1]
         self.stripes = [self.stripe(rng, height) for height in heights[-stripes:]]
         self.sheet = b"".join(bytes(stripe.records(k)) for k, stripe in enumerate(self.stripes))
@@ -64,9 +64,9 @@ def wide_calls(rng):
         work = Wide(rng, number, read, stripes)
         yield "the widest line, " + name, work.call(), work.due()
     late = work.sheet[:-1] + b"\1"
-    yield "a fault in the last of 960 records", (late,) + work.call()[1:], ("refused 14 959", b"")
-    more = (work.sheet + work.sheet[-28:],) + work.call()[1:]
-    yield "961 records", more, ("refused 14 960", b"")
+    yield "a fault in the last of 960 records", work.call(sheet=late), ("refused 14 959", b"")
+    more = work.sheet + work.sheet[-28:]
+    yield "961 records", work.call(sheet=more), ("refused 14 960", b"")
     work = Wide(rng, 1, range(1, 16), 2)
     yield "the widest line, an octet less", work.call(room=work.room - 1), ("refused 13 0", b"")
     yield "line 65,472 of a stripe", work.call(stripe=0, line=65472), ("refused 17 0", b"")

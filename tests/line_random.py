@@ -9,6 +9,8 @@ from line_making import UNSEEN, Stripe, entry
 from sheet_random import CHOICES, LISTED
 
 WIDEST = 40
+WIDER = 600          # now and then
+HIGHER = [256, 300, 32768, 65535]
 SIZES = [3, 3, 5, 5, 7, 9, 11, 13, 15, 15]
 # few colours, so that sides agree often; some differ in one octet only
 COLOURS = [bytes(c) for c in ((255, 128, 96), (0, 128, 96), (0, 0, 0), (0, 128, 97), (0, 129, 96))]
@@ -29,20 +31,22 @@ def code_layer(rng, stripe, layer):
     if layer == 2:
         stripe.code(2)
         return
-    if rng.random() < 0.25:
+    if rng.random() < 0.25 and stripe.height not in HIGHER:
         stripe.code(layer, width=stripe.width, height=stripe.height)
         return
     resolution = rng.choice([r for r in LISTED if stripe.main % r == 0])
     k = stripe.main // resolution
     x, width = extent(rng, stripe.width, k)
     y, height = extent(rng, stripe.height, k)
-    if rng.random() < 0.7:
+    if stripe.height in HIGHER:
+        y, height = stripe.height - rng.randint(1, 20), rng.randint(1, 5)
+    elif rng.random() < 0.7:
         y, height = rng.choice([0, 0, y]), max(height, -(-stripe.height // k))
-    stripe.code(layer, width=width, height=height, x=x, y=min(y, 65535), resolution=resolution)
+    stripe.code(layer, width=width, height=height, x=x, y=y, resolution=resolution)
 
 
-def random_stripe(rng, width, main, colours, layers=None):
-    stripe = Stripe(width, rng.choice([1, 1, 2, 3, 4, 5]), layers or rng.choice(SIZES), main)
+def random_stripe(rng, width, main, colours, height=None):
+    stripe = Stripe(width, height or rng.choice([1, 1, 2, 3, 4, 5]), rng.choice(SIZES), main)
     choice, often = rng.choice(CHOICES), rng.choice([0.3, 0.7, 1])
     for layer, fields in stripe.layers.items():
         if layer % 2 == 1:
@@ -84,16 +88,23 @@ def layer_size(stripe, layer):
 class Work:
     """A call: its stripes, the entries of its plane list, samples, stripe, line and room."""
 
-    def __init__(self, rng, layers=None):
-        width, main = rng.choice([1, 2, rng.randint(1, WIDEST), WIDEST]), rng.choice(LISTED)
-        self.colours = rng.sample(COLOURS, rng.choice([1, 2, 2, 3, 5]))
-        self.stripes = [random_stripe(rng, width, main, self.colours, layers)
-                        for _ in range(rng.choice([1, 1, 1, 2, 3]))]
+    def __init__(self, rng):
+        main, self.colours = rng.choice(LISTED), rng.sample(COLOURS, rng.choice([1, 2, 2, 3, 5]))
+        width = rng.choice([1, 2, rng.randint(1, WIDEST), WIDEST])
+        if rng.random() < 0.03:
+            width = rng.randint(WIDEST, WIDER)
+        if rng.random() < 0.04:
+            self.stripes = [random_stripe(rng, rng.choice([1, 2, 3]), main, self.colours,
+                                          rng.choice(HIGHER))]
+        else:
+            self.stripes = [random_stripe(rng, width, main, self.colours)
+                            for _ in range(rng.choice([1, 1, 1, 2, 3]))]
         self.sheet = b"".join(bytes(stripe.records(k)) for k, stripe in enumerate(self.stripes))
         self.number = rng.randrange(len(self.stripes))
-        self.line = rng.randrange(self.named().height)
-        self.room = 4 * width + rng.choice([0, 0, 1, 3, 20])
-        self.planes, self.samples, self.behind = {}, bytearray(), b""
+        height = self.named().height
+        self.line = height - 1 - rng.randrange(min(height, 20))
+        self.room = 4 * self.named().width + rng.choice([0, 0, 1, 3, 20])
+        self.planes, self.samples = {}, bytearray()
         share = rng.choice([0, 0.3, 0.5, 0.8, 0.8, 1])
         read = [layer for layer in self.coded() if rng.random() < share]
         for layer in rng.sample(read, len(read)):
@@ -119,14 +130,15 @@ class Work:
         self.samples += layer_octets(rng, self.named(), layer, self.colours)
 
     def plane_octets(self):
-        return b"".join(entry(*pair) for pair in sorted(self.planes.items())) + self.behind
+        return b"".join(entry(*pair) for pair in sorted(self.planes.items()))
 
-    def call(self, planes=None, room=None, stripe=None, line=None, samples=None):
-        """What the driver is given; some of it changed."""
-        other = lambda new, own: own if new is None else new
-        return (self.sheet, other(planes, self.plane_octets()),
-                bytes(other(samples, self.samples)), other(room, self.room),
-                other(stripe, self.number), other(line, self.line))
+    def call(self, **changes):
+        """What the driver is given: sheet, planes, samples, room, stripe and line, some of it
+        changed."""
+        own = {"sheet": self.sheet, "planes": self.plane_octets(), "samples": bytes(self.samples),
+               "room": self.room, "stripe": self.number, "line": self.line}
+        assert set(changes) <= set(own)
+        return tuple({**own, **changes}.values())
 
     def due(self):
         """The answer and the line to the call as it is."""

@@ -21,6 +21,7 @@ PLANES = 900         # plane lists with faults
 SHEETS = 900         # damaged sheets
 NOISE = 200          # random octets as a sheet
 ROOMS = 60           # lines asked for in every room around their size
+LINES = 250          # stripes and lines asked for beside those that there are
 MANY = 60 * 28       # a sheet of more octets than this is judged by itself
 RUN = 400            # lines in one run of a driver
 LEAST = {0: 1000, 13: 100, 14: 100, 15: 100, 17: 100}
@@ -163,10 +164,10 @@ def check_lines(composer, rng, works):
     """Stripes and lines beside those that there are."""
     asked = []
     for k, work in enumerate(works):
-        stripes = len(work.stripes)
-        for stripe, line in ((rng.choice([stripes, stripes + 1, 64, 256, 65536, 2 ** 32 - 1]), 0),
-                             (work.number, work.named().height
-                              + rng.choice([0, 0, 1, 65535, 65536, 2 ** 32 - 6]))):
+        stripes, height = len(work.stripes), work.named().height
+        beside = rng.choice([stripes, stripes + 1, 64, 256, 65536, 2 ** 32 - 1])
+        below = rng.choice([height, height, height + 1, height + 65536, 2 ** 32 - 1])
+        for stripe, line in ((beside, 0), (work.number, below)):
             asked.append(("line %d as stripe %d, line %d" % (k, stripe, line),
                           work.call(stripe=stripe, line=line), ("refused 17 0", b"")))
     composer.check(asked)
@@ -192,8 +193,7 @@ def check_sheets(composer, rng, works):
     calls = []
     for work in works:
         sheet = bytes(sheet_random.damaged(rng, bytearray(work.sheet)))
-        calls.append((sheet,) + work.call()[1:3] + (rng.choice([4 * 32768, work.room, 0]),)
-                     + work.call()[4:])
+        calls.append(work.call(sheet=sheet, room=rng.choice([4 * 32768, work.room, 0])))
     composer.answers(lambda k: "damaged sheet %d" % k, calls)
     noise = []
     for _ in range(NOISE):
@@ -222,7 +222,7 @@ def main():
     check_one_more(tally, plain, rng, works, answers)
     check_rooms(watched, "random line", [(work.call(), due) for work, due in
                                          list(zip(works, answers))[:ROOMS]])
-    check_lines(watched, rng, works[:ROOMS])
+    check_lines(watched, rng, works[:LINES])
     check_planes(watched, rng, [rng.choice(works) for _ in range(PLANES)])
     check_sheets(watched, rng, [rng.choice(works) for _ in range(SHEETS)])
     check_all_read(tally, plain, rng, works[::2])
