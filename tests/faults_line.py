@@ -334,7 +334,7 @@ FAULTS = [
      "composed.number + composed.count}"),
     ("as_library.c", "a place with Done", "composed.place,", "composed.place + !composed.number,"),
     ("as_library.c", "a null pointer refused", RETURN,
-     "    if (planes == NULL || samples == NULL) { shown.number = 15; shown.count = 0; }\n" + RETURN),
+     "    if (planes == NULL || samples == NULL) shown.number = 15, shown.count = 0;\n" + RETURN),
     ("as_library.c", "only aligned buffers taken", RETURN,
      "    if ((uintptr_t)samples % 2 == 1 && samples_len > 4) { shown.number = 15; "
      "shown.count = 0; }\n" + RETURN),

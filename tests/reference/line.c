@@ -20,7 +20,8 @@ enum {
                          start" */
     PIXEL_OCTETS = 4, /* "A line is four octets a pixel" */
     MOST_LAYERS = 15, /* "N odd, 3 to 15" */
-    PROBES = 2        /* values tried of an unread sample, see `probe` */
+    PROBES = 2        /* values tried of an unread sample: both of a bit, and
+                         see `choose_probes` for a colour */
 };
 
 /* What a line is composed of: the call, and the records of the stripe that it
