@@ -11,11 +11,12 @@ demo:
 	@rt check listing >build/demo.log 2>&1 </dev/null || { cat build/demo.log >&2; echo "demo: 'rt check listing' fails, as shown above" >&2; exit 1; }
 	@target/bin/listing <examples/example.sheet
 
-# faults planted in the reference, each of which the table of sheets, of pages or of pages to be written must find
+# faults planted in the reference, each of which the table of sheets, of pages, of pages to be written or of lines must find
 faults:
 	@python3 tests/faults_sheet.py
 	@python3 tests/faults_page.py
 	@python3 tests/faults_write.py
+	@python3 tests/faults_line.py
 
 bench:
 	@bash bench/run

@@ -1,4 +1,5 @@
-/* Spirerook reads a mixed raster page (T.44, Mode 1) into a table of its layers, the sheet, and writes a page from a sheet.
+/* Spirerook reads a mixed raster page (T.44, Mode 1) into a table of its layers, the sheet, writes a page from a sheet, and composes decoded layers
+ * into lines of pixels.
  *
  * Link build/libspirerook.a.  No call allocates, keeps anything or calls back: a caller lends octets for the time of a call, a length beside each
  * pointer.  Any octets of any length may be lent; a null pointer with length 0 too.  What is lent for writing may not overlap anything else
@@ -13,7 +14,7 @@
 extern "C" {
 #endif
 
-/* The numbers of the paper.  Reading gives 0 to 13 and 18, writing 0, 1, 5, 13, 14, 16 and 18. */
+/* The numbers of the paper.  Reading gives 0 to 13 and 18, writing 0, 1, 5, 13, 14, 16 and 18, a line 0, 13, 14, 15 and 17. */
 enum {
     SPIREROOK_DONE = 0,         /* the work was done */
     SPIREROOK_SHORT = 1,        /* a field, or coded data, does not fit whole */
@@ -39,7 +40,9 @@ enum {
 /* number: one of the above.
  * place:  of a refusal in reading, the first octet of the field at fault, from 0; it may equal the page's length, where a field is missing at its
  *         end.  In writing, the record at fault, from 0; it may equal the number of records, where one more was due.
- *         Done, NoRoom and TooLong have place 0.
+ *         Of a line, the record (BadSheet) or the entry of the plane list (BadPlane) at fault, from 0; it may equal the number of records or of
+ *         whole entries, where one more was due or stands in part.
+ *         Done, NoRoom, BadLine and TooLong have place 0.
  * count:  of Done, what was written; a refusal has 0. */
 typedef struct {
     uint32_t number, place;
@@ -58,6 +61,19 @@ spirerook_answer spirerook_read(const uint8_t *page, size_t page_len, uint8_t *s
  * each, even where the page turns out too long.
  * Octets of the buffer past the page stay as they were.  A refusal changes no octet of it. */
 spirerook_answer spirerook_write(const uint8_t *sheet, size_t sheet_len, const uint8_t *data, size_t data_len, uint8_t *page, size_t page_len);
+
+/* Composes a line of a stripe, both counted from 0, out of decoded layers, and count tells how many octets it has: four a pixel of the page's width,
+ * left to right.  A pixel is its colour and 1 where it is seen, or 0 0 0 0 where it is unseen: it is seen exactly if it has one colour whatever the
+ * layers hold that were not read.
+ * The plane list tells which coded layers of the stripe were read: entries of five octets, the layer and four of start, most significant octet
+ * first, layers rising.  From its start in the samples a layer has its own width by height, row by row, one octet a sample of a mask (0 is 0, all
+ * else 1) and three of an image layer.  Layers may share samples; coded layers that are not listed are unread.
+ * It is refused, in this order: a sheet that breaks a rule (BadSheet, at the record); no such stripe or line (BadLine, place 0); the first entry
+ * whose layer the stripe has not, or has uncoded, or that does not rise above the entry before, or that runs past the samples, and behind the whole
+ * entries one of less than five octets (BadPlane, at the entry); less than four octets a pixel (NoRoom, place 0).
+ * Octets of the buffer past the line stay as they were.  A refusal changes no octet of it. */
+spirerook_answer spirerook_line(const uint8_t *sheet, size_t sheet_len, const uint8_t *planes, size_t planes_len, const uint8_t *samples,
+                                size_t samples_len, uint32_t stripe, uint32_t line, uint8_t *out, size_t out_len);
 
 #ifdef __cplusplus
 }

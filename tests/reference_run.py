@@ -17,9 +17,12 @@ LIST = ("sheet.c", "console.c", "list.c")
 READ_DRIVER = ("sheet.c", "console.c", os.path.join(DRIVER, "lent.c"),
                os.path.join(DRIVER, "read.c"))
 WRITE_DRIVER = READ_DRIVER[:-1] + (os.path.join(DRIVER, "write.c"),)
-CALLS = ("page.c", "reading.c", "stripe.c", "jpeg.c", "write.c", "as_library.c")
+LINE_DRIVER = READ_DRIVER[:-1] + (os.path.join(DRIVER, "line.c"),)
+FAR_DRIVER = ("sheet.c", "console.c", os.path.join(DRIVER, "line_far.c"))
+CALLS = ("page.c", "reading.c", "stripe.c", "jpeg.c", "write.c", "line.c", "as_library.c")
 READ = CALLS + READ_DRIVER
 WRITE = CALLS + WRITE_DRIVER
+LINE = CALLS + LINE_DRIVER
 
 
 def build(name="reference_list", sources=SOURCES, flags=("-O2",), parts=LIST):
@@ -93,14 +96,12 @@ def read_many(program, pages):
     return answers + ["not read\n"] * (len(pages) - len(answers))
 
 
-def write_many(program, cases):
-    """What the driver of a writer tells for each (sheet, data, room), in one run of it:
-    the answer's line, and the page behind it."""
-    words = b"".join(b"".join(number.to_bytes(4, "big") for number in (len(sheet), len(data), room))
-                     + sheet + data for sheet, data, room in cases)
+def answers_many(program, words, count):
+    """What the driver of a writer or composer tells, in one run of it, to each of
+    `count` cases: the answer's line, and the octets behind it."""
     printed, told, wrong = ended(program, words, ["many"])
     answers, at = [], 0
-    while len(answers) < len(cases):
+    while len(answers) < count:
         end = printed.find(b"\n", at)
         line = printed[at:end].decode("ascii", "replace") if end >= 0 else ""
         size = int(line.split()[1]) if line.startswith("done ") else 0
@@ -110,7 +111,31 @@ def write_many(program, cases):
             break
         answers.append((line, printed[end + 1:end + 1 + size]))
         at = end + 3 + size
-    return answers + [("not written", b"")] * (len(cases) - len(answers))
+    return answers + [("not written", b"")] * (count - len(answers))
+
+
+def numbers(*values):
+    """Numbers for a driver, four octets each."""
+    return b"".join(value.to_bytes(4, "big") for value in values)
+
+
+def write_many(program, cases):
+    """The answer and the page to each (sheet, data, room)."""
+    words = b"".join(numbers(len(sheet), len(data), room) + sheet + data
+                     for sheet, data, room in cases)
+    return answers_many(program, words, len(cases))
+
+
+def line_words(sheet, planes, samples, room, stripe, line):
+    """A call as the driver of a composer reads it."""
+    return (numbers(len(sheet), len(planes), len(samples), room, stripe, line)
+            + sheet + planes + samples)
+
+
+def line_many(program, cases):
+    """The answer and the line to each (sheet, planes, samples, room, stripe, line)."""
+    words = b"".join(line_words(*case) for case in cases)
+    return answers_many(program, words, len(cases))
 
 
 def answer(listing):

@@ -1,4 +1,5 @@
 /* The reference behind the library's header, so that one driver serves both. */
+#include "line.h"
 #include "page.h"
 #include "spirerook.h"
 #include "write.h"
@@ -20,4 +21,18 @@ spirerook_answer spirerook_write(const uint8_t *sheet, size_t sheet_len,
         reference_write(sheet, sheet_len, data, data_len, page, page_len);
     spirerook_answer told = {written.number, written.place, written.count};
     return told;
+}
+
+spirerook_answer spirerook_line(const uint8_t *sheet, size_t sheet_len,
+                                const uint8_t *planes, size_t planes_len,
+                                const uint8_t *samples, size_t samples_len,
+                                uint32_t stripe, uint32_t line, uint8_t *out,
+                                size_t out_len)
+{
+    const struct reference_line_call call = {
+        sheet, sheet_len, planes, planes_len, samples, samples_len,
+        stripe, line};
+    struct reference_answer composed = reference_line(&call, out, out_len);
+    spirerook_answer shown = {composed.number, composed.place, composed.count};
+    return shown;
 }

@@ -1,5 +1,5 @@
-/* "Numbers that a call returns", those that reading or writing can give; DONE
- * and BAD_SHEET stand in sheet.h. */
+/* "Numbers that a call returns", those that reading, writing or a line can give;
+ * DONE and BAD_SHEET stand in sheet.h. */
 #ifndef REFERENCE_NUMBERS_H
 #define REFERENCE_NUMBERS_H
 
@@ -19,9 +19,12 @@ enum {
     BAD_LAYER = 11,  /* "the JPEG walk breaks a rule other than 1, 3 and 7" */
     TRAILING = 12,   /* "an octet other than 0 after the end" */
     NO_ROOM = 13,    /* "the output buffer is smaller than the result" */
+    BAD_PLANE = 15,  /* "a listed layer is absent, uncoded, out of order, or runs
+                        past the sample buffer" */
     MISMATCH = 16,   /* "in writing: a layer's JPEG walk fails, ends elsewhere
                         or disagrees with its record; or two coded masks have
                         different coders" */
+    BAD_LINE = 17,   /* "no such stripe or line, or no such layer" */
     TOO_LONG = 18    /* "a page, read or to be written, over 16,777,215
                         octets" */
 };

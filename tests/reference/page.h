@@ -16,7 +16,7 @@ enum {
 };
 
 /* A number of the paper's table with its place and the records (reading) or
- * octets (writing) written.  "Done has place 0 and returns the records or
+ * octets (writing, lines) written.  "Done has place 0 and returns the records or
  * octets written ...; a refusal returns 0 of them." */
 struct reference_answer {
     unsigned number, place;

@@ -1,0 +1,188 @@
+"""The widest lines, the largest sheets and layers, and the smallest stack, by the reference
+and by the library.
+
+What is expected is worked out from how each call is put together. Both composers
+run in a stack that is hardly more than a C program needs to begin at all, so
+that one whose depth grows with its work is ended by a signal. Layers of 65,535
+by 65,535 samples stand in memory that is never touched but for a few pages.
+"""
+
+import random
+import subprocess
+import sys
+
+import reference_run
+import test_limits
+from line_making import Stripe, entry
+from line_random import Work
+from page_making import big
+from test_limits import in_stack
+
+STACK = 16          # KiB for a composer
+WIDEST = 32768
+LARGEST = 65535
+TOP = 2 ** 32
+RESOLUTIONS = [1200, 600, 400, 300, 200, 100]
+COLOURS = [bytes((255, 128, 96)), bytes((0, 128, 96)), bytes((1, 2, 3))]
+
+
+# Wide lines of many layers
+
+class Wide(Work):
+    """64 stripes of fifteen layers, or fewer, all coded, on the widest page."""
+
+    def __init__(self, rng, number, read, stripes=64):
+        self.colours, self.planes, self.samples = COLOURS, {}, bytearray()
+        heights = [1] * 62 + [65472, 1]
+        self.stripes = [self.stripe(rng, height) for height in heights[-stripes:]]
+        self.sheet = b"".join(bytes(stripe.records(k)) for k, stripe in enumerate(self.stripes))
+        self.number, self.line, self.room = number, 0, 4 * WIDEST
+        for layer in read:
+            self.read(rng, layer)
+
+    @staticmethod
+    def stripe(rng, height):
+        stripe = Stripe(WIDEST, height, 15, 1200)
+        stripe.code(2)
+        for layer, fields in stripe.layers.items():
+            if layer != 2:
+                resolution = RESOLUTIONS[layer % 6]
+                stripe.code(layer, x=rng.randrange(50), height=1, resolution=resolution,
+                            width=rng.choice([WIDEST * resolution // 1200, 60000]))
+            if layer % 2 == 1:
+                fields["colour"] = COLOURS[0]
+        return stripe
+
+
+def wide_calls(rng):
+    """(name, call, due) of lines 32,768 pixels wide; the reference takes a second and more to
+    judge 960 records, so that few calls have them"""
+    for name, number, read, stripes in [
+            ("all read", 63, range(1, 16), 64), ("all read of one stripe", 0, range(1, 16), 1),
+            ("some read", 0, [1, 3, 5, 7, 10, 11, 12, 13, 14, 15], 2),
+            ("images read", 0, range(1, 16, 2), 1), ("nothing read", 31, [], 64)]:
+        work = Wide(rng, number, read, stripes)
+        yield "the widest line, " + name, work.call(), work.due()
+    late = work.sheet[:-1] + b"\1"
+    yield "a fault in the last of 960 records", work.call(sheet=late), ("refused 14 959", b"")
+    more = work.sheet + work.sheet[-28:]
+    yield "961 records", work.call(sheet=more), ("refused 14 960", b"")
+    work = Wide(rng, 1, range(1, 16), 2)
+    yield "the widest line, an octet less", work.call(room=work.room - 1), ("refused 13 0", b"")
+    yield "line 65,472 of a stripe", work.call(stripe=0, line=65472), ("refused 17 0", b"")
+    planes = work.plane_octets() + entry(16, 0) * 200000
+    yield "200,015 entries", work.call(planes=planes), ("refused 15 15", b"")
+    yield "a megabyte of entry 0", work.call(planes=bytes(2 ** 20)), ("refused 15 0", b"")
+    # each is composed with a null pointer for no octets too
+    yield "nothing at all", (b"", b"", b"", 0, 0, 0), ("refused 14 0", b"")
+    yield "no planes, samples and room", work.call(planes=b"", samples=b"", room=0), (
+        "refused 13 0", b"")
+
+
+# Layers beyond 2^32 octets
+
+def far_stripe(width, layer, resolution=1200, x=0, y=0, size=LARGEST):
+    """One stripe, the highest there is, with one layer of the largest size; mask 4 is over white,
+    and what it shows is layer 5, black."""
+    stripe = Stripe(width, LARGEST, 5, 1200)
+    stripe.layers[1]["colour"], stripe.layers[5]["colour"] = COLOURS[0], COLOURS[1]
+    if layer == 4:
+        stripe.code(1, width=1, height=1, x=LARGEST)
+    stripe.code(layer, width=size, height=size, resolution=resolution, x=x, y=y)
+    return stripe
+
+
+def far_octets(stripe, layer, line, start, lacking=0):
+    """A call of line_far and what it prints. Every seventh sample of the line's row is told."""
+    fields, step = stripe.layers[layer], 1 if layer == 4 else 3
+    k = 1200 // fields["resolution"]
+    row = (line - fields["y"]) // k
+    size = fields["width"] * fields["height"] * step
+    told, pixels = {}, []
+    for x in range(stripe.width):
+        column = (x - fields["x"]) // k
+        inside = 0 <= column < fields["width"] and 0 <= row < fields["height"]
+        sample = bytes(step)
+        if inside and column % 7 == 0:
+            sample = bytes([200, column % 256, row % 256][:step])
+            at = start + (row * fields["width"] + column) * step
+            told.update({at + i: octet for i, octet in enumerate(sample)})
+        if layer == 4:
+            pixels.append(COLOURS[1] if sample != b"\0" else COLOURS[0])
+        else:
+            pixels.append(sample if inside else bytes(fields["colour"]))
+    sheet, planes = bytes(stripe.records(0)), entry(layer, start)
+    told = told if not lacking else {}
+    numbers = (len(sheet), len(planes), start + size - lacking, 4 * stripe.width, 0, line,
+               len(told))
+    words = (b"".join(big(n, 8) for n in numbers) + sheet + planes
+             + b"".join(big(at, 8) + bytes([octet]) for at, octet in told.items()))
+    line_due = b"".join(pixel + b"\1" for pixel in pixels)
+    return words, (b"refused 15 0\n" if lacking else b"done %d\n" % len(line_due) + line_due)
+
+
+def far_calls():
+    """(name, words, what is printed)"""
+    for layer in (1, 4):
+        stripe = far_stripe(300, layer)
+        # rows before and behind 2^31 and 2^32 octets, and the last
+        for line in (0, 1, 10922, 10923, 21845, 21846, 32768, 32769, 43690, 65534):
+            yield ("layer %d, line %d, from 2^32 - 1" % (layer, line),
+                   *far_octets(stripe, layer, line, TOP - 1))
+        yield "layer %d from 0, the last line" % layer, *far_octets(stripe, layer, 65534, 0)
+        yield "layer %d from 5, the last line" % layer, *far_octets(stripe, layer, 65534, 5)
+        yield "layer %d, an octet less" % layer, *far_octets(stripe, layer, 65534, TOP - 1, 1)
+        yield ("layer %d, 2^32 octets less" % layer,
+               *far_octets(stripe, layer, 65534, TOP - 1, TOP))
+        scaled = far_stripe(300, layer, 100, 17, 5)
+        yield "layer %d at 100" % layer, *far_octets(scaled, layer, 65534, TOP - 2)
+        yield "layer %d at 100, line 4" % layer, *far_octets(scaled, layer, 4, TOP - 2)
+    widest = far_stripe(WIDEST, 1, 1200, 3, 0)
+    yield "layer 1 across the widest page", *far_octets(widest, 1, 65534, TOP - 7)
+
+
+# In a small stack
+
+def printed(program, stack, words):
+    try:
+        return in_stack(program, stack, words)
+    except subprocess.TimeoutExpired:
+        return b"no end after %d seconds" % reference_run.SECONDS
+
+
+def check_composer(tally, told, program, far, calls):
+    stack = test_limits.least_stack(program) + STACK
+    for name, call, (answer, line) in calls:
+        got = printed(program, stack, reference_run.line_words(*call))
+        tally.check(got == answer.encode() + b"\n" + line + b".\n",
+                    "%s: %s: %s is due, but it says %s" % (told, name, answer, got[:40]))
+    without = 0
+    for name, words, due in far_calls():
+        got = printed(far, stack, words)
+        if got == b"no memory\n.\n":
+            without += 1
+        else:
+            tally.check(got == due + b".\n", "%s: %s: %s is due, but it says %s"
+                        % (told, name, due[:40], got[:40]))
+    print("%s: %d calls in a stack of %d KiB" % (told, len(calls), stack))
+    if without:
+        print("%s: %d calls are not tried, no memory for their samples" % (told, without))
+
+
+def main():
+    tally = reference_run.Tally()
+    calls = list(wide_calls(random.Random(1)))
+    far = reference_run.build("reference_line_far",
+                              parts=reference_run.CALLS + reference_run.FAR_DRIVER)
+    check_composer(tally, "the reference",
+                   reference_run.build("reference_line_plain", parts=reference_run.LINE), far,
+                   calls)
+    library = reference_run.build_library_driver(tally, "line", reference_run.LINE_DRIVER)
+    if library is not None:
+        far = reference_run.build_library_driver(tally, "line_far", reference_run.FAR_DRIVER)
+        check_composer(tally, "the library", library, far, calls)
+    return tally.end()
+
+
+if __name__ == "__main__":
+    sys.exit(main())

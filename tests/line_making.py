@@ -1,0 +1,185 @@
+"""Sheets, plane lists and samples, made from the words of tests/lines.md; and the lines due.
+
+The tables there say how each is made; this module reads those words, so that a
+case cannot drift from its line. The octets of a line are put together here, not
+by any composer.
+"""
+
+import os
+import re
+
+import page_making
+import sheet_making
+
+ROOM = 200
+MAIN = 400
+NAMED = {"W": (255, 128, 96), "K": (0, 128, 96), "O": (0, 0, 0)}
+HIGH = {"h": 128, "f": 255}
+UNSEEN = bytes(4)
+START, LENGTH = 1000, 10
+STRIPE = re.compile(r"(\d+)x(\d+)(?:x(\d+))?(?:@(\d+))?")
+CODED = re.compile(r"(\d+):(\d+)x(\d+)(?:\+(\d+)\+(\d+))?(?:@(\d+))?")
+
+
+def base_colour(layer):
+    return (200 + layer, 220 + layer, (240 + layer) % 256)
+
+
+def colour(word):
+    """The three octets of a colour's word."""
+    if word in NAMED:
+        return bytes(NAMED[word])
+    if re.fullmatch(r"B\d+", word):
+        return bytes(base_colour(int(word[1:])))
+    if word.startswith("#"):
+        return bytes.fromhex(word[1:])
+    number = ord(word) - ord("a") + 1
+    assert 1 <= number <= 26, word
+    return bytes((number, 50 + number, 100 + number))
+
+
+# Sheets
+
+class Stripe:
+    """A stripe in the making: its layers by number, fields by name."""
+
+    def __init__(self, width, height, layers, main):
+        self.width, self.height, self.main = width, height, main
+        self.layers = {layer: dict(coder=0, x=0, y=0, width=0, height=0, resolution=main,
+                                   colour=base_colour(layer) if layer % 2 else (0, 0, 0),
+                                   start=0, length=0) for layer in range(1, layers + 1)}
+        self.layers[2].update(width=width, height=height)
+
+    def code(self, layer, **fields):
+        self.layers[layer].update(coder=1, start=START, length=LENGTH, **fields)
+
+    def word(self, word):
+        coded = CODED.fullmatch(word)
+        if word == "2":
+            self.code(2)
+        elif word == "all":
+            for layer in self.layers:
+                self.code(layer, width=self.width, height=self.height)
+        elif coded:
+            layer, width, height, x, y, resolution = (int(n or 0) for n in coded.groups())
+            assert layer != 2, word
+            self.code(layer, width=width, height=height, x=x, y=y,
+                      resolution=resolution or self.main)
+        else:
+            layer, name = word.split("=")
+            self.layers[int(layer)]["colour"] = colour(name)
+
+    def records(self, number):
+        return bytearray().join(sheet_making.record(number, layer, **fields)
+                                for layer, fields in self.layers.items())
+
+
+def stripes_of(words):
+    """The stripes of the column `sheet`."""
+    words = re.sub(r"(\d+)\*\(([^()]*)\)", lambda m: " ".join([m[2]] * int(m[1])), words)
+    stripes = []
+    for word in words.split():
+        begins = STRIPE.fullmatch(word)
+        if begins:
+            width, height, layers, main = begins.groups()
+            stripes.append(Stripe(int(width), int(height), int(layers or 3), int(main or MAIN)))
+        elif word != "nothing":
+            stripes[-1].word(word)
+    return stripes
+
+
+# Samples
+
+def sample_octets(layer, words):
+    """The samples behind `L=`, and how many they are."""
+    samples = []
+    for letter, times in re.findall(r"(.)(?:\^(\d+))?", words.replace("/", "")):
+        if layer % 2 == 1:
+            octets = colour(letter)
+        else:
+            octets = bytes([HIGH[letter] if letter in HIGH else int(letter)])
+        samples += [octets] * int(times or 1)
+    return b"".join(samples), len(samples)
+
+
+def entry(layer, start):
+    return bytes([layer]) + start.to_bytes(4, "big")
+
+
+def read_of(words, stripe):
+    """(plane list, samples) of the column `read`; `stripe` is the one called for."""
+    planes, samples = bytearray(), bytearray()
+    for word in words.split():
+        if word == "nothing":
+            continue
+        if word.startswith("_"):
+            samples += b"\xee" * int(word[1:])
+        elif word.startswith("+"):
+            planes += bytes.fromhex(word[1:])
+        elif "@" in word:
+            planes += entry(*map(int, word.split("@")))
+        else:
+            layer, _, written = word.partition("=")
+            octets, count = sample_octets(int(layer), written)
+            if stripe is not None:
+                fields = stripe.layers[int(layer)]
+                assert count == fields["width"] * fields["height"], word
+            planes += entry(int(layer), len(samples))
+            samples += octets
+    return planes, samples
+
+
+# Lines
+
+def line_of(words):
+    """The octets of the column `line`."""
+    octets = bytearray()
+    for word in words.split():
+        times, _, name = word.rpartition("*")
+        octets += (UNSEEN if name == "." else colour(name) + b"\1") * int(times or 1)
+    return bytes(octets)
+
+
+class Case:
+    """A line of the table: its number, name, what is lent, the call, the answer and the line."""
+
+    def __init__(self, cells):
+        self.number, self.name, self.rule, sheet, read, call, changes, self.answer, line = cells
+        stripes = stripes_of(sheet)
+        self.stripe, self.line = map(int, call.split())
+        named = stripes[self.stripe] if self.stripe < len(stripes) else None
+        self.sheet = bytearray().join(stripe.records(k) for k, stripe in enumerate(stripes))
+        self.planes, self.samples = read_of(read, named)
+        self.room = ROOM
+        for change in filter(None, (words.strip() for words in changes.split(";"))):
+            self.change(change)
+        self.due = line_of(line)
+
+    def change(self, words):
+        verb, _, rest = words.partition(" ")
+        if verb == "room":
+            self.room = int(rest)
+        elif verb == "samples":
+            assert int(rest) <= len(self.samples), words
+            del self.samples[int(rest):]
+        else:
+            self.sheet = sheet_making.changed(self.sheet, words)
+
+    def work(self):
+        """(sheet, planes, samples, room, stripe, line)"""
+        return (bytes(self.sheet), bytes(self.planes), bytes(self.samples), self.room,
+                self.stripe, self.line)
+
+    def is_told(self):
+        """The line has the octets that the answer counts; a refusal has none."""
+        return self.answer == "done %d" % len(self.due) or (
+            self.answer.startswith("refused ") and not self.due)
+
+    def told(self):
+        return "line %s, %s: %s" % (self.number, self.name, self.answer)
+
+
+def table(path=None):
+    path = path or os.path.join(os.path.dirname(os.path.abspath(__file__)), "lines.md")
+    return [Case(cells) for cells in page_making.rows(path)
+            if len(cells) == 9 and cells[0].isdigit()]
