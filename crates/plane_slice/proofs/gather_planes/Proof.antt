@@ -55,11 +55,14 @@ use Rattle.plane.proofs.Listing as S
 use Rattle.plane.proofs.Listing.Laws as S′
 use Rattle.plane.proofs.no_planes as empty
 use Rattle.plane.proofs.no_planes.Symbol as empty-def
+use Rattle.plane.proofs.no_planes.Symbol.{name as #plane·no-planes}
 use Rattle.plane.proofs.no_planes.Met as empty-thm
 use Rattle.plane.proofs.with_plane as more
 use Rattle.plane.proofs.with_plane.Symbol as more-def
+use Rattle.plane.proofs.with_plane.Symbol.{name as #plane·with-plane}
 use Rattle.plane.proofs.with_plane.Met as more-thm
 use Rattle.plane_slice.proofs.Walk.{none, scaled, word, slice, machP, after}
+use Rattle.plane_slice.proofs.gather_planes.Key.{name as #plane-slice·gather-planes}
 use Rattle.plane_slice.proofs.gather_planes as f
 use Rattle.plane_slice.proofs.gather_planes.Statement as stated
 use Rattle.plane_slice.proofs.gather_planes.Code as code

@@ -59,11 +59,14 @@ use Rattle.picture_rules.proofs.Start as E
 use Rattle.picture_rules.proofs.Start.Laws as E′
 use Rattle.plane_slice.proofs.start_in as start-in
 use Rattle.plane_slice.proofs.start_in.Symbol as start-in-def
+use Rattle.plane_slice.proofs.start_in.Symbol.{name as #plane-slice·start-in}
 use Rattle.plane_slice.proofs.start_in.Met as start-in-thm
 use Rattle.plane_slice.proofs.unread as unread
 use Rattle.plane_slice.proofs.unread.Symbol as unread-def
+use Rattle.plane_slice.proofs.unread.Symbol.{name as #plane-slice·unread}
 use Rattle.plane_slice.proofs.unread.Met as unread-thm
 use Rattle.plane_slice.proofs.Walk.{none, scaled, word, slice, machP, after}
+use Rattle.plane_slice.proofs.plane_start.Key.{name as #plane-slice·plane-start}
 use Rattle.plane_slice.proofs.plane_start as f
 use Rattle.plane_slice.proofs.plane_start.Statement as stated
 use Rattle.plane_slice.proofs.plane_start.Code as code
