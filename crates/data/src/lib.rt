@@ -1,0 +1,133 @@
+// Coded data handed out: where a layer's data stand, or the refusal; and the part itself, which is never a copy.
+ghost use mathlib.Core.Path.{_≡_};
+ghost use Prim.Native.Nat.{_+_, _≤_, _<_, _/_};
+ghost use lib.ListN.{length, take, drop};
+ghost use Rattle.sheet_rules.specs.Record.{recordSize, recordAt};
+ghost use Rattle.data_rules.specs.Data.{sourceOf, octetsIn, partIn, recordFound, layerFound, stripeFound, foundOf, partOf};
+ghost use Rattle.sheet_rules.specs.declared.FoundStripe.the-variants.{Row};
+ghost use Rattle.data.specs.Steps.{Whole, Accepted};
+use answers::Answer;
+use data_rules::Found;
+use data_rules::Part;
+use data_rules::Source;
+use sheet_rules::FoundLayer;
+use sheet_rules::FoundStripe;
+use sheet_rules::Record;
+use sheet_rules::Stripe;
+use sheet_rules::Verdict;
+
+pub fn source_of(layer: u32) -> Source
+    ensures { λ x. ⌜ x ≡ sourceOf layer ⌝ }
+{
+    if layer <= 3 {
+        Source::Page
+    } else {
+        Source::Pencil
+    }
+}
+
+// How many octets the source of a layer has.
+fn source_len(page: &[u8], pencil: &[u8], layer: u32) -> usize
+    ensures { λ n. ⌜ n ≡ length (octetsIn (now (page .entry)) (now (pencil .entry)) (sourceOf layer)) ⌝ }
+{
+    if layer <= 3 { page.len() } else { pencil.len() }
+}
+
+// The part that a record names; an uncoded layer's is empty.
+pub fn part_in(layer: u32, r: Record) -> Part
+    ensures { λ p. ⌜ p ≡ partIn layer r ⌝ }
+{
+    if r.len == 0 {
+        return Part {
+            source: Source::Page,
+            start: 0,
+            len: 0,
+        };
+    }
+    let source = source_of(layer);
+    Part {
+        source,
+        start: r.start,
+        len: r.len,
+    }
+}
+
+// The record of a layer: its data are there whole.
+fn find_record(sheet: &[u8], page: &[u8], pencil: &[u8], layer: u32, i: usize) -> Found
+    requires { ⌜ (i < length (now sheet) / recordSize) × (i < 4294967296) ⌝ }
+    ensures { λ f. ⌜ f ≡ recordFound (now (page .entry)) (now (pencil .entry)) layer i (recordAt (now (sheet .entry)) i) ⌝ }
+{
+    let r = record::record_at(sheet, i);
+    let n = source_len(page, pencil, layer);
+    if n < r.start as usize + r.len as usize {
+        return Found::Refuses(Answer::Short(i as u32));
+    }
+    Found::Lies(part_in(layer, r))
+}
+
+// A stripe that was found: its layer.
+fn find_in_stripe(sheet: &[u8], page: &[u8], pencil: &[u8], row: Stripe, layer: u32) -> Found
+    requires { ⌜ Whole (now sheet) row ⌝ }
+    ensures { λ f. ⌜ f ≡ stripeFound (now (sheet .entry)) (now (page .entry)) (now (pencil .entry)) layer (Row row) ⌝ }
+{
+    match stripe::find_layer(row, layer as usize) {
+        FoundLayer::NoLayer => Found::Refuses(Answer::BadLine),
+        FoundLayer::At(i) => find_record(sheet, page, pencil, layer, i),
+    }
+}
+
+// A sheet that the judge takes: the stripe before the layer.
+fn find_in_sheet(sheet: &[u8], page: &[u8], pencil: &[u8], stripe: u32, layer: u32) -> Found
+    requires { ⌜ Accepted (now sheet) ⌝ }
+    ensures { λ f. ⌜ f ≡ foundOf (now (sheet .entry)) (now (page .entry)) (now (pencil .entry)) stripe layer ⌝ }
+{
+    match stripe::find_stripe(sheet, stripe as usize) {
+        FoundStripe::NoStripe => Found::Refuses(Answer::BadLine),
+        FoundStripe::Row(row) => find_in_stripe(sheet, page, pencil, row, layer),
+    }
+}
+
+// Where the coded data of a layer of a stripe stand, or the refusal.
+pub fn find_data(sheet: &[u8], page: &[u8], pencil: &[u8], stripe: u32, layer: u32) -> Found
+    ensures { λ f. ⌜ f ≡ foundOf (now (sheet .entry)) (now (page .entry)) (now (pencil .entry)) stripe layer ⌝ }
+{
+    match sheet::judge(sheet) {
+        Verdict::Bad { record } => Found::Refuses(Answer::BadSheet(record as u32)),
+        Verdict::Good {
+            records: _,
+            stripes: _,
+        } => find_in_sheet(sheet, page, pencil, stripe, layer),
+    }
+}
+
+// So many octets of a slice from a place on.
+fn octets_from(s: &[u8], start: u32, len: u32) -> &[u8]
+    requires { ⌜ start + len ≤ length (now s) ⌝ }
+    ensures { λ r. ⌜ now r ≡ take len (drop start (now (s .entry))) ⌝ }
+{
+    let a = start as usize;
+    let e = start as usize + len as usize;
+    &s[a..e]
+}
+
+// The part itself: a part of the page or of the pencil file, chosen by the layer's number. Nothing is copied.
+pub fn data_part<'a>(
+    sheet: &[u8],
+    page: &'a [u8],
+    pencil: &'a [u8],
+    stripe: u32,
+    layer: u32,
+) -> &'a [u8]
+    ensures { λ r. ⌜ now r ≡ partOf (now (sheet .entry)) (now (page .entry)) (now (pencil .entry)) stripe layer ⌝ }
+{
+    match find_data(sheet, page, pencil, stripe, layer) {
+        Found::Refuses(_) => &page[..0],
+        Found::Lies(p) => {
+            let source = p.source;
+            match source {
+                Source::Page => octets_from(page, p.start, p.len),
+                Source::Pencil => octets_from(pencil, p.start, p.len),
+            }
+        }
+    }
+}

@@ -1,0 +1,4 @@
+pub mod Layer
+pub mod Cases
+pub mod Exactly
+pub mod Handed
