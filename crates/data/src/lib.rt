@@ -2,6 +2,7 @@
 ghost use mathlib.Core.Path.{_≡_};
 ghost use Prim.Native.Nat.{_+_, _≤_, _<_, _/_};
 ghost use lib.ListN.{length, take, drop};
+ghost use lib.Dec.{ltb};
 ghost use Rattle.sheet_rules.specs.Record.{recordSize, recordAt};
 ghost use Rattle.data_rules.specs.Data.{sourceOf, octetsIn, partIn, recordFound, layerFound, stripeFound, foundOf, partOf};
 ghost use Rattle.sheet_rules.specs.declared.FoundStripe.the-variants.{Row};
@@ -52,14 +53,21 @@ pub fn part_in(layer: u32, r: Record) -> Part
     }
 }
 
-// The record of a layer: its data are there whole.
+// The record's data pass the end of what holds them. The sum is made in 64 bits, where it cannot wrap.
+fn data_passes(page: &[u8], pencil: &[u8], layer: u32, r: Record) -> bool
+    ensures { λ b. ⌜ b ≡ ltb (length (octetsIn (now (page .entry)) (now (pencil .entry)) (sourceOf layer))) (r .start + r .len) ⌝ }
+{
+    let n = source_len(page, pencil, layer);
+    (n as u64) < record_tests::end_of(r.start, r.len)
+}
+
+// The record of a layer: its data are there whole, or it is at fault.
 fn find_record(sheet: &[u8], page: &[u8], pencil: &[u8], layer: u32, i: usize) -> Found
     requires { ⌜ (i < length (now sheet) / recordSize) × (i < 4294967296) ⌝ }
     ensures { λ f. ⌜ f ≡ recordFound (now (page .entry)) (now (pencil .entry)) layer i (recordAt (now (sheet .entry)) i) ⌝ }
 {
     let r = record::record_at(sheet, i);
-    let n = source_len(page, pencil, layer);
-    if n < r.start as usize + r.len as usize {
+    if data_passes(page, pencil, layer, r) {
         return Found::Refuses(Answer::Short(i as u32));
     }
     Found::Lies(part_in(layer, r))

@@ -1,0 +1,205 @@
+-- One law for each way out of the functions that find coded data: its premises are what is known there.
+-- Assumes nothing.
+use Prim.Native.Nat.{ℕ, _+_, _-_, _/_, _≤_, _<_}
+use native.Mathlib.Omega.{arith}
+use mathlib.Core.Path.{_≡_, refl, sym, ap, ap₂, subst, _∙_}
+use mathlib.Core.Logic.{⊎-elim}
+use mathlib.Core.Bool.{Bool, true, false, cond, _&&_}
+use mathlib.Core.List.{List, []}
+use lib.ListN.{length, take, drop}
+use lib.Dec.{eqb, leb, ltb}
+use borrow.Author.Tests.{eq-eqb, ne-eqb}
+use borrow.Author.Needs.{needs}
+use Rattle.cases.proofs.Cases.{cond-with, clash}
+use Rattle.cases.proofs.Says.{says-le, says-lt, says-and, says-else}
+use Rattle.answers.specs.declared.Answer.{Answer}
+use Rattle.answers.specs.declared.Answer.the-variants.{Short, BadSheet, BadLine}
+use Rattle.sheet_rules.specs.declared.Record.{Record}
+use Rattle.sheet_rules.specs.declared.Stripe.{Stripe}
+use Rattle.sheet_rules.specs.declared.FoundStripe.{FoundStripe}
+use Rattle.sheet_rules.specs.declared.FoundStripe.the-variants.{Row, NoStripe}
+use Rattle.sheet_rules.specs.declared.FoundLayer.{FoundLayer}
+use Rattle.sheet_rules.specs.declared.FoundLayer.the-variants.{At, NoLayer}
+use Rattle.sheet_rules.specs.declared.Verdict.{Verdict}
+use Rattle.sheet_rules.specs.declared.Verdict.the-variants.{Good, Bad}
+use Rattle.sheet_rules.specs.Record.{recordSize, recordAt, records}
+use Rattle.sheet_rules.specs.Judge.{judgeOf, answerOf}
+use Rattle.sheet_rules.specs.Stripe.{rowOf, findStripe, findLayer}
+use Rattle.sheet_rules.proofs.Theorems.{sheet-accepted, refused-few, sheet-few}
+use Rattle.sheet_rules.proofs.Table.{sheet-table, stripe-found, stripe-missing, layer-found}
+use Rattle.data_rules.specs.declared.Source.{Source}
+use Rattle.data_rules.specs.declared.Source.the-variants.{Page, Pencil}
+use Rattle.data_rules.specs.declared.Part.{Part}
+use Rattle.data_rules.specs.declared.Found.{Found}
+use Rattle.data_rules.specs.declared.Found.the-variants.{Lies, Refuses}
+use Rattle.data_rules.specs.Data.{sourceOf, octetsIn, emptyPart, partIn, recordFound, layerFound, stripeFound, sheetFound, foundOf, partBy, partOf}
+use Rattle.data_rules.proofs.Layer.{source-low, source-high, octets-low, octets-high}
+use Rattle.data_rules.proofs.Handed.{lies-within}
+use Rattle.data.specs.Steps.{Whole, Accepted}
+
+-- ---- the source of a layer
+
+module _ (l : ℕ) where
+  pub source-page : l ≤ 3 → Page ≡ sourceOf l
+  source-page h = sym (source-low l h)
+
+  pub source-pencil : 3 < l → Pencil ≡ sourceOf l
+  source-pencil h = sym (source-high l h)
+
+module _ (page pencil : List ℕ) (l : ℕ) where
+  pub len-page : l ≤ 3 → length page ≡ length (octetsIn page pencil (sourceOf l))
+  len-page h = sym (ap length (octets-low page pencil l h))
+
+  pub len-pencil : 3 < l → length pencil ≡ length (octetsIn page pencil (sourceOf l))
+  len-pencil h = sym (ap length (octets-high page pencil l h))
+
+-- ---- the part of a record
+
+module _ (l : ℕ) (r : Record) where
+  pub in-uncoded : r .len ≡ 0 → emptyPart ≡ partIn l r
+  unfolding partIn
+  in-uncoded e = simp (eq-eqb (r .len) 0 e)
+
+  pub in-coded : (x : Source) → (r .len ≡ 0 → ⊥) → x ≡ sourceOf l → record { source = x; start = r .start; len = r .len } ≡ partIn l r
+  unfolding partIn
+  in-coded x d e = simp (ne-eqb (r .len) 0 d, e)
+
+module _ (page pencil : List ℕ) (l : ℕ) (r : Record) where
+  pub passes-made : (n e : ℕ) → n ≡ length (octetsIn page pencil (sourceOf l)) → e ≡ r .start + r .len
+      → ltb n e ≡ ltb (length (octetsIn page pencil (sourceOf l))) (r .start + r .len)
+  passes-made n e p q = ap₂ ltb p q
+
+module _ (s page pencil : List ℕ) (l i : ℕ) (r : Record) (b : Bool) (e : r ≡ recordAt s i)
+    (q : b ≡ ltb (length (octetsIn page pencil (sourceOf l))) (r .start + r .len)) where
+  by-test : cond b (Refuses (Short i)) (Lies (partIn l r)) ≡ recordFound page pencil l i (recordAt s i)
+  unfolding recordFound
+  by-test = ap (λ (c : Bool). cond c (Refuses (Short i)) (Lies (partIn l r))) q ∙ ap (recordFound page pencil l i) e
+
+  pub record-short : b ≡ true → Refuses (Short i) ≡ recordFound page pencil l i (recordAt s i)
+  record-short t = rw t at by-test
+
+  pub record-lies : (p : Part) → b ≡ false → p ≡ partIn l r → Lies p ≡ recordFound page pencil l i (recordAt s i)
+  record-lies p t h = ap Lies h ∙ rw t at by-test
+
+-- ---- a layer of a stripe
+
+module _ (s page pencil : List ℕ) (row : Stripe) (l : ℕ) (f : FoundLayer) (e : f ≡ findLayer row l) where
+  pub layer-none : f ≡ NoLayer → Refuses BadLine ≡ stripeFound s page pencil l (Row row)
+  unfolding stripeFound layerFound
+  layer-none z = ap (layerFound s page pencil l) (sym z ∙ e)
+
+  pub layer-there : (i : ℕ) (q : Found) → f ≡ At i → q ≡ recordFound page pencil l i (recordAt s i) → q ≡ stripeFound s page pencil l (Row row)
+  unfolding stripeFound layerFound
+  layer-there i q z h = h ∙ ap (layerFound s page pencil l) (sym z ∙ e)
+
+-- the record of a layer that is found is there
+layer-within : (s : List ℕ) (row : Stripe) (l : ℕ) (f : FoundLayer) (i : ℕ) → Whole s row → f ≡ findLayer row l → f ≡ At i
+    → (i < length s / recordSize) × (i < 4294967296)
+unfolding findLayer
+layer-within s row l f i w e z =
+    cond-with (λ (x : FoundLayer). x ≡ At i → (i < length s / recordSize) × (i < 4294967296)) (leb 1 l && leb l (row .layers))
+    (λ t q.
+    let h = says-and (says-le 1 l) (says-le l (row .layers)) .told t in
+    let a = h .0 in
+    let b = h .1 in
+    let p : row .first + (l - 1) ≡ i = cc in
+    let m = w .records in
+    let n = w .few in
+    (omega arith, omega arith))
+    (λ t q. clash cc)
+    (sym e ∙ z)
+
+module _ (s : List ℕ) (row : Stripe) (l : ℕ) (f : FoundLayer) (i : ℕ) (w : Whole s row) (e : f ≡ findLayer row l) (z : f ≡ At i) where
+  pub layer-in : i < length s / recordSize
+  layer-in = layer-within s row l f i w e z .0
+
+  pub layer-small : i < 4294967296
+  layer-small = layer-within s row l f i w e z .1
+
+-- ---- a stripe of a sheet
+
+module _ (s page pencil : List ℕ) (k l : ℕ) where
+  good-found : Accepted s → foundOf s page pencil k l ≡ stripeFound s page pencil l (findStripe s k)
+  unfolding foundOf sheetFound
+  good-found g = rw (g .good) refl
+
+  pub stripe-none : (f : FoundStripe) → Accepted s → f ≡ findStripe s k → f ≡ NoStripe → Refuses BadLine ≡ foundOf s page pencil k l
+  unfolding stripeFound
+  stripe-none f g e z = sym (good-found g ∙ ap (stripeFound s page pencil l) (sym e ∙ z))
+
+  pub stripe-row : (f : FoundStripe) (row : Stripe) (q : Found) → Accepted s → f ≡ findStripe s k → f ≡ Row row → q ≡ stripeFound s page pencil l (Row row)
+      → q ≡ foundOf s page pencil k l
+  stripe-row f row q g e z h = h ∙ sym (good-found g ∙ ap (stripeFound s page pencil l) (sym e ∙ z))
+
+  pub sheet-bad : (v : Verdict) (i : ℕ) → v ≡ judgeOf s → v ≡ Bad i → Refuses (BadSheet i) ≡ foundOf s page pencil k l
+  unfolding foundOf sheetFound answerOf
+  sheet-bad v i e z = rw (← e, z) refl
+
+pub sheet-good : (s : List ℕ) (v : Verdict) (n m : ℕ) → v ≡ judgeOf s → v ≡ Good n m → Accepted s
+sheet-good s v n m e z = record { records = n; stripes = m; good = sym e ∙ z }
+
+-- a stripe that is found has its records in the sheet
+pub found-whole : (s : List ℕ) (k : ℕ) (f : FoundStripe) (row : Stripe) → Accepted s → f ≡ findStripe s k → f ≡ Row row → Whole s row
+found-whole s k f row g e z = ⊎-elim in-sheet past (says-else (says-lt k (g .stripes)))
+  where
+    in-sheet : k < g .stripes → Whole s row
+    in-sheet h =
+        let q : row ≡ rowOf k (records s) = let w = stripe-found s (g .records) (g .stripes) (g .good) k h in cc in
+        let n = sheet-few s (g .records) (g .stripes) (g .good) .3 in
+        let m = sheet-few s (g .records) (g .stripes) (g .good) .0 in
+        let z = sheet-accepted s (g .records) (g .stripes) .0 (g .good) in
+        let st = z .stripes in
+        let c = sheet-table (records s) (z .sheet) .layers k (omega arith) in
+        let l = layer-found s (g .records) (g .stripes) (g .good) k (rowOf k (records s) .layers) (omega arith) (omega arith) .3 in
+        subst (Whole s) (sym q) (record { records = omega arith; few = omega arith })
+
+    past : (k < g .stripes → ⊥) → Whole s row
+    past h = let w = stripe-missing s (g .records) (g .stripes) (g .good) k (omega arith) in clash cc
+
+pub fault-small : (s : List ℕ) (v : Verdict) (i : ℕ) → v ≡ judgeOf s → v ≡ Bad i → i < 4294967296
+fault-small s v i e z = let f = refused-few s i (sym e ∙ z) .0 in omega arith
+
+-- ---- the part itself
+
+pub octets-made : (s : List ℕ) (start len : ℕ) → take (start + len - start) (drop start s) ≡ take len (drop start s)
+octets-made s start len = let z : start + len - start ≡ len = omega arith in ap (λ (n : ℕ). take n (drop start s)) z
+
+module _ (s page pencil : List ℕ) (k l : ℕ) (f : Found) (e : f ≡ foundOf s page pencil k l) where
+  pub part-none : (a : Answer) → f ≡ Refuses a → [] ≡ partOf s page pencil k l
+  unfolding partOf partBy
+  part-none a z = ap (partBy page pencil) (sym z ∙ e)
+
+  module _ (p : Part) (z : f ≡ Lies p) where
+    part-as : (d : List ℕ) → octetsIn page pencil (p .source) ≡ d → (r : List ℕ) → r ≡ take (p .len) (drop (p .start) d) → r ≡ partOf s page pencil k l
+    unfolding partOf partBy
+    part-as d q r h = h ∙ ap (λ (x : List ℕ). take (p .len) (drop (p .start) x)) (sym q) ∙ ap (partBy page pencil) (sym z ∙ e)
+
+    fits-as : (d : List ℕ) → octetsIn page pencil (p .source) ≡ d → p .start + p .len ≤ length d
+    fits-as d q = subst (λ (x : List ℕ). p .start + p .len ≤ length x) q (lies-within s page pencil k l p (sym e ∙ z))
+
+    module _ (x : Source) (u : x ≡ p .source) where
+      in-page : x ≡ Page → octetsIn page pencil (p .source) ≡ page
+      unfolding octetsIn
+      in-page v = ap (octetsIn page pencil) (sym u ∙ v)
+
+      in-pencil : x ≡ Pencil → octetsIn page pencil (p .source) ≡ pencil
+      unfolding octetsIn
+      in-pencil v = ap (octetsIn page pencil) (sym u ∙ v)
+
+      pub fits-page : x ≡ Page → p .start + p .len ≤ length page
+      fits-page v = fits-as page (in-page v)
+
+      pub fits-pencil : x ≡ Pencil → p .start + p .len ≤ length pencil
+      fits-pencil v = fits-as pencil (in-pencil v)
+
+      pub part-page : (r : List ℕ) → x ≡ Page → r ≡ take (p .len) (drop (p .start) page) → r ≡ partOf s page pencil k l
+      part-page r v h = part-as page (in-page v) r h
+
+      pub part-pencil : (r : List ℕ) → x ≡ Pencil → r ≡ take (p .len) (drop (p .start) pencil) → r ≡ partOf s page pencil k l
+      part-pencil r v h = part-as pencil (in-pencil v) r h
+
+pub ruleset naming = (needs, source-page, source-pencil, len-page, len-pencil, in-uncoded, in-coded, passes-made, record-short, record-lies)
+
+pub ruleset finding = (needs, layer-none, layer-there, layer-in, layer-small, stripe-none, stripe-row, sheet-bad, sheet-good, found-whole, fault-small)
+
+pub ruleset handing = (needs, octets-made, part-none, fits-page, fits-pencil, part-page, part-pencil)
