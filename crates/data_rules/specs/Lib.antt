@@ -1,2 +1,3 @@
 pub mod Data
 pub mod Sentences
+pub mod Own
