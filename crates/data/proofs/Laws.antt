@@ -13,7 +13,7 @@ use borrow.Author.Needs.{needs}
 use Rattle.cases.proofs.Cases.{cond-with, clash}
 use Rattle.cases.proofs.Says.{says-le, says-lt, says-and, says-else}
 use Rattle.answers.specs.declared.Answer.{Answer}
-use Rattle.answers.specs.declared.Answer.the-variants.{Short, BadSheet, BadLine}
+use Rattle.answers.specs.declared.Answer.the-variants.{Done, Short, BadSheet, BadLine}
 use Rattle.sheet_rules.specs.declared.Record.{Record}
 use Rattle.sheet_rules.specs.declared.Stripe.{Stripe}
 use Rattle.sheet_rules.specs.declared.FoundStripe.{FoundStripe}
@@ -32,10 +32,14 @@ use Rattle.data_rules.specs.declared.Source.the-variants.{Page, Pencil}
 use Rattle.data_rules.specs.declared.Part.{Part}
 use Rattle.data_rules.specs.declared.Found.{Found}
 use Rattle.data_rules.specs.declared.Found.the-variants.{Lies, Refuses}
-use Rattle.data_rules.specs.Data.{sourceOf, octetsIn, emptyPart, partIn, recordFound, layerFound, stripeFound, sheetFound, foundOf, partBy, partOf}
+use Rattle.data_rules.specs.Data.{sourceOf, sourceNumber, octetsIn, emptyPart, partIn, recordFound, layerFound, stripeFound, sheetFound, foundOf, dataBy, partBy, partOf, sourceBy, startBy}
 use Rattle.data_rules.proofs.Layer.{source-low, source-high, octets-low, octets-high}
 use Rattle.data_rules.proofs.Handed.{lies-within}
+use Rattle.report.specs.declared.Report.{Report}
+use Rattle.report.specs.Report.{reportOf}
+use Rattle.data.specs.declared.DataReport.{DataReport}
 use Rattle.data.specs.Steps.{Whole, Accepted}
+use Rattle.data.specs.Reported.{reportAt, reportFound}
 
 -- ---- the source of a layer
 
@@ -197,6 +201,33 @@ module _ (s page pencil : List ℕ) (k l : ℕ) (f : Found) (e : f ≡ foundOf s
 
       pub part-pencil : (r : List ℕ) → x ≡ Pencil → r ≡ take (p .len) (drop (p .start) pencil) → r ≡ partOf s page pencil k l
       part-pencil r v h = part-as pencil (in-pencil v) r h
+
+-- ---- the report
+
+module _ (x : Source) where
+  pub number-page : x ≡ Page → 0 ≡ sourceNumber x
+  unfolding sourceNumber
+  number-page e = ap sourceNumber (sym e)
+
+  pub number-pencil : x ≡ Pencil → 1 ≡ sourceNumber x
+  unfolding sourceNumber
+  number-pencil e = ap sourceNumber (sym e)
+
+pub report-made : (a : Answer) (x n : ℕ) (q : Report) → q ≡ reportOf a
+    → record { number = q .number; place = q .place; count = q .count; source = x; start = n } ≡ reportAt a x n
+unfolding reportAt reportOf
+report-made a x n q e = ap (λ (z : Report). record { number = z .number; place = z .place; count = z .count; source = x; start = n }) e
+
+module _ (f : Found) (r : DataReport) where
+  pub report-lies : (p : Part) (n : ℕ) → f ≡ Lies p → n ≡ sourceNumber (p .source) → r ≡ reportAt (Done (p .len)) n (p .start) → r ≡ reportFound f
+  unfolding reportFound dataBy sourceBy startBy
+  report-lies p n z e h = h ∙ ap (λ (m : ℕ). reportAt (Done (p .len)) m (p .start)) e ∙ ap reportFound (sym z)
+
+  pub report-refuses : (a : Answer) → f ≡ Refuses a → r ≡ reportAt a 0 0 → r ≡ reportFound f
+  unfolding reportFound dataBy sourceBy startBy sourceNumber
+  report-refuses a z h = h ∙ ap reportFound (sym z)
+
+pub ruleset reporting = (needs, number-page, number-pencil, report-made, report-lies, report-refuses)
 
 pub ruleset naming = (needs, source-page, source-pencil, len-page, len-pencil, in-uncoded, in-coded, passes-made, record-short, record-lies)
 

@@ -4,9 +4,10 @@ ghost use Prim.Native.Nat.{_+_, _≤_, _<_, _/_};
 ghost use lib.ListN.{length, take, drop};
 ghost use lib.Dec.{ltb};
 ghost use Rattle.sheet_rules.specs.Record.{recordSize, recordAt};
-ghost use Rattle.data_rules.specs.Data.{sourceOf, octetsIn, partIn, recordFound, layerFound, stripeFound, foundOf, partOf};
+ghost use Rattle.data_rules.specs.Data.{sourceOf, sourceNumber, octetsIn, partIn, recordFound, layerFound, stripeFound, foundOf};
 ghost use Rattle.sheet_rules.specs.declared.FoundStripe.the-variants.{Row};
 ghost use Rattle.data.specs.Steps.{Whole, Accepted};
+ghost use Rattle.data.specs.Reported.{reportAt, reportFound, HandsPart};
 use answers::Answer;
 use data_rules::Found;
 use data_rules::Part;
@@ -16,6 +17,16 @@ use sheet_rules::FoundStripe;
 use sheet_rules::Record;
 use sheet_rules::Stripe;
 use sheet_rules::Verdict;
+
+// What was found, as the viewer in C is given it: number, place and count of the answer, and where the part stands. The layout is the header's: viewers link it.
+#[repr(C)]
+pub struct DataReport {
+    pub number: u32,
+    pub place: u32,
+    pub count: u64,
+    pub source: u32,
+    pub start: u32,
+}
 
 pub fn source_of(layer: u32) -> Source
     ensures { λ x. ⌜ x ≡ sourceOf layer ⌝ }
@@ -126,7 +137,7 @@ pub fn data_part<'a>(
     stripe: u32,
     layer: u32,
 ) -> &'a [u8]
-    ensures { λ r. ⌜ now r ≡ partOf (now (sheet .entry)) (now (page .entry)) (now (pencil .entry)) stripe layer ⌝ }
+    ensures { λ r. ⌜ HandsPart (now (sheet .entry)) (now (page .entry)) (now (pencil .entry)) stripe layer (now r) ⌝ }
 {
     match find_data(sheet, page, pencil, stripe, layer) {
         Found::Refuses(_) => &page[..0],
@@ -137,5 +148,41 @@ pub fn data_part<'a>(
                 Source::Pencil => octets_from(pencil, p.start, p.len),
             }
         }
+    }
+}
+
+pub fn source_number(x: Source) -> u32
+    ensures { λ n. ⌜ n ≡ sourceNumber x ⌝ }
+{
+    match x {
+        Source::Page => 0,
+        Source::Pencil => 1,
+    }
+}
+
+// The report of an answer and of a place.
+fn report_at(a: Answer, source: u32, start: u32) -> DataReport
+    ensures { λ r. ⌜ r ≡ reportAt a source start ⌝ }
+{
+    let r = report::reported(a);
+    DataReport {
+        number: r.number,
+        place: r.place,
+        count: r.count,
+        source,
+        start,
+    }
+}
+
+pub fn report_found(f: Found) -> DataReport
+    ensures { λ r. ⌜ r ≡ reportFound f ⌝ }
+{
+    match f {
+        Found::Lies(p) => {
+            let x = p.source;
+            let source = source_number(x);
+            report_at(Answer::Done(p.len as u64), source, p.start)
+        }
+        Found::Refuses(a) => report_at(a, 0, 0),
     }
 }

@@ -1,0 +1,28 @@
+-- What is handed to the viewer: the part itself, and the report of where it stands.
+--
+--   HandsPart s page pencil k l p    p is the part that is handed out
+--   reportAt a x n                   the report of an answer, with the number of a source and a start
+--   reportFound f                    the report of what was found
+--   dataReport s page pencil k l     the report of a request
+use Prim.Native.Nat.{ℕ}
+use mathlib.Core.Path.{_≡_, refl}
+use mathlib.Core.List.{List}
+use Rattle.answers.specs.declared.Answer.{Answer}
+use Rattle.answers.specs.Answers.{numberOf, placeOf, countOf}
+use Rattle.data_rules.specs.declared.Found.{Found}
+use Rattle.data_rules.specs.Data.{sourceNumber, foundOf, dataBy, dataOf, partOf, sourceBy, partSource, startBy, partStart}
+use Rattle.data.specs.declared.DataReport.{DataReport}
+
+abbrev pub HandsPart : List ℕ → List ℕ → List ℕ → ℕ → ℕ → List ℕ → Type 0
+HandsPart s page pencil k l p = p ≡ partOf s page pencil k l
+
+unfoldable pub reportAt : Answer → ℕ → ℕ → DataReport
+reportAt a x n = record { number = numberOf a; place = placeOf a; count = countOf a; source = x; start = n }
+
+unfoldable pub reportFound : Found → DataReport
+unfolding reportAt
+reportFound f = reportAt (dataBy f) (sourceNumber (sourceBy f)) (startBy f)
+
+unfoldable pub dataReport : List ℕ → List ℕ → List ℕ → ℕ → ℕ → DataReport
+unfolding reportAt
+dataReport s page pencil k l = reportAt (dataOf s page pencil k l) (sourceNumber (partSource s page pencil k l)) (partStart s page pencil k l)
