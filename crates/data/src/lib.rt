@@ -77,9 +77,10 @@ fn find_record(sheet: &[u8], page: &[u8], pencil: &[u8], layer: u32, i: usize) -
     requires { ⌜ (i < length (now sheet) / recordSize) × (i < 4294967296) ⌝ }
     ensures { λ f. ⌜ f ≡ recordFound (now (page .entry)) (now (pencil .entry)) layer i (recordAt (now (sheet .entry)) i) ⌝ }
 {
+    let place = i as u32;
     let r = record::record_at(sheet, i);
     if data_passes(page, pencil, layer, r) {
-        return Found::Refuses(Answer::Short(i as u32));
+        return Found::Refuses(Answer::Short(place));
     }
     Found::Lies(part_in(layer, r))
 }

@@ -3,14 +3,14 @@ use borrow.Author.Needs.{needs}
 use Rattle.data.proofs.find_record.Statement.{statement}
 use Rattle.data.proofs.find_record.Tie as tie
 
+cast-place : tie.Need-cast-place
+cast-place c = search needs
+
 record-at-requires : tie.Need-record-at-requires
 record-at-requires c κs = search needs
 
 data-passes-requires : tie.Need-data-passes-requires
 data-passes-requires c κs = search needs
-
-cast-t8 : tie.Need-cast-t8
-cast-t8 c = search needs
 
 returns : tie.Need-returns
 returns c = search naming
@@ -24,4 +24,10 @@ returns-2 c = search naming
 pub find-record-spec : {M : Type 1} → statement M
 find-record-spec =
     tie.close
-    (tie.spec record-at-requires data-passes-requires cast-t8 returns part-in-requires returns-2)
+    (tie.spec
+    cast-place
+    record-at-requires
+    data-passes-requires
+    returns
+    part-in-requires
+    returns-2)
