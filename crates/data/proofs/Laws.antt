@@ -5,11 +5,12 @@ use native.Mathlib.Omega.{arith}
 use mathlib.Core.Path.{_≡_, refl, sym, ap, ap₂, subst, _∙_}
 use mathlib.Core.Logic.{⊎-elim}
 use mathlib.Core.Bool.{Bool, true, false, cond, _&&_}
-use mathlib.Core.List.{List, []}
+use mathlib.Core.List.{List}
 use lib.ListN.{length, take, drop}
 use lib.Dec.{eqb, leb, ltb}
 use borrow.Author.Tests.{eq-eqb, ne-eqb}
 use borrow.Author.Needs.{needs}
+use denote.Ref.{RefT, now, ptr}
 use Rattle.cases.proofs.Cases.{cond-with, clash}
 use Rattle.cases.proofs.Says.{says-le, says-lt, says-and, says-else}
 use Rattle.answers.specs.declared.Answer.{Answer}
@@ -32,14 +33,14 @@ use Rattle.data_rules.specs.declared.Source.the-variants.{Page, Pencil}
 use Rattle.data_rules.specs.declared.Part.{Part}
 use Rattle.data_rules.specs.declared.Found.{Found}
 use Rattle.data_rules.specs.declared.Found.the-variants.{Lies, Refuses}
-use Rattle.data_rules.specs.Data.{sourceOf, sourceNumber, octetsIn, emptyPart, partIn, recordFound, layerFound, stripeFound, sheetFound, foundOf, dataBy, partBy, partOf, sourceBy, startBy}
+use Rattle.data_rules.specs.Data.{sourceOf, sourceNumber, octetsIn, emptyPart, partIn, recordFound, layerFound, stripeFound, sheetFound, foundOf, dataBy, partBy, partOf, sourceBy, partSource, startBy, partStart}
 use Rattle.data_rules.proofs.Layer.{source-low, source-high, octets-low, octets-high}
 use Rattle.data_rules.proofs.Handed.{lies-within}
 use Rattle.report.specs.declared.Report.{Report}
 use Rattle.report.specs.Report.{reportOf}
 use Rattle.data.specs.declared.DataReport.{DataReport}
 use Rattle.data.specs.Steps.{Whole, Accepted}
-use Rattle.data.specs.Reported.{reportAt, reportFound}
+use Rattle.data.specs.Reported.{spot, PartAt, lentFrom, HandsPart, reportAt, reportFound}
 
 -- ---- the source of a layer
 
@@ -165,42 +166,54 @@ fault-small s v i e z = let f = refused-few s i (sym e ∙ z) .0 in omega arith
 
 -- ---- the part itself
 
-pub octets-made : (s : List ℕ) (start len : ℕ) → take (start + len - start) (drop start s) ≡ take len (drop start s)
-octets-made s start len = let z : start + len - start ≡ len = omega arith in ap (λ (n : ℕ). take n (drop start s)) z
+pub octets-made : (d : RefT (List ℕ)) (start n : ℕ) (r : RefT (List ℕ)) → now r ≡ take (start + n - start) (drop start (now d)) → ptr r ≡ spot d start → PartAt d start n r
+octets-made d start n r e q =
+    let z : start + n - start ≡ n = omega arith in record { octets = e ∙ ap (λ (j : ℕ). take j (drop start (now d))) z; place = q }
 
-module _ (s page pencil : List ℕ) (k l : ℕ) (f : Found) (e : f ≡ foundOf s page pencil k l) where
-  pub part-none : (a : Answer) → f ≡ Refuses a → [] ≡ partOf s page pencil k l
-  unfolding partOf partBy
-  part-none a z = ap (partBy page pencil) (sym z ∙ e)
+module _ (s : List ℕ) (page pencil : RefT (List ℕ)) (k l : ℕ) (f : Found) (e : f ≡ foundOf s (now page) (now pencil) k l) where
+  -- what is found, in words of what the call was answered
+  hands-as : (g : Found) → f ≡ g → (r : RefT (List ℕ)) → now r ≡ partBy (now page) (now pencil) g → ptr r ≡ spot (lentFrom page pencil (sourceBy g)) (startBy g)
+      → HandsPart s page pencil k l r
+  unfolding partOf partSource partStart
+  hands-as g z r o q =
+      record {
+        octets = o ∙ ap (partBy (now page) (now pencil)) (sym z ∙ e);
+        place = q ∙ ap (λ (x : Found). spot (lentFrom page pencil (sourceBy x)) (startBy x)) (sym z ∙ e);
+      }
+
+  pub part-none : (a : Answer) (r : RefT (List ℕ)) → f ≡ Refuses a → PartAt page 0 0 r → HandsPart s page pencil k l r
+  unfolding partBy sourceBy startBy lentFrom
+  part-none a r z w = hands-as (Refuses a) z r (w .octets) (w .place)
 
   module _ (p : Part) (z : f ≡ Lies p) where
-    part-as : (d : List ℕ) → octetsIn page pencil (p .source) ≡ d → (r : List ℕ) → r ≡ take (p .len) (drop (p .start) d) → r ≡ partOf s page pencil k l
-    unfolding partOf partBy
-    part-as d q r h = h ∙ ap (λ (x : List ℕ). take (p .len) (drop (p .start) x)) (sym q) ∙ ap (partBy page pencil) (sym z ∙ e)
+    fits-as : (d : List ℕ) → octetsIn (now page) (now pencil) (p .source) ≡ d → p .start + p .len ≤ length d
+    fits-as d q = subst (λ (x : List ℕ). p .start + p .len ≤ length x) q (lies-within s (now page) (now pencil) k l p (sym e ∙ z))
 
-    fits-as : (d : List ℕ) → octetsIn page pencil (p .source) ≡ d → p .start + p .len ≤ length d
-    fits-as d q = subst (λ (x : List ℕ). p .start + p .len ≤ length x) q (lies-within s page pencil k l p (sym e ∙ z))
+    -- of the slice that holds it
+    part-as : (x : Source) → p .source ≡ x → (r : RefT (List ℕ)) → PartAt (lentFrom page pencil x) (p .start) (p .len) r → now (lentFrom page pencil x) ≡ octetsIn (now page) (now pencil) x
+        → HandsPart s page pencil k l r
+    unfolding partBy sourceBy startBy
+    part-as x q r w v =
+        hands-as (Lies p) z r
+        (w .octets ∙ ap (λ (d : List ℕ). take (p .len) (drop (p .start) d)) (v ∙ ap (octetsIn (now page) (now pencil)) (sym q)))
+        (w .place ∙ ap (λ (y : Source). spot (lentFrom page pencil y) (p .start)) (sym q))
 
     module _ (x : Source) (u : x ≡ p .source) where
-      in-page : x ≡ Page → octetsIn page pencil (p .source) ≡ page
+      pub fits-page : x ≡ Page → p .start + p .len ≤ length (now page)
       unfolding octetsIn
-      in-page v = ap (octetsIn page pencil) (sym u ∙ v)
+      fits-page v = fits-as (now page) (ap (octetsIn (now page) (now pencil)) (sym u ∙ v))
 
-      in-pencil : x ≡ Pencil → octetsIn page pencil (p .source) ≡ pencil
+      pub fits-pencil : x ≡ Pencil → p .start + p .len ≤ length (now pencil)
       unfolding octetsIn
-      in-pencil v = ap (octetsIn page pencil) (sym u ∙ v)
+      fits-pencil v = fits-as (now pencil) (ap (octetsIn (now page) (now pencil)) (sym u ∙ v))
 
-      pub fits-page : x ≡ Page → p .start + p .len ≤ length page
-      fits-page v = fits-as page (in-page v)
+      pub part-page : (r : RefT (List ℕ)) → x ≡ Page → PartAt page (p .start) (p .len) r → HandsPart s page pencil k l r
+      unfolding octetsIn lentFrom
+      part-page r v w = part-as Page (sym u ∙ v) r w refl
 
-      pub fits-pencil : x ≡ Pencil → p .start + p .len ≤ length pencil
-      fits-pencil v = fits-as pencil (in-pencil v)
-
-      pub part-page : (r : List ℕ) → x ≡ Page → r ≡ take (p .len) (drop (p .start) page) → r ≡ partOf s page pencil k l
-      part-page r v h = part-as page (in-page v) r h
-
-      pub part-pencil : (r : List ℕ) → x ≡ Pencil → r ≡ take (p .len) (drop (p .start) pencil) → r ≡ partOf s page pencil k l
-      part-pencil r v h = part-as pencil (in-pencil v) r h
+      pub part-pencil : (r : RefT (List ℕ)) → x ≡ Pencil → PartAt pencil (p .start) (p .len) r → HandsPart s page pencil k l r
+      unfolding octetsIn lentFrom
+      part-pencil r v w = part-as Pencil (sym u ∙ v) r w refl
 
 -- ---- the report
 

@@ -1,13 +1,13 @@
 // Coded data handed out: where a layer's data stand, or the refusal; and the part itself, which is never a copy.
 ghost use mathlib.Core.Path.{_≡_};
 ghost use Prim.Native.Nat.{_+_, _≤_, _<_, _/_};
-ghost use lib.ListN.{length, take, drop};
+ghost use lib.ListN.{length};
 ghost use lib.Dec.{ltb};
 ghost use Rattle.sheet_rules.specs.Record.{recordSize, recordAt};
 ghost use Rattle.data_rules.specs.Data.{sourceOf, sourceNumber, octetsIn, partIn, recordFound, layerFound, stripeFound, foundOf};
 ghost use Rattle.sheet_rules.specs.declared.FoundStripe.the-variants.{Row};
 ghost use Rattle.data.specs.Steps.{Whole, Accepted};
-ghost use Rattle.data.specs.Reported.{reportAt, reportFound, HandsPart};
+ghost use Rattle.data.specs.Reported.{PartAt, HandsPart, reportAt, reportFound};
 use answers::Answer;
 use data_rules::Found;
 use data_rules::Part;
@@ -120,10 +120,10 @@ pub fn find_data(sheet: &[u8], page: &[u8], pencil: &[u8], stripe: u32, layer: u
     }
 }
 
-// So many octets of a slice from a place on.
+// So many octets of a slice from a place on, where they lie.
 fn octets_from(s: &[u8], start: u32, len: u32) -> &[u8]
     requires { ⌜ start + len ≤ length (now s) ⌝ }
-    ensures { λ r. ⌜ now r ≡ take len (drop start (now (s .entry))) ⌝ }
+    ensures { λ r. ⌜ PartAt (s .entry) start len r ⌝ }
 {
     let a = start as usize;
     let e = start as usize + len as usize;
@@ -138,10 +138,10 @@ pub fn data_part<'a>(
     stripe: u32,
     layer: u32,
 ) -> &'a [u8]
-    ensures { λ r. ⌜ HandsPart (now (sheet .entry)) (now (page .entry)) (now (pencil .entry)) stripe layer (now r) ⌝ }
+    ensures { λ r. ⌜ HandsPart (now (sheet .entry)) (page .entry) (pencil .entry) stripe layer r ⌝ }
 {
     match find_data(sheet, page, pencil, stripe, layer) {
-        Found::Refuses(_) => &page[..0],
+        Found::Refuses(_) => octets_from(page, 0, 0),
         Found::Lies(p) => {
             let source = p.source;
             match source {

@@ -9,8 +9,8 @@ find-data-requires c κs = search needs
 enum-told : tie.Need-enum-told
 enum-told c = search needs
 
-slice-aggregate-result : tie.Need-slice-aggregate-result
-slice-aggregate-result c = search needs
+octets-from-requires : tie.Need-octets-from-requires
+octets-from-requires c κs = search needs
 
 enum-known-p : tie.Need-enum-known-p
 enum-known-p c = search needs
@@ -18,14 +18,14 @@ enum-known-p c = search needs
 enum-told-2 : tie.Need-enum-told-2
 enum-told-2 c = search needs
 
-octets-from-requires : tie.Need-octets-from-requires
-octets-from-requires c κs = search handing
+octets-from-requires-2 : tie.Need-octets-from-requires-2
+octets-from-requires-2 c κs = search handing
 
 enum-told-3 : tie.Need-enum-told-3
 enum-told-3 c = search needs
 
-octets-from-requires-2 : tie.Need-octets-from-requires-2
-octets-from-requires-2 c κs = search handing
+octets-from-requires-3 : tie.Need-octets-from-requires-3
+octets-from-requires-3 c κs = search handing
 
 returns : tie.Need-returns
 returns c = search handing
@@ -42,12 +42,12 @@ data-part-spec =
     (tie.spec
     find-data-requires
     enum-told
-    slice-aggregate-result
+    octets-from-requires
     enum-known-p
     enum-told-2
-    octets-from-requires
-    enum-told-3
     octets-from-requires-2
+    enum-told-3
+    octets-from-requires-3
     returns
     returns-2
     returns-3)
