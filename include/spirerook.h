@@ -20,6 +20,9 @@
 extern "C" {
 #endif
 
+/* The first number changes with a call or struct that viewers link, the second with a call that is added. */
+#define SPIREROOK_VERSION "1.0.0"
+
 /* ---- Bounds ---- */
 
 #define SPIREROOK_RECORD_OCTETS 28      /* of a record of the sheet */
