@@ -5,6 +5,7 @@ import page_making
 import reference_run
 
 RUN = 400            # cases in one run of a driver
+RUN_OCTETS = 10 ** 7 # and octets of them
 MANY = 60 * 28       # a sheet of more octets than this is judged by itself: the reference is slow
 LARGE = 1000000      # and so is a case of more octets than this
 
@@ -26,13 +27,18 @@ class Call:
 
     def batches(self, cases):
         """The cases in runs of the driver, large ones alone: a run has only so much time."""
-        small, large = [], []
+        batch, octets = [], 0
         for k, case in enumerate(cases):
             size = sum(len(case[at]) for at in self.octets) + (case[self.room] if self.room else 0)
-            many = self.sheet is not None and len(case[self.sheet]) > MANY
-            (large if many or size > LARGE else small).append(k)
-        yield from (small[at:at + RUN] for at in range(0, len(small), RUN))
-        yield from ([k] for k in large)
+            if size > LARGE or (self.sheet is not None and len(case[self.sheet]) > MANY):
+                yield [k]
+                continue
+            batch, octets = batch + [k], octets + size
+            if len(batch) == RUN or octets > RUN_OCTETS:
+                yield batch
+                batch, octets = [], 0
+        if batch:
+            yield batch
 
     def answers(self, program, cases):
         """(answer, octets) of each case"""

@@ -1,11 +1,12 @@
 """Cases per call and number that a run of the host tests held the library to.
 
 Each test that compares the library with the reference counts its cases here, by
-the reference's answer, and leaves the sums in build/counts; tests/test_boundary.py
-gathers them. Sums of another archive than the one that is tried do not count.
+the reference's answer, and leaves the sums in build/counts, where
+tests/test_boundary.py gathers them. Sums of another archive than the one that is tried do not count.
 """
 
 import collections
+import glob
 import hashlib
 import json
 import os
@@ -56,21 +57,6 @@ class Counts:
         with open(os.path.join(FOLDER, test + ".json"), "w", encoding="ascii") as file:
             json.dump({"archive": stamp(), "calls": self.calls}, file)
 
-    @classmethod
-    def load(cls, test):
-        """The counts that a test left of this archive, or None."""
-        try:
-            with open(os.path.join(FOLDER, test + ".json"), encoding="ascii") as file:
-                left = json.load(file)
-        except (OSError, ValueError):
-            return None
-        if left["archive"] != stamp() or stamp() is None:
-            return None
-        made = cls()
-        for call, counter in left["calls"].items():
-            made.calls[call].update({int(number): count for number, count in counter.items()})
-        return made
-
     def table(self):
         """A line a number, a column a call; `-` where a call cannot give the number."""
         lines = ["%-14s" % "number" + "".join("%10s" % call for call in GIVEN)]
@@ -89,3 +75,16 @@ class Counts:
                             % (call, self.calls[call][number], NAMES[number], least))
             others = set(self.calls[call]) - set(GIVEN[call])
             tally.check(not others, "%s: answers that it cannot give: %s" % (call, others))
+
+
+def gathered():
+    """The tests that have left counts of this archive, and their sum."""
+    total, tests, now = Counts(), [], stamp()
+    for path in sorted(glob.glob(os.path.join(FOLDER, "*.json"))):
+        with open(path, encoding="ascii") as file:
+            left = json.load(file)
+        if left["archive"] == now and now is not None:
+            tests.append(os.path.basename(path)[:-len(".json")])
+            for call, counter in left["calls"].items():
+                total.calls[call].update({int(n): count for n, count in counter.items()})
+    return tests, total

@@ -72,7 +72,8 @@ def main():
     damaged = [data_random.damaged_call(rng, rng.choice(works)) for _ in range(DAMAGED)]
     plain.answers(lambda k: "damaged call %d" % k, damaged)
     watched.answers(lambda k: "watched call %d" % k, damaged[::5])
-    counted.save("data_reference")
+    if watched.library is not None:
+        counted.save("data_reference")
     return tally.end()
 
 

@@ -39,6 +39,23 @@ def build(name="reference_list", sources=SOURCES, flags=("-O2",), parts=LIST):
     return program
 
 
+def build_archive(name, sources=SOURCES, flags=("-O2",)):
+    """The reference as an archive with the library's calls, so that the tests can try it, or one
+    with a fault in it, in the library's place."""
+    folder = os.path.join(ROOT, "build", name + ".objects")
+    os.makedirs(folder, exist_ok=True)
+    objects = []
+    for file in CALLS + ("sheet.c",):
+        objects.append(os.path.join(folder, file[:-2] + ".o"))
+        subprocess.run(["cc", *WARNINGS, *flags, "-I", sources, "-I", HEADERS, "-c",
+                        os.path.join(sources, file), "-o", objects[-1]], check=True)
+    path = os.path.join(ROOT, "build", name + ".a")
+    if os.path.exists(path):
+        os.remove(path)
+    subprocess.run(["ar", "rcs", path, *objects], check=True)
+    return path
+
+
 def library_is_listed():
     with open(os.path.join(ROOT, "crates.txt"), encoding="utf-8") as lines:
         return any(re.match(r"\s*spirerook\s*:", line) for line in lines)
