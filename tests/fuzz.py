@@ -21,6 +21,7 @@ import reference_run
 BATCH = 150
 POOL = 60            # good cases that changes begin with, renewed piece by piece
 KEPT = 10            # findings of one run
+TRIES = 300          # shorter cases tried of a finding
 WORDS = {"read": lambda page, room: reference_run.numbers(len(page), room) + page,
          "write": lambda sheet, data, room:
          reference_run.numbers(len(sheet), len(data), room) + sheet + data,
@@ -79,18 +80,20 @@ class Fuzz:
         return [cases[k] for k in wrong]
 
     def cut_down(self, case):
-        """The case without octets that do not matter to the difference, as far as halves go."""
+        """The case without octets that do not matter to the difference, as far as TRIES go."""
+        tries = TRIES
         for at in self.call.octets:
-            step = max(1, len(case[at]) // 2)
+            step = len(case[at]) // 2
             while step:
-                for first in range(0, len(case[at]), step):
+                first = 0
+                while first < len(case[at]) and tries:
                     shorter = case[at][:first] + case[at][first + step:]
-                    tried = case[:at] + (shorter,) + case[at + 1:]
-                    if len(shorter) < len(case[at]) and self.differs(tried):
+                    tried, tries = case[:at] + (shorter,) + case[at + 1:], tries - 1
+                    if self.differs(tried):
                         case = tried
-                        break
-                else:
-                    step //= 2
+                    else:
+                        first += step
+                step //= 2
         return case
 
 
