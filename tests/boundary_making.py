@@ -20,8 +20,8 @@ EDGES = [0, 1, 2, 3, 63, 64, 127, 128, 255, 256, 65535, 65536, 2 ** 31, 2 ** 32 
 
 def some_room(rng, size):
     """A room around a size, most often enough."""
-    return max(0, rng.choice([size, size, size + 1, size + 28, size + 200, size - 1, size - 28,
-                              size // 2, 0, 1]))
+    return max(0, rng.choice([size, size, size, size, size + 1, size + 28, size + 200, size - 1,
+                              size - 28, size // 2, 0, 1]))
 
 
 # Good cases
@@ -68,11 +68,24 @@ def faulty_field(rng):
     page, at, fields = bytearray(page), 0, START_FIELDS
     if rng.random() < 0.3:
         at, fields = page.index(b"MRC\1") + 3, STRIPE_FIELDS
-    offset, size = rng.choice(sorted(fields.values()))
+    offset, size = rng.choice([*sorted(fields.values()), max(fields.values())])
     old = int.from_bytes(page[at + offset:at + offset + size], "big")
     new = rng.choice([old + 1, old - 1, 0, 1, 3, 5, 7, 16, 37, 50, 300, 32769, 65536, 2 ** 31])
     page[at + offset:at + offset + size] = (new % 256 ** size).to_bytes(size, "big")
     return bytes(page), room
+
+
+def trailing(rng):
+    """A good page with zeros behind it, and another octet."""
+    page, room = good_read(rng)
+    return page + bytes(rng.randrange(40)) + bytes([rng.randint(1, 255)]) + bytes(3), room
+
+
+def added_layers(rng):
+    """A sheet that keeps the rules and has layers above 3."""
+    rows, data = write_random.random_work(rng)
+    rows, data = write_random.add_layers(rng, rows, data)
+    return sheet_of(rows), data, MOST_ROOM
 
 
 def too_long(rng):
@@ -230,8 +243,10 @@ def batches(call, rng, count, lengths):
     yield "changed", [mutated(rng, name, GOOD[name](rng)) for _ in range(count // 3)]
     yield "random", [random_case(rng, GOOD[name](rng)) for _ in range(count // 5)]
     if name == "write":
+        yield "layers", [added_layers(rng) for _ in range(count // 14)]
         yield "too long", [(*too_long(rng), rng.choice([0, 100])) for _ in range(count // 14)]
     if name == "read":
         yield "fields", [faulty_field(rng) for _ in range(2 * count)]
+        yield "trailing", [trailing(rng) for _ in range(count // 14)]
         long = bytes(LONGEST + 1)
         yield "too long", [(long + bytes(k), page_making.ROOM) for k in range(count // 14)]

@@ -20,7 +20,7 @@ import calls
 import counts
 import reference_run
 
-COUNT = 1400         # good cases of each call, and as many damaged
+COUNT = 1800         # good cases of each call, and as many damaged
 LENGTHS = 4          # small cases of each call that are tried at every length
 CASES = os.path.join(reference_run.ROOT, "tests", "cases")
 
