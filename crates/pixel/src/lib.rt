@@ -40,7 +40,10 @@ pub fn scale_pos(k: usize, o: usize, p: MainPos) -> SamplePos
         4 => SamplePos(d / 4),
         6 => SamplePos(d / 6),
         12 => SamplePos(d / 12),
-        _ => SamplePos(d / k),
+        _ => {
+            let i = d / k;
+            SamplePos(i)
+        }
     }
 }
 

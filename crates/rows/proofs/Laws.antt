@@ -5,24 +5,33 @@ use native.Mathlib.Omega.{arith}
 use mathlib.Core.Path.{_≡_, refl, sym, ap, ap₂, subst, subst₂, _∙_}
 use mathlib.Core.Logic.{_≢_}
 use mathlib.Core.Bool.{Bool, true, false, _&&_, not, cond}
-use mathlib.Core.List.{List, []}
-use lib.ListN.{length}
+use mathlib.Core.List.{List, [], _++_}
+use lib.ListN.{length, set, length-append}
 use lib.Dec.{eqb, leb, ltb}
 use borrow.Author.Tests.{eq-eqb, ne-eqb, leb-true, ltb-true, lt-ltb, le-leb}
 use borrow.Author.Needs.{needs}
 use Rattle.sheet_rules.specs.declared.Record.{Record}
-use Rattle.sheet_rules.specs.Record.{recordSize}
+use Rattle.octets.specs.Octets.{putAt}
+use Rattle.octets.proofs.Laws.{put-nothing, put-put, put-length}
+use Rattle.octets.proofs.Turns.{sets-put}
+use Rattle.sheet_rules.specs.declared.Stripe.{Stripe}
+use Rattle.sheet_rules.specs.Record.{recordSize, recordAt}
 use Rattle.sheet_rules.specs.Judge.{coded}
 use Rattle.picture_rules.specs.declared.MainPos.{MainPos}
 use Rattle.picture_rules.specs.declared.SamplePos.{SamplePos}
 use Rattle.picture_rules.specs.declared.Start.{Start}
 use Rattle.picture_rules.specs.declared.Start.the-variants.{From, Unread}
+use Rattle.picture_rules.specs.declared.Plane.{Plane}
+use Rattle.picture_rules.specs.Planes.{startOf}
 use Rattle.picture_rules.specs.Place.{scale, covers}
 use Rattle.picture_rules.specs.Line.{depth}
 use Rattle.picture_rules.proofs.Division.{says-covers, scale-within}
 use Rattle.plane.proofs.Laws.{product-small}
+use Rattle.plane.specs.declared.Listing.{Listing}
+use Rattle.plane.specs.Listing.{entriesOf}
 use Rattle.pixel.specs.declared.Row.{Row}
-use Rattle.rows.specs.Rows.{rowIn, rowOut, rowBy, otherOf, Covered}
+use Rattle.pixel.specs.Rows.{numbersOf}
+use Rattle.rows.specs.Rows.{layerAt, mainAt, rowIn, rowOut, rowBy, otherOf, rowOf, rowsOf, Covered, Layer, Standing}
 
 -- ---- an area
 
@@ -105,6 +114,118 @@ module _ (c : Bool) (r : Record) (i l : ℕ) where
   pub other-base : l % 2 ≢ 0 → i * 28 + 14 ≡ otherOf c r i l
   unfolding otherOf
   other-base d = simp (ne-eqb (l % 2) 0 d)
+
+-- ---- the row of a layer of a stripe
+
+module _ (s : List ℕ) (row : Stripe) (m : ℕ) (c : Bool) (y : MainPos) (l : ℕ) where
+  pub layer-made : (ps : List Plane) (r : Record) (k : ℕ) (p : Start) (n : ℕ) (w : Row) → Layer s row m c l → r ≡ recordAt s (row .first + (l - 1)) → k ≡ m / r .res
+      → p ≡ startOf ps l → n ≡ otherOf c r (row .first + (l - 1)) l → w ≡ rowBy r k y p n → w ≡ rowOf s row ps y l
+  unfolding rowOf layerAt
+  layer-made ps r k p n w g er ek ep en ew = ew ∙ rw (ek, ep, en, er, g .main, g .third) refl
+
+  pub layer-res : (r : Record) → Layer s row m c l → r ≡ recordAt s (row .first + (l - 1)) → 0 < r .res
+  unfolding layerAt
+  layer-res r g e = subst (λ (q : Record). 0 < q .res) (sym e) (g .res)
+
+  pub layer-turns : (r : Record) (k : ℕ) → Layer s row m c l → r ≡ recordAt s (row .first + (l - 1)) → k ≡ m / r .res → 0 < k
+  unfolding layerAt
+  layer-turns r k g e f = subst (λ (n : ℕ). 0 < n) (sym (f ∙ ap₂ (λ (a : ℕ) (q : Record). a / q .res) (g .main) e)) (g .turns)
+
+pub stores-row : (d : List ℕ) (i : ℕ) (w : Row) → i * 6 + 6 ≤ length d
+    → set (set (set (set (set (set d (i * 6) (w .from)) (i * 6 + 1) (w .to)) (i * 6 + 2) (w .k)) (i * 6 + 3) (w .read)) (i * 6 + 4) (w .at)) (i * 6 + 5) (w .other)
+    ≡ putAt d (i * 6) (numbersOf w)
+stores-row d i w h =
+    let a : i * 6 + 1 ≡ suc (i * 6) = omega arith in
+    let b : i * 6 + 2 ≡ suc (suc (i * 6)) = omega arith in
+    let c : i * 6 + 3 ≡ suc (suc (suc (i * 6))) = omega arith in
+    let e : i * 6 + 4 ≡ suc (suc (suc (suc (i * 6)))) = omega arith in
+    let f : i * 6 + 5 ≡ suc (suc (suc (suc (suc (i * 6))))) = omega arith in
+    rw (a, b, c, e, f) (sets-put d (i * 6) (numbersOf w) h)
+
+-- ---- the loop over the layers
+
+pub length-rows : (s : List ℕ) (row : Stripe) (ps : List Plane) (y : MainPos) (n : ℕ) → length (rowsOf s row ps y n) ≡ n * 6
+unfolding rowsOf
+length-rows s row ps y zero = refl
+length-rows s row ps y (suc n) =
+    let l = length-append (rowsOf s row ps y n) (numbersOf (rowOf s row ps y (suc n))) in let k = length-rows s row ps y n in omega arith
+
+pub record Filling (d s : List ℕ) (row : Stripe) (t : Listing) (y : MainPos) (m : ℕ) (c : Bool) (n : ℕ) (out : List ℕ) (i : ℕ) : Type 0 where
+  pub within : i ≤ n
+  pub all : n ≡ row .layers
+  pub room : n * 6 ≤ length d
+  pub long : length out ≡ length d
+  pub main : m ≡ mainAt s row
+  pub third : c ≡ coded (layerAt s row 3)
+  pub filled : out ≡ putAt d 0 (rowsOf s row (entriesOf t) y i)
+
+module _ (d s : List ℕ) (row : Stripe) (t : Listing) (y : MainPos) (m : ℕ) (c : Bool) (n : ℕ) where
+  pub filling-none : (second third : Record) → row .layers * 6 ≤ length d → n ≡ row .layers → second ≡ recordAt s (row .first + 1) → third ≡ recordAt s (row .first + 2)
+      → m ≡ second .res → c ≡ not (eqb (third .len) 0) → Filling d s row t y m c n d 0
+  unfolding rowsOf layerAt
+  filling-none second third h e es et em ec =
+      record {
+        within = omega arith;
+        all = e;
+        room = omega arith;
+        long = refl;
+        main = em ∙ ap (λ (r : Record). r .res) es;
+        third = ec ∙ ap (λ (r : Record). not (eqb (r .len) 0)) et;
+        filled = sym (put-nothing d 0);
+      }
+
+  pub filling-layer : (out : List ℕ) (i : ℕ) → Filling d s row t y m c n out i → Standing s row → i < n → Layer s row m c (i + 1)
+  filling-layer out i g z h =
+      let a = g .all in
+      let w = z .whole in
+      let f = z .fifteen in
+      record {
+        least = omega arith;
+        most = omega arith;
+        place = omega arith;
+        res = z .res (i + 1) (omega arith) (omega arith);
+        turns = z .turns (i + 1) (omega arith) (omega arith);
+        main = g .main;
+        third = g .third;
+      }
+
+  pub filling-room : (out : List ℕ) (i : ℕ) → Filling d s row t y m c n out i → i < n → i * 6 + 6 ≤ length out
+  filling-room out i g h = let r = g .room in let l = g .long in omega arith
+
+  pub filling-more : (out new : List ℕ) (i : ℕ) (w : Row) → Filling d s row t y m c n out i → i < n → w ≡ rowOf s row (entriesOf t) y (i + 1)
+      → new ≡ putAt out (i * 6) (numbersOf w) → Filling d s row t y m c n new (i + 1)
+  unfolding rowsOf
+  filling-more out new i w g h ew e =
+      let l = length-rows s row (entriesOf t) y i in
+      let r = g .room in
+      let k = g .long in
+      let q : length (numbersOf w) ≡ 6 = refl in
+      let z : i + 1 ≡ suc i = omega arith in
+      let lz : i * 6 ≡ 0 + length (rowsOf s row (entriesOf t) y i) = omega arith in
+      record {
+        within = omega arith;
+        all = g .all;
+        room = g .room;
+        long = ap length e ∙ put-length out (i * 6) (numbersOf w) (omega arith) ∙ g .long;
+        main = g .main;
+        third = g .third;
+        filled =
+            e ∙ ap₂ (λ (o : List ℕ) (a : ℕ). putAt o a (numbersOf w)) (g .filled) lz
+            ∙ put-put d 0 (rowsOf s row (entriesOf t) y i) (numbersOf w) (omega arith)
+            ∙ ap (λ (x : Row). putAt d 0 (rowsOf s row (entriesOf t) y i ++ numbersOf x)) (ew ∙ ap (rowOf s row (entriesOf t) y) z)
+            ∙ ap (λ (a : ℕ). putAt d 0 (rowsOf s row (entriesOf t) y a)) (sym z);
+      }
+
+  pub filling-end : (out : List ℕ) (i : ℕ) → Filling d s row t y m c n out i → n ≤ i → out ≡ putAt d 0 (rowsOf s row (entriesOf t) y (row .layers))
+  filling-end out i g h =
+      let w = g .within in
+      let a = g .all in
+      let z : i ≡ row .layers = omega arith in
+      g .filled ∙ ap (λ (k : ℕ). putAt d 0 (rowsOf s row (entriesOf t) y k)) z
+
+pub ruleset layering = (needs, layer-made, layer-res, layer-turns)
+
+pub ruleset filling = (needs, stores-row, filling-none, filling-layer, filling-room, filling-more, filling-end)
 
 pub ruleset areas = (needs, end-small, covers-made, product-small, start-made)
 

@@ -7,6 +7,7 @@
 --   rowOf s row ps y l   the row of layer l in line y
 --   rowsOf               the numbers of the rows of layers 1 to n, one behind the other
 --   Covered              the line crosses the layer's area, of samples of k main pixels each
+--   Layer                the same of one layer
 --   Standing             what of an accepted sheet the rows need
 use Prim.Native.Nat.{ℕ, zero, suc, _+_, _-_, _*_, _/_, _%_, _≤_, _<_}
 use mathlib.Core.Path.{_≡_}
@@ -68,6 +69,16 @@ pub record Covered (r : Record) (k : ℕ) (y : MainPos) : Type 0 where
   pub small : k < 65536
   pub high : r .height < 65536
   pub within : covers (r .y) (r .height) k y ≡ true
+
+-- layer l of a stripe whose main resolution is m; c: layer 3 is coded
+pub record Layer (s : List ℕ) (row : Stripe) (m : ℕ) (c : Bool) (l : ℕ) : Type 0 where
+  pub least : 1 ≤ l
+  pub most : l ≤ 15
+  pub place : row .first + (l - 1) < length s / recordSize
+  pub res : 0 < layerAt s row l .res
+  pub turns : 0 < ratio (mainAt s row) (layerAt s row l)
+  pub main : m ≡ mainAt s row
+  pub third : c ≡ coded (layerAt s row 3)
 
 pub record Standing (s : List ℕ) (row : Stripe) : Type 0 where
   pub whole : row .first + row .layers ≤ length s / recordSize

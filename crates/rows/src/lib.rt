@@ -10,7 +10,7 @@ ghost use Rattle.picture_rules.specs.Place.{covers};
 ghost use Rattle.picture_rules.specs.Line.{depth};
 ghost use Rattle.plane.specs.Listing.{entriesOf};
 ghost use Rattle.pixel.specs.Rows.{numbersOf};
-ghost use Rattle.rows.specs.Rows.{layerAt, mainAt, rowIn, rowOut, rowBy, otherOf, rowOf, rowsOf, Covered, Standing};
+ghost use Rattle.rows.specs.Rows.{layerAt, mainAt, rowIn, rowOut, rowBy, otherOf, rowOf, rowsOf, Covered, Layer, Standing};
 use picture_rules::MainPos;
 use picture_rules::SamplePos;
 use picture_rules::Start;
@@ -121,5 +121,65 @@ pub fn other_of(coded3: bool, r: Record, i: usize, l: usize) -> usize
         }
     } else {
         i * RECORD_SIZE + 14
+    }
+}
+
+// Main pixels a sample.
+pub fn ratio_of(main: u16, res: u16) -> usize
+    requires { ⌜ 0 < res ⌝ }
+    ensures { λ k. ⌜ (k ≡ main / res) × (k < 65536) ⌝ }
+{
+    plane::wide(main / res)
+}
+
+// The row of layer l, the main resolution and whether layer 3 is coded being known.
+pub fn layer_row(
+    sheet: &[u8],
+    row: Stripe,
+    t: Listing,
+    main: u16,
+    coded3: bool,
+    y: MainPos,
+    l: usize,
+) -> Row
+    requires { ⌜ Layer (now sheet) row main coded3 l ⌝ }
+    ensures { λ w. ⌜ w ≡ rowOf (now (sheet .entry)) row (entriesOf t) y l ⌝ }
+{
+    let i = row.first as usize + (l - 1);
+    let r = record::record_at(sheet, i);
+    let k = ratio_of(main, r.res);
+    let p = plane::start_of(t, l as u8);
+    row_by(r, k, y, p, other_of(coded3, r, i, l))
+}
+
+pub fn put_row(rows: &mut [usize], i: usize, w: Row)
+    requires { ⌜ i * 6 + 6 ≤ length (now rows) ⌝ }
+    ensures { λ _. ⌜ now (rows .exit) ≡ putAt (now (rows .entry)) (i * 6) (numbersOf w) ⌝ }
+{
+    let b = i * ROW_SIZE;
+    rows[b] = w.from;
+    rows[b + 1] = w.to;
+    rows[b + 2] = w.k;
+    rows[b + 3] = w.read;
+    rows[b + 4] = w.at;
+    rows[b + 5] = w.other;
+}
+
+// The rows of all layers, one behind the other.
+pub fn put_rows(rows: &mut [usize], sheet: &[u8], row: Stripe, t: Listing, y: MainPos)
+    requires { ⌜ Standing (now sheet) row × (row .layers * 6 ≤ length (now rows)) ⌝ }
+    ensures { λ _. ⌜ now (rows .exit) ≡ putAt (now (rows .entry)) 0 (rowsOf (now (sheet .entry)) row (entriesOf t) y (row .layers)) ⌝ }
+{
+    let first = row.first as usize;
+    let n = row.layers as usize;
+    let second = record::record_at(sheet, first + 1);
+    let third = record::record_at(sheet, first + 2);
+    let main = second.res;
+    let coded3 = third.len != 0;
+    let mut i: usize = 0;
+    while i < n {
+        let w = layer_row(sheet, row, t, main, coded3, y, i + 1);
+        put_row(rows, i, w);
+        i += 1;
     }
 }

@@ -4,10 +4,14 @@ use Prim.Native.Nat.{ℕ}
 use mathlib.Core.Path.{_≡_, sym, _∙_}
 use mathlib.Core.List.{List}
 use Rattle.report.specs.declared.Report.{Report}
-use Rattle.spirerook.specs.Calls.{ReadCall, WriteCall}
+use Rattle.spirerook.specs.Calls.{ReadCall, WriteCall, LineCall}
 
 pub read-firm : (page sheet : List ℕ) (r q : Report) (e f : List ℕ) → ReadCall page sheet r e → ReadCall page sheet q f → (r ≡ q) × (e ≡ f)
 read-firm page sheet r q e f x y = (x .reports ∙ sym (y .reports), x .holds ∙ sym (y .holds))
 
 pub write-firm : (sheet d page : List ℕ) (r q : Report) (e f : List ℕ) → WriteCall sheet d page r e → WriteCall sheet d page q f → (r ≡ q) × (e ≡ f)
 write-firm sheet d page r q e f x y = (x .reports ∙ sym (y .reports), x .holds ∙ sym (y .holds))
+
+pub line-firm : (sheet planes samples : List ℕ) (k y : ℕ) (out : List ℕ) (r q : Report) (e f : List ℕ) → LineCall sheet planes samples k y out r e → LineCall sheet planes samples k y out q f
+    → (r ≡ q) × (e ≡ f)
+line-firm sheet planes samples k y out r q e f x z = (x .reports ∙ sym (z .reports), x .holds ∙ sym (z .holds))

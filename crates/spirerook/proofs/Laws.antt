@@ -9,7 +9,9 @@ use Rattle.report.specs.declared.Report.{Report}
 use Rattle.report.specs.Report.{reportOf}
 use Rattle.page_rules.specs.Reading.{Reads}
 use Rattle.write_rules.specs.Writing.{Writes}
-use Rattle.spirerook.specs.Calls.{ReadCall, WriteCall}
+use Rattle.picture_rules.specs.Planes.{listOf}
+use Rattle.picture_rules.specs.Line.{Lines}
+use Rattle.spirerook.specs.Calls.{ReadCall, WriteCall, LineCall}
 
 pub read-called : (page sheet : List ℕ) {a : Answer} {r : Report} {e : List ℕ} → Reads page sheet a e → r ≡ reportOf a → ReadCall page sheet r e
 read-called page sheet x h = record { reports = h ∙ ap reportOf (x .answers); holds = x .holds }
@@ -17,4 +19,8 @@ read-called page sheet x h = record { reports = h ∙ ap reportOf (x .answers); 
 pub write-called : (sheet d page : List ℕ) {a : Answer} {r : Report} {e : List ℕ} → Writes sheet d page a e → r ≡ reportOf a → WriteCall sheet d page r e
 write-called sheet d page x h = record { reports = h ∙ ap reportOf (x .answers); holds = x .holds }
 
-pub ruleset calls = (needs, read-called, write-called)
+pub line-called : (sheet planes samples : List ℕ) (k y : ℕ) (out : List ℕ) {a : Answer} {r : Report} {e : List ℕ} → Lines sheet (listOf planes) samples k y out a e → r ≡ reportOf a
+    → LineCall sheet planes samples k y out r e
+line-called sheet planes samples k y out x h = record { reports = h ∙ ap reportOf (x .answers); holds = x .holds }
+
+pub ruleset calls = (needs, read-called, write-called, line-called)

@@ -3,3 +3,4 @@ pub mod Firm
 pub mod Reports
 pub mod Reading
 pub mod Writing
+pub mod Lining

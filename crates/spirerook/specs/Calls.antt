@@ -2,6 +2,7 @@
 --
 --   ReadCall page sheet r sheet′   a page is read into a sheet, the report is r, and the buffer is then sheet′
 --   WriteCall sheet d page r page′   a page is written from a sheet and its data d, the report is r, and the buffer is then page′
+--   LineCall sheet planes samples k y out r out′   line y of stripe k is composed, the report is r, and the buffer is then out′
 use Prim.Native.Nat.{ℕ}
 use mathlib.Core.Path.{_≡_}
 use mathlib.Core.List.{List}
@@ -10,6 +11,8 @@ use Rattle.report.specs.declared.Report.{Report}
 use Rattle.report.specs.Report.{reportOf}
 use Rattle.page_rules.specs.Reading.{readOf, readInto}
 use Rattle.write_rules.specs.Writing.{writeOf, writeInto}
+use Rattle.picture_rules.specs.Planes.{listOf}
+use Rattle.picture_rules.specs.Line.{lineOf, lineInto}
 
 pub record ReadCall (page sheet : List ℕ) (r : Report) (sheet′ : List ℕ) : Type 0 where
   pub reports : r ≡ reportOf (readOf page (length sheet))
@@ -18,3 +21,7 @@ pub record ReadCall (page sheet : List ℕ) (r : Report) (sheet′ : List ℕ) :
 pub record WriteCall (sheet d page : List ℕ) (r : Report) (page′ : List ℕ) : Type 0 where
   pub reports : r ≡ reportOf (writeOf sheet d (length page))
   pub holds : page′ ≡ writeInto sheet d page
+
+pub record LineCall (sheet planes samples : List ℕ) (k y : ℕ) (out : List ℕ) (r : Report) (out′ : List ℕ) : Type 0 where
+  pub reports : r ≡ reportOf (lineOf sheet (listOf planes) samples k y (length out))
+  pub holds : out′ ≡ lineInto sheet (listOf planes) samples k y out

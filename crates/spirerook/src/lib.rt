@@ -1,5 +1,5 @@
 // The calls that a viewer in C links (include/spirerook.h). Each is thin: it calls the library's function and reports its answer.
-ghost use Rattle.spirerook.specs.Calls.{ReadCall, WriteCall};
+ghost use Rattle.spirerook.specs.Calls.{ReadCall, WriteCall, LineCall};
 use report::Report;
 
 #[no_mangle]
@@ -15,5 +15,21 @@ pub extern "C" fn spirerook_write(sheet: &[u8], data: &[u8], page: &mut [u8]) ->
     ensures { λ r. ⌜ WriteCall (now (sheet .entry)) (now («data» .entry)) (now (page .entry)) r (now (page .exit)) ⌝ }
 {
     let a = write::write_page(sheet, data, page);
+    report::reported(a)
+}
+
+#[no_mangle]
+pub extern "C" fn spirerook_line(
+    sheet: &[u8],
+    planes: &[u8],
+    samples: &[u8],
+    stripe: u32,
+    line: u32,
+    out: &mut [u8],
+) -> Report
+    ensures { λ r.
+        ⌜ LineCall (now (sheet .entry)) (now (planes .entry)) (now (samples .entry)) stripe line (now (out .entry)) r (now (out .exit)) ⌝ }
+{
+    let a = line::line_of(sheet, planes, samples, stripe, line, out);
     report::reported(a)
 }

@@ -5,8 +5,8 @@ use Rattle.pixel.proofs.scale_pos.Tie as tie
 sub-d : tie.Need-sub-d
 sub-d c = search scaling
 
-div-t11 : tie.Need-div-t11
-div-t11 c = search scaling
+div-i : tie.Need-div-i
+div-i c = search scaling
 
 returns : tie.Need-returns
 returns c = search scaling
@@ -32,4 +32,4 @@ returns-7 c = search scaling
 pub scale-pos-spec : {M : Type 1} → statement M
 scale-pos-spec =
     tie.close
-    (tie.spec sub-d div-t11 returns returns-2 returns-3 returns-4 returns-5 returns-6 returns-7)
+    (tie.spec sub-d div-i returns returns-2 returns-3 returns-4 returns-5 returns-6 returns-7)

@@ -1,8 +1,6 @@
 // A line of pixels of a picture whose plane list is a lent slice of structs.
-ghost use mathlib.Core.Path.{_≡_};
-ghost use mathlib.Core.Bool.{false};
-ghost use Rattle.line.specs.Stand.{Lines, heldOf};
-ghost use Rattle.plane.specs.Listing.{noPlanes, gathered};
+ghost use Rattle.picture_rules.specs.Planes.{listed};
+ghost use Rattle.picture_rules.specs.Line.{Lines};
 use answers::Answer;
 use picture_rules::Plane;
 
@@ -14,7 +12,7 @@ pub fn line_of_planes(
     line: u32,
     out: &mut [u8],
 ) -> Answer
-    ensures { λ r. ⌜ Lines (now (sheet .entry)) (heldOf (gathered noPlanes (now (planes .entry))) false) (now (samples .entry)) stripe line (now (out .entry)) r (now (out .exit)) ⌝ }
+    ensures { λ r. ⌜ Lines (now (sheet .entry)) (listed (now (planes .entry))) (now (samples .entry)) stripe line (now (out .entry)) r (now (out .exit)) ⌝ }
 {
     let t = plane_slice::gather_planes(planes);
     line::compose_line(sheet, t, false, samples, stripe, line, out)

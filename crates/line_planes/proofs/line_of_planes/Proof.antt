@@ -53,7 +53,10 @@ use Rattle.plane_slice.proofs.gather_planes as gather
 use Rattle.plane_slice.proofs.gather_planes.Symbol as gather-def
 use Rattle.plane_slice.proofs.gather_planes.Symbol.{name as #plane-slice·gather-planes}
 use Rattle.plane_slice.proofs.gather_planes.Met as gather-thm
-use Rattle.line.specs.Stand.{Lines, heldOf}
+use Rattle.picture_rules.specs.Planes.{listed}
+use Rattle.picture_rules.specs.Line.{Lines}
+use Rattle.line_verdict.specs.Ruled.{listFrom}
+use Rattle.line_planes.proofs.Laws.{planes-lined}
 use Rattle.line.proofs.compose_line as compose
 use Rattle.line.proofs.compose_line.Symbol as compose-def
 use Rattle.line.proofs.compose_line.Symbol.{name as #line·compose-line}
@@ -113,13 +116,13 @@ module _ {M : Type 1} (𝓤 : URA M) (H : Heap 𝓤) (A : Atoms 𝓤) (W : Given
 
   -- what the callee says of the listing t, and what is promised of the slice: with the law that ties the two, all that hangs on the callee's words
   abbrev Told : Listing → Answer → List ℕ → Type 0
-  Told t r zs = Lines (s .now) (heldOf t false) (d .now) k y e r zs
+  Told t r zs = Lines (s .now) (listFrom t false) (d .now) k y e r zs
 
   abbrev Promised : Answer → List ℕ → Type 0
-  Promised r zs = Lines (s .now) (heldOf (gathered noPlanes (p .now)) false) (d .now) k y e r zs
+  Promised r zs = Lines (s .now) (listed (p .now)) (d .now) k y e r zs
 
   promised : (t : Listing) (r : Answer) (zs : List ℕ) → t ≡ gathered noPlanes (p .now) → Told t r zs → Promised r zs
-  promised t r zs m h = subst (λ (v : Listing). Told v r zs) m h
+  promised t r zs m h = planes-lined (s .now) (p .now) (d .now) k y t e r zs m h
 
   abbrev Post : Val → SProp 𝓤
   Post = walkOf 𝓤 H A f.ended stayed (f.clauses 𝓤 H A mem run) .post (((κ₀, (κ₁, (κ₂, (κ₃, tt)))), (q₀, (q₁, (q₂, (q₃, tt)))), tt, x, at), tt)

@@ -1,0 +1,29 @@
+-- A line that is to be shown: what is known of it, and what becomes of it.
+--
+--   sceneFrom    the scene of a stripe, a plane list as parallel numbers, and the samples
+--   Shown v y    the ruling on some stripe's line y shows the scene
+--   Composed     the answer and the buffer behind that ruling
+use Prim.Native.Nat.{ℕ}
+use mathlib.Core.Path.{_≡_}
+use mathlib.Core.Bool.{Bool}
+use mathlib.Core.List.{List}
+use lib.ListN.{length}
+use Rattle.answers.specs.declared.Answer.{Answer}
+use Rattle.sheet_rules.specs.declared.Stripe.{Stripe}
+use Rattle.picture_rules.specs.Planes.{PlaneList}
+use Rattle.picture_rules.specs.Samples.{Scene}
+use Rattle.picture_rules.specs.Line.{shows, rulingOf, lineAnswer, lineHolds}
+use Rattle.plane.specs.declared.Listing.{Listing}
+use Rattle.plane.specs.Listing.{entriesOf}
+
+abbrev pub sceneFrom : List ℕ → Stripe → Listing → List ℕ → Scene
+sceneFrom s row t d = record { sheet = s; row = row; planes = entriesOf t; samples = d }
+
+pub record Shown (v : Scene) (y : ℕ) : Type 0 where
+  pub stripe : ℕ
+  pub part : Bool
+  pub ruling : rulingOf (v .sheet) (record { entries = v .planes; part = part }) (v .samples) stripe y ≡ shows v
+
+pub record Composed (v : Scene) (y : ℕ) (out : List ℕ) (a : Answer) (e : List ℕ) : Type 0 where
+  pub answers : a ≡ lineAnswer (length out) (shows v)
+  pub holds : e ≡ lineHolds out y (shows v)

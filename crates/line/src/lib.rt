@@ -1,0 +1,111 @@
+// A line of pixels: the verdict, then the room, then the line. So a refusal changes nothing that was lent.
+ghost use mathlib.Core.Path.{_≡_};
+ghost use Prim.Native.Nat.{_*_, _+_, _≤_};
+ghost use lib.ListN.{length};
+ghost use Rattle.octets.specs.Octets.{putAt};
+ghost use Rattle.picture_rules.specs.declared.MainPos.{MainPos};
+ghost use Rattle.picture_rules.specs.Planes.{listOf};
+ghost use Rattle.picture_rules.specs.Decide.{decide};
+ghost use Rattle.picture_rules.specs.Line.{unseen, fourOf, pixels, Lines};
+ghost use Rattle.pixel.specs.Rows.{rowStack, RowsFit};
+ghost use Rattle.line_verdict.specs.Ruled.{listFrom};
+ghost use Rattle.line.specs.Shown.{sceneFrom, Shown, Composed};
+use answers::Answer;
+use line_verdict::Ruled;
+use picture_rules::MainPos;
+use picture_rules::Sample;
+use plane::Listing;
+use plane::PLANE_SIZE;
+use sheet_rules::Stripe;
+
+// The four octets of a pixel: the colour and 1, or the colour of an unseen pixel and 0.
+pub fn put_pixel(out: &mut [u8], at: usize, p: Sample)
+    requires { ⌜ at + 4 ≤ length (now out) ⌝ }
+    ensures { λ _. ⌜ now (out .exit) ≡ putAt (now (out .entry)) at (fourOf unseen p) ⌝ }
+{
+    match p {
+        Sample::Known(c) => {
+            out[at] = c.c0;
+            out[at + 1] = c.c1;
+            out[at + 2] = c.c2;
+            out[at + 3] = 1;
+        }
+        Sample::Unknown => {
+            out[at] = 0;
+            out[at + 1] = 0;
+            out[at + 2] = 0;
+            out[at + 3] = 0;
+        }
+    }
+}
+
+// The pixels of a line whose rows are worked out.
+pub fn put_pixels(out: &mut [u8], s: &[u8], d: &[u8], rows: &[usize], pairs: usize, width: usize)
+    requires { ⌜ RowsFit (now s) (now d) (now rows) pairs × (width * 4 ≤ length (now out)) ⌝ }
+    ensures { λ _.
+        ⌜ now (out .exit) ≡ putAt (now (out .entry)) 0 (pixels (λ (x : MainPos). decide (rowStack (now (s .entry)) (now (d .entry)) (now (rows .entry)) x) pairs) width) ⌝ }
+{
+    let mut x: usize = 0;
+    while x < width {
+        let p = pixel::pixel(s, d, rows, pairs, MainPos(x));
+        put_pixel(out, x * 4, p);
+        x += 1;
+    }
+}
+
+// A line of a stripe that is to be shown: the room, then the line.
+pub fn show_line(
+    sheet: &[u8],
+    row: Stripe,
+    t: Listing,
+    samples: &[u8],
+    y: u32,
+    out: &mut [u8],
+) -> Answer
+    requires { ⌜ Shown (sceneFrom (now sheet) row t (now samples)) y ⌝ }
+    ensures { λ a. ⌜ Composed (sceneFrom (now (sheet .entry)) row t (now (samples .entry))) y (now (out .entry)) a (now (out .exit)) ⌝ }
+{
+    let second = record::record_at(sheet, row.first as usize + 1);
+    let width = plane::wide(second.width);
+    if out.len() < width * 4 {
+        return Answer::NoRoom;
+    }
+    let mut rows: [usize; 90] = [0; 90];
+    rows::put_rows(&mut rows, sheet, row, t, MainPos(y as usize));
+    put_pixels(out, sheet, samples, &rows, row.layers as usize / 2, width);
+    Answer::Done(width as u64 * 4)
+}
+
+// A line of stripe and line number, the plane list being parallel numbers.
+pub fn compose_line(
+    sheet: &[u8],
+    t: Listing,
+    part: bool,
+    samples: &[u8],
+    stripe: u32,
+    y: u32,
+    out: &mut [u8],
+) -> Answer
+    ensures { λ a. ⌜ Lines (now (sheet .entry)) (listFrom t part) (now (samples .entry)) stripe y (now (out .entry)) a (now (out .exit)) ⌝ }
+{
+    match line_verdict::judge_line(sheet, t, part, samples, stripe, y) {
+        Ruled::Refuses(a) => a,
+        Ruled::Shows(row) => show_line(sheet, row, t, samples, y, out),
+    }
+}
+
+// The same for a plane list in octets, as C lends it.
+pub fn line_of(
+    sheet: &[u8],
+    planes: &[u8],
+    samples: &[u8],
+    stripe: u32,
+    y: u32,
+    out: &mut [u8],
+) -> Answer
+    ensures { λ a. ⌜ Lines (now (sheet .entry)) (listOf (now (planes .entry))) (now (samples .entry)) stripe y (now (out .entry)) a (now (out .exit)) ⌝ }
+{
+    let t = plane::listing_of(planes);
+    let part = planes.len() % PLANE_SIZE != 0;
+    compose_line(sheet, t, part, samples, stripe, y, out)
+}
