@@ -229,7 +229,7 @@ def main():
     if library is not None:
         print("%d lines composed by the reference and by the library"
               % (watched.compared + plain.compared))
-        watched.counts.save("lines_reference")
+        watched.counts.save("test_lines_reference")
     return tally.end()
 
 

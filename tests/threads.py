@@ -16,7 +16,7 @@ import calls
 import data_making
 import reference_run
 import test_limits
-from limits_line import Wide
+from test_limits_line import Wide
 from page_making import ROOM
 from write_random import page_of, rows_of, sheet_of
 
