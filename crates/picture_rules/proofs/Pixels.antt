@@ -15,6 +15,7 @@ use Rattle.sheet_rules.specs.declared.Verdict.the-variants.{Good}
 use Rattle.sheet_rules.specs.Record.{recordAt, encode, sheetOf, recordsFrom, records}
 use Rattle.sheet_rules.specs.Judge.{keeps, after, after1, after2, after3, stepOf, endOf, onStep, walk, judge, judgeOf}
 use Rattle.sheet_rules.specs.Stripe.{findStripe}
+use Rattle.sheet_rules.proofs.Make.{made}
 use Rattle.picture_rules.specs.declared.Colour.{Colour}
 use Rattle.picture_rules.specs.Planes.{planeAt, planesFrom, listOf}
 use Rattle.picture_rules.specs.Samples.{recordOf, maskAt, imageAt}
@@ -60,24 +61,7 @@ none = record { c0 = 0; c1 = 0; c2 = 0 }
 
 -- layer, coder, offsets, size, resolution, base colour, length of coded data
 abbrev layer : ℕ → ℕ → ℕ → ℕ → ℕ → ℕ → ℕ → Colour → ℕ → Record
-layer l c x y w h res base n =
-    record {
-      stripe = 0;
-      layer = l;
-      coder = c;
-      x = x;
-      y = y;
-      width = w;
-      height = h;
-      res = res;
-      base0 = base .c0;
-      base1 = base .c1;
-      base2 = base .c2;
-      octet17 = 0;
-      start = 0;
-      len = n;
-      octets26 = 0;
-    }
+layer l c x y w h res base n = made 0 l c x y w h res (base .c0) (base .c1) (base .c2) 0 n
 
 -- a coded layer, and one that is not; layer 2 is 8 by 2
 abbrev image : ℕ → ℕ → ℕ → ℕ → ℕ → Colour → Record
@@ -189,24 +173,7 @@ pixel-i =
 
 -- the same record, of stripe 1
 abbrev below : Record → Record
-below r =
-    record {
-      stripe = 1;
-      layer = r .layer;
-      coder = r .coder;
-      x = r .x;
-      y = r .y;
-      width = r .width;
-      height = r .height;
-      res = r .res;
-      base0 = r .base0;
-      base1 = r .base1;
-      base2 = r .base2;
-      octet17 = 0;
-      start = r .start;
-      len = r .len;
-      octets26 = 0;
-    }
+below r = made 1 (r .layer) (r .coder) (r .x) (r .y) (r .width) (r .height) (r .res) (r .base0) (r .base1) (r .base2) (r .start) (r .len)
 
 -- (j): only layer 3 coded, read, inside; in the second of two stripes
 abbrev pub pixel-j : Pixel

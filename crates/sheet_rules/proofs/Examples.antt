@@ -5,6 +5,7 @@ use Prim.Native.Nat.{ℕ, _+_}
 use mathlib.Core.Path.{_≡_, refl}
 use mathlib.Core.List.{List, [], _∷_, _++_}
 use Rattle.sheet_rules.specs.declared.Record.{Record}
+use Rattle.sheet_rules.proofs.Make.{made}
 use Rattle.sheet_rules.specs.declared.Verdict.{Verdict}
 use Rattle.sheet_rules.specs.declared.Verdict.the-variants.{Good, Bad}
 use Rattle.sheet_rules.specs.Record.{recordAt, encode, recordsFrom, records}
@@ -27,24 +28,7 @@ example-accepted = refl
 
 -- a record of these sheets: stripe, layer, coder, offsets, size, resolution, coded data
 pub layer : ℕ → ℕ → ℕ → ℕ → ℕ → ℕ → ℕ → ℕ → ℕ → ℕ → Record
-layer s l c x y w h res from n =
-    record {
-      stripe = s;
-      layer = l;
-      coder = c;
-      x = x;
-      y = y;
-      width = w;
-      height = h;
-      res = res;
-      base0 = 0;
-      base1 = 0;
-      base2 = 0;
-      octet17 = 0;
-      start = from;
-      len = n;
-      octets26 = 0;
-    }
+layer s l c x y w h res from n = made s l c x y w h res 0 0 0 from n
 
 pub stripes : List Record
 unfolding layer

@@ -11,3 +11,4 @@ pub mod Alone
 pub mod Theorems
 pub mod Table
 pub mod Examples
+pub mod Make

@@ -17,28 +17,12 @@ use Rattle.page_rules.specs.Grammar.{startOf, colourOf, headOf}
 use Rattle.page_rules.proofs.Examples.{page, picture}
 use Rattle.page_rules.proofs.Many.{coded-mask}
 use Rattle.write_rules.specs.Layer.{agrees}
+use Rattle.sheet_rules.proofs.Make.{made}
 use Rattle.write_rules.specs.Writing.{counted, matches, sizeAnswer, writeOf, writeInto}
 
 -- a record: stripe, layer, coder, offsets, size, resolution, base colour, coded data
 abbrev layer : ℕ → ℕ → ℕ → ℕ → ℕ → ℕ → ℕ → ℕ → Colour → ℕ → ℕ → Record
-layer s l c x y w h res base from n =
-    record {
-      stripe = s;
-      layer = l;
-      coder = c;
-      x = x;
-      y = y;
-      width = w;
-      height = h;
-      res = res;
-      base0 = base .c0;
-      base1 = base .c1;
-      base2 = base .c2;
-      octet17 = 0;
-      start = from;
-      len = n;
-      octets26 = 0;
-    }
+layer s l c x y w h res base from n = made s l c x y w h res (base .c0) (base .c1) (base .c2) from n
 
 abbrev white : Colour
 white = record { c0 = 0xFF; c1 = 0x80; c2 = 0x60 }
