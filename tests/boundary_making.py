@@ -248,5 +248,7 @@ def batches(call, rng, count, lengths):
     if name == "read":
         yield "fields", [faulty_field(rng) for _ in range(2 * count)]
         yield "trailing", [trailing(rng) for _ in range(count // 14)]
-        long = bytes(LONGEST + 1)
-        yield "too long", [(long + bytes(k), page_making.ROOM) for k in range(count // 14)]
+        # a few pages, which take their memory once, in many rooms
+        pages = [bytes(LONGEST + 1), bytes(LONGEST + 2), good_read(rng)[0] + bytes(LONGEST)]
+        yield "too long", [(rng.choice(pages), rng.randrange(page_making.ROOM))
+                           for _ in range(count // 17)]

@@ -70,7 +70,8 @@ def main():
     own.check(tally, tried)
     others, total = counts.gathered()
     total.join(own)
-    print("with those of %s:\n%s" % (", ".join(others) or "no other test", total.table()))
+    if others:
+        print("with those of %s:\n%s" % (", ".join(others), total.table()))
     return tally.end()
 
 
