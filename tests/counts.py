@@ -2,7 +2,8 @@
 
 Each test that compares the library with the reference counts its cases here, by
 the reference's answer, and leaves the sums in build/counts, where
-tests/test_boundary.py gathers them. Sums of another archive than the one that is tried do not count.
+tests/test_boundary.py gathers them. Sums of another archive than the one that is
+tried do not count.
 """
 
 import collections

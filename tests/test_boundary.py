@@ -13,6 +13,7 @@ SEED makes a run again; LIBRARY names another archive than build/libspirerook.a.
 import glob
 import os
 import random
+import subprocess
 import sys
 
 import boundary_making
@@ -34,6 +35,16 @@ def case_answers(program, octets):
     """All that a driver says to a kept case."""
     printed, told, wrong = reference_run.ended(program, octets, ["many"])
     return wrong or printed + told
+
+
+def check_misuse(tally, program):
+    """A driver that is told nothing it knows says so, and its status too."""
+    for words, octets in ((["else"], b""), (["many", "more"], b""), (["many"], b"\0" * 7),
+                          (["many"], b"\xff" * 64)):
+        done = subprocess.run([program, *words], input=octets, check=False,
+                              stdout=subprocess.PIPE, stderr=subprocess.PIPE)
+        tally.check(done.returncode == 1 and done.stderr.endswith(b"\n"), "%s %s: status %d, %s"
+                    % (program, words, done.returncode, done.stderr))
 
 
 def check_kept(tally, boths):
@@ -64,6 +75,7 @@ def main():
     boths = {name: calls.Both(tally, call, counted=own) for name, call in calls.ALL.items()}
     for k, both in enumerate(boths.values()):
         check_call(both, random.Random(seed + k))
+        check_misuse(tally, both.reference)
     check_kept(tally, boths)
     tried = [name for name, both in boths.items() if both.library is not None]
     print("cases of this test, by the reference's answer:\n" + own.table())

@@ -43,8 +43,8 @@ def has(command):
 def compiled(tally, compiler, language, standard):
     """The program of tests/driver/header.c, or None."""
     program = os.path.join(reference_run.ROOT, "build", "header_%s_%s" % (compiler, standard))
-    done = subprocess.run([compiler, "-std=" + standard, *STRICT, "-O2", "-I", reference_run.HEADERS,
-                           "-x", language, os.path.join(reference_run.DRIVER, "header.c"),
+    done = subprocess.run([compiler, "-std=" + standard, *STRICT, "-O2", "-x", language,
+                           "-I", reference_run.HEADERS, os.path.join(reference_run.DRIVER, "header.c"),
                            "-o", program], check=False, stderr=subprocess.PIPE)
     tally.check(done.returncode == 0 and not done.stderr, "%s -std=%s: %s" % (
         compiler, standard, done.stderr.decode("utf-8", "replace")[:600]))
@@ -136,7 +136,7 @@ def check_calls(tally):
     for call, numbers in counts.GIVEN.items():
         told = calls.get("spirerook_" + call, "")
         named = {k for k, name in enumerate(counts.NAMES) if re.search(r"\b%s\b" % name, told)}
-        tally.check(named == set(numbers), "spirerook_%s: its comment and what it gives differ in %s"
+        tally.check(named == set(numbers), "spirerook_%s: its comment differs from what it gives: %s"
                     % (call, sorted(named ^ set(numbers))))
     shared = os.path.join(reference_run.ROOT, "build", "libspirerook.so")
     for path in (reference_run.archive(), shared):

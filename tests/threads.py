@@ -34,7 +34,8 @@ def words(name, case):
     octets += [b""] * (3 - len(octets))
     room = 0 if call.room is None else case[call.room]
     numbers += [0] * (2 - len(numbers))
-    return reference_run.numbers(NUMBERS[name], *map(len, octets), room, *numbers) + b"".join(octets)
+    told = reference_run.numbers(NUMBERS[name], *map(len, octets), room, *numbers)
+    return told + b"".join(octets)
 
 
 def largest():

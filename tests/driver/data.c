@@ -20,7 +20,6 @@
 
 #include <stdbool.h>
 #include <stdio.h>
-#include <stdlib.h>
 #include <string.h>
 
 enum {
@@ -193,20 +192,5 @@ static bool data_many(const uint8_t *input, size_t octets)
 
 int main(int arguments, char **words)
 {
-    size_t octets;
-    if (arguments != 2 || strcmp(words[1], "many") != 0) {
-        fputs("use: data many\n", stderr);
-        return EXIT_FAILURE;
-    }
-    uint8_t *input = read_standard_input(&octets);
-    if (input == NULL) {
-        return EXIT_FAILURE;
-    }
-    bool done = data_many(input, octets);
-    if (!done) {
-        fputs("data: the calls end in their midst, or there is no memory\n",
-              stderr);
-    }
-    free(input);
-    return done ? EXIT_SUCCESS : EXIT_FAILURE;
+    return run_many(arguments, words, "data", data_many);
 }

@@ -18,7 +18,6 @@
 #include <inttypes.h>
 #include <stdbool.h>
 #include <stdio.h>
-#include <stdlib.h>
 #include <string.h>
 #include <sys/mman.h>
 
@@ -131,19 +130,5 @@ static bool far_many(const uint8_t *input, size_t octets)
 
 int main(int arguments, char **words)
 {
-    size_t octets;
-    if (arguments != 2 || strcmp(words[1], "many") != 0) {
-        fputs("use: far many\n", stderr);
-        return EXIT_FAILURE;
-    }
-    uint8_t *input = read_standard_input(&octets);
-    if (input == NULL) {
-        return EXIT_FAILURE;
-    }
-    bool done = far_many(input, octets);
-    if (!done) {
-        fputs("far: the calls end in their midst, or do not fit\n", stderr);
-    }
-    free(input);
-    return done ? EXIT_SUCCESS : EXIT_FAILURE;
+    return run_many(arguments, words, "far", far_many);
 }
