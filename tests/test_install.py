@@ -6,6 +6,7 @@ The program is compiled and run with nothing of this repository in its paths.
 
 import os
 import re
+import shutil
 import subprocess
 import sys
 import tempfile
@@ -123,6 +124,9 @@ def main():
     tally = reference_run.Tally()
     if not os.path.exists(os.path.join(reference_run.ROOT, "build", "libspirerook.a")):
         tally.check(False, "no build/libspirerook.a: make it first")
+        return tally.end()
+    if shutil.which("pkg-config") is None:
+        tally.check(False, "no pkg-config: bash tests/need pkg-config:pkgconf installs it")
         return tally.end()
     with tempfile.TemporaryDirectory() as folder:
         check_install(tally, folder)

@@ -6,6 +6,7 @@ SEED makes a run again; LIBRARY names another archive than build/libspirerook.a.
 
 import os
 import random
+import shutil
 import stat
 import subprocess
 import sys
@@ -63,6 +64,9 @@ def main():
     seed = int(os.environ.get("SEED") or random.randrange(2 ** 32))
     print("SEED=%d" % seed)
     tally = reference_run.Tally()
+    if shutil.which("valgrind") is None:
+        tally.check(False, "no valgrind: bash tests/need valgrind:valgrind installs it")
+        return tally.end()
     check_watch(tally)
     # a run of a driver under valgrind has more to do
     reference_run.SECONDS, calls.RUN = 120, 200
