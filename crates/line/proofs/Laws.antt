@@ -39,8 +39,8 @@ use Rattle.rows.specs.Rows.{layerAt, rowsOf, Standing}
 use Rattle.rows.proofs.Fit.{rows-fit, pixel-is}
 use Rattle.line_verdict.specs.declared.Ruled.{Ruled}
 use Rattle.line_verdict.specs.declared.Ruled.the-variants.{Shows, Refuses}
-use Rattle.line_verdict.specs.Ruled.{listFrom, ruledOf, Whole, Accepted}
-use Rattle.line_verdict.proofs.Laws.{found-whole}
+use Rattle.line_verdict.specs.Ruled.{listFrom, ruledOf}
+use Rattle.stripe.proofs.Found.{found-whole}
 use Rattle.line.specs.Shown.{sceneFrom, Shown, Composed}
 
 -- ---- the four octets of a pixel

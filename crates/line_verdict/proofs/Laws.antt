@@ -36,7 +36,9 @@ use Rattle.plane.proofs.Laws.{product-small}
 use Rattle.plane.specs.Listing.{entryOf, entriesFrom, entriesOf}
 use Rattle.line_verdict.specs.declared.Ruled.{Ruled}
 use Rattle.line_verdict.specs.declared.Ruled.the-variants.{Shows, Refuses}
-use Rattle.line_verdict.specs.Ruled.{bareScene, listFrom, lineRuling, ruledOf, Whole, Accepted}
+use Rattle.line_verdict.specs.Ruled.{bareScene, listFrom, lineRuling, ruledOf}
+use Rattle.stripe.specs.Steps.{Whole, Accepted}
+use Rattle.stripe.proofs.Found.{sheet-good, found-whole, fault-small}
 
 -- ---- the span of a plane
 
@@ -153,29 +155,6 @@ module _ (s : List ℕ) (pl : PlaneList) (d : List ℕ) (k y : ℕ) where
   pub sheet-bad : (v : Verdict) (i : ℕ) → v ≡ judgeOf s → v ≡ Bad i → Refuses (BadSheet i) ≡ ruledOf (rulingOf s pl d k y)
   unfolding ruledOf rulingOf sheetRuling answerOf
   sheet-bad v i e z = rw (← e, z) refl
-
-pub sheet-good : (s : List ℕ) (v : Verdict) (n m : ℕ) → v ≡ judgeOf s → v ≡ Good n m → Accepted s
-sheet-good s v n m e z = record { records = n; stripes = m; good = sym e ∙ z }
-
--- a stripe that is found has its records in the sheet
-pub found-whole : (s : List ℕ) (k : ℕ) (f : FoundStripe) (row : Stripe) → Accepted s → f ≡ findStripe s k → f ≡ Row row → Whole s row
-found-whole s k f row g e z = ⊎-elim in-sheet past (says-else (says-lt k (g .stripes)))
-  where
-    in-sheet : k < g .stripes → Whole s row
-    in-sheet h =
-        let q : row ≡ rowOf k (records s) = let w = stripe-found s (g .records) (g .stripes) (g .good) k h in cc in
-        let n = sheet-few s (g .records) (g .stripes) (g .good) .3 in
-        let z = sheet-accepted s (g .records) (g .stripes) .0 (g .good) in
-        let st = z .stripes in
-        let c = sheet-table (records s) (z .sheet) .layers k (omega arith) in
-        let l = layer-found s (g .records) (g .stripes) (g .good) k (rowOf k (records s) .layers) (omega arith) (omega arith) .3 in
-        subst (Whole s) (sym q) (record { records = omega arith })
-
-    past : (k < g .stripes → ⊥) → Whole s row
-    past h = let w = stripe-missing s (g .records) (g .stripes) (g .good) k (omega arith) in clash cc
-
-pub fault-small : (s : List ℕ) (v : Verdict) (i : ℕ) → v ≡ judgeOf s → v ≡ Bad i → i < 4294967296
-fault-small s v i e z = let f = refused-few s i (sym e ∙ z) .0 in omega arith
 
 pub ruleset ruling = (needs, line-past, line-fine, line-fault, stripe-none, stripe-row, sheet-good, sheet-bad, found-whole, fault-small)
 

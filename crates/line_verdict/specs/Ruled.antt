@@ -4,18 +4,11 @@
 --   listFrom t part      the plane list that parallel numbers hold
 --   lineRuling           the ruling on a line of a stripe that was found
 --   ruledOf              a ruling as code has it: the stripe, or the refusal
---   Whole s row          the stripe's records are there
---   Accepted s           the judge takes the sheet
-use Prim.Native.Nat.{ℕ, _+_, _/_, _≤_}
-use mathlib.Core.Path.{_≡_}
+use Prim.Native.Nat.{ℕ}
 use mathlib.Core.Bool.{Bool}
 use mathlib.Core.List.{List, []}
-use lib.ListN.{length}
 use Rattle.sheet_rules.specs.declared.Stripe.{Stripe}
 use Rattle.sheet_rules.specs.declared.FoundStripe.the-variants.{Row}
-use Rattle.sheet_rules.specs.declared.Verdict.the-variants.{Good}
-use Rattle.sheet_rules.specs.Record.{recordSize}
-use Rattle.sheet_rules.specs.Judge.{judgeOf}
 use Rattle.picture_rules.specs.Planes.{PlaneList}
 use Rattle.picture_rules.specs.Samples.{Scene}
 use Rattle.picture_rules.specs.Line.{Ruling, shows, refuses, stripeRuling}
@@ -36,11 +29,3 @@ lineRuling s pl d y row = stripeRuling s pl d y (Row row)
 unfoldable pub ruledOf : Ruling → Ruled
 ruledOf (shows v) = Shows (v .row)
 ruledOf (refuses a) = Refuses a
-
-pub record Whole (s : List ℕ) (row : Stripe) : Type 0 where
-  pub records : row .first + row .layers ≤ length s / recordSize
-
-pub record Accepted (s : List ℕ) : Type 0 where
-  pub records : ℕ
-  pub stripes : ℕ
-  pub good : judgeOf s ≡ Good records stripes

@@ -3,11 +3,16 @@
 use Prim.Native.Nat.{ℕ}
 use mathlib.Core.Path.{_≡_, sym, _∙_}
 use mathlib.Core.List.{List}
+use Rattle.data.specs.declared.DataReport.{DataReport}
+use Rattle.spirerook.specs.Calls.{DataCall}
 use Rattle.report.specs.declared.Report.{Report}
 use Rattle.spirerook.specs.Calls.{ReadCall, WriteCall, LineCall}
 
 pub read-firm : (page sheet : List ℕ) (r q : Report) (e f : List ℕ) → ReadCall page sheet r e → ReadCall page sheet q f → (r ≡ q) × (e ≡ f)
 read-firm page sheet r q e f x y = (x .reports ∙ sym (y .reports), x .holds ∙ sym (y .holds))
+
+pub data-firm : (sheet page pencil : List ℕ) (k l : ℕ) (r q : DataReport) → DataCall sheet page pencil k l r → DataCall sheet page pencil k l q → r ≡ q
+data-firm sheet page pencil k l r q x y = x .reports ∙ sym (y .reports)
 
 pub write-firm : (sheet d page : List ℕ) (r q : Report) (e f : List ℕ) → WriteCall sheet d page r e → WriteCall sheet d page q f → (r ≡ q) × (e ≡ f)
 write-firm sheet d page r q e f x y = (x .reports ∙ sym (y .reports), x .holds ∙ sym (y .holds))

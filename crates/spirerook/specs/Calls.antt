@@ -1,6 +1,7 @@
 -- What the exported calls promise, each as one relation over entry, result and exit.
 --
 --   ReadCall page sheet r sheet′   a page is read into a sheet, the report is r, and the buffer is then sheet′
+--   DataCall sheet page pencil k l r   the coded data of layer l of stripe k are asked for, and the report is r
 --   WriteCall sheet d page r page′   a page is written from a sheet and its data d, the report is r, and the buffer is then page′
 --   LineCall sheet planes samples k y out r out′   line y of stripe k is composed, the report is r, and the buffer is then out′
 use Prim.Native.Nat.{ℕ}
@@ -9,6 +10,8 @@ use mathlib.Core.List.{List}
 use lib.ListN.{length}
 use Rattle.report.specs.declared.Report.{Report}
 use Rattle.report.specs.Report.{reportOf}
+use Rattle.data.specs.declared.DataReport.{DataReport}
+use Rattle.data.specs.Reported.{dataReport}
 use Rattle.page_rules.specs.Reading.{readOf, readInto}
 use Rattle.write_rules.specs.Writing.{writeOf, writeInto}
 use Rattle.picture_rules.specs.Planes.{listOf}
@@ -17,6 +20,9 @@ use Rattle.picture_rules.specs.Line.{lineOf, lineInto}
 pub record ReadCall (page sheet : List ℕ) (r : Report) (sheet′ : List ℕ) : Type 0 where
   pub reports : r ≡ reportOf (readOf page (length sheet))
   pub holds : sheet′ ≡ readInto page sheet
+
+pub record DataCall (sheet page pencil : List ℕ) (k l : ℕ) (r : DataReport) : Type 0 where
+  pub reports : r ≡ dataReport sheet page pencil k l
 
 pub record WriteCall (sheet d page : List ℕ) (r : Report) (page′ : List ℕ) : Type 0 where
   pub reports : r ≡ reportOf (writeOf sheet d (length page))

@@ -1,5 +1,6 @@
 // The calls that a viewer in C links (include/spirerook.h). Each is thin: it calls the library's function and reports its answer.
-ghost use Rattle.spirerook.specs.Calls.{ReadCall, WriteCall, LineCall};
+ghost use Rattle.spirerook.specs.Calls.{ReadCall, WriteCall, LineCall, DataCall};
+use data::DataReport;
 use report::Report;
 
 #[no_mangle]
@@ -32,4 +33,18 @@ pub extern "C" fn spirerook_line(
 {
     let a = line::line_of(sheet, planes, samples, stripe, line, out);
     report::reported(a)
+}
+
+#[no_mangle]
+pub extern "C" fn spirerook_data(
+    sheet: &[u8],
+    page: &[u8],
+    pencil: &[u8],
+    stripe: u32,
+    layer: u32,
+) -> DataReport
+    ensures { λ r. ⌜ DataCall (now (sheet .entry)) (now (page .entry)) (now (pencil .entry)) stripe layer r ⌝ }
+{
+    let f = data::find_data(sheet, page, pencil, stripe, layer);
+    data::report_found(f)
 }

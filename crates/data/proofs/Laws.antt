@@ -1,0 +1,226 @@
+-- One law for each way out of the functions that find coded data: its premises are what is known there.
+-- Assumes nothing.
+use Prim.Native.Nat.{ℕ, _+_, _-_, _/_, _≤_, _<_}
+use native.Mathlib.Omega.{arith}
+use mathlib.Core.Path.{_≡_, refl, sym, ap, ap₂, subst, _∙_}
+use mathlib.Core.Logic.{⊎-elim}
+use mathlib.Core.Bool.{Bool, true, false, cond, _&&_}
+use mathlib.Core.List.{List}
+use lib.ListN.{length, take, drop}
+use lib.Dec.{eqb, leb, ltb}
+use borrow.Author.Tests.{eq-eqb, ne-eqb}
+use borrow.Author.Needs.{needs}
+use denote.Ref.{RefT, now, ptr}
+use Rattle.cases.proofs.Cases.{cond-with, clash}
+use Rattle.cases.proofs.Says.{says-le, says-lt, says-and, says-else}
+use Rattle.answers.specs.declared.Answer.{Answer}
+use Rattle.answers.specs.declared.Answer.the-variants.{Done, Short, BadSheet, BadLine}
+use Rattle.sheet_rules.specs.declared.Record.{Record}
+use Rattle.sheet_rules.specs.declared.Stripe.{Stripe}
+use Rattle.sheet_rules.specs.declared.FoundStripe.{FoundStripe}
+use Rattle.sheet_rules.specs.declared.FoundStripe.the-variants.{Row, NoStripe}
+use Rattle.sheet_rules.specs.declared.FoundLayer.{FoundLayer}
+use Rattle.sheet_rules.specs.declared.FoundLayer.the-variants.{At, NoLayer}
+use Rattle.sheet_rules.specs.declared.Verdict.{Verdict}
+use Rattle.sheet_rules.specs.declared.Verdict.the-variants.{Good, Bad}
+use Rattle.sheet_rules.specs.Record.{recordSize, recordAt, records}
+use Rattle.sheet_rules.specs.Judge.{judgeOf, answerOf}
+use Rattle.sheet_rules.specs.Stripe.{rowOf, findStripe, findLayer}
+use Rattle.sheet_rules.proofs.Theorems.{sheet-accepted, refused-few, sheet-few}
+use Rattle.sheet_rules.proofs.Table.{sheet-table, stripe-found, stripe-missing, layer-found}
+use Rattle.data_rules.specs.declared.Source.{Source}
+use Rattle.data_rules.specs.declared.Source.the-variants.{Page, Pencil}
+use Rattle.data_rules.specs.declared.Part.{Part}
+use Rattle.data_rules.specs.declared.Found.{Found}
+use Rattle.data_rules.specs.declared.Found.the-variants.{Lies, Refuses}
+use Rattle.data_rules.specs.Data.{sourceOf, sourceNumber, octetsIn, emptyPart, partIn, recordFound, layerFound, stripeFound, sheetFound, foundOf, dataBy, partBy, partOf, sourceBy, partSource, startBy, partStart}
+use Rattle.data_rules.proofs.Layer.{source-low, source-high, octets-low, octets-high}
+use Rattle.data_rules.proofs.Handed.{lies-within}
+use Rattle.report.specs.declared.Report.{Report}
+use Rattle.report.specs.Report.{reportOf}
+use Rattle.data.specs.declared.DataReport.{DataReport}
+use Rattle.stripe.specs.Steps.{Whole, Accepted}
+use Rattle.stripe.proofs.Found.{sheet-good, found-whole, fault-small}
+use Rattle.data.specs.Reported.{spot, PartAt, lentFrom, HandsPart, reportAt, reportFound}
+
+-- ---- the source of a layer
+
+module _ (l : ℕ) where
+  pub source-page : l ≤ 3 → Page ≡ sourceOf l
+  source-page h = sym (source-low l h)
+
+  pub source-pencil : 3 < l → Pencil ≡ sourceOf l
+  source-pencil h = sym (source-high l h)
+
+module _ (page pencil : List ℕ) (l : ℕ) where
+  pub len-page : l ≤ 3 → length page ≡ length (octetsIn page pencil (sourceOf l))
+  len-page h = sym (ap length (octets-low page pencil l h))
+
+  pub len-pencil : 3 < l → length pencil ≡ length (octetsIn page pencil (sourceOf l))
+  len-pencil h = sym (ap length (octets-high page pencil l h))
+
+-- ---- the part of a record
+
+module _ (l : ℕ) (r : Record) where
+  pub in-uncoded : r .len ≡ 0 → emptyPart ≡ partIn l r
+  unfolding partIn
+  in-uncoded e = simp (eq-eqb (r .len) 0 e)
+
+  pub in-coded : (x : Source) → (r .len ≡ 0 → ⊥) → x ≡ sourceOf l → record { source = x; start = r .start; len = r .len } ≡ partIn l r
+  unfolding partIn
+  in-coded x d e = simp (ne-eqb (r .len) 0 d, e)
+
+module _ (page pencil : List ℕ) (l : ℕ) (r : Record) where
+  pub passes-made : (n e : ℕ) → n ≡ length (octetsIn page pencil (sourceOf l)) → e ≡ r .start + r .len
+      → ltb n e ≡ ltb (length (octetsIn page pencil (sourceOf l))) (r .start + r .len)
+  passes-made n e p q = ap₂ ltb p q
+
+module _ (s page pencil : List ℕ) (l i : ℕ) (r : Record) (b : Bool) (e : r ≡ recordAt s i)
+    (q : b ≡ ltb (length (octetsIn page pencil (sourceOf l))) (r .start + r .len)) where
+  by-test : cond b (Refuses (Short i)) (Lies (partIn l r)) ≡ recordFound page pencil l i (recordAt s i)
+  unfolding recordFound
+  by-test = ap (λ (c : Bool). cond c (Refuses (Short i)) (Lies (partIn l r))) q ∙ ap (recordFound page pencil l i) e
+
+  pub record-short : b ≡ true → Refuses (Short i) ≡ recordFound page pencil l i (recordAt s i)
+  record-short t = rw t at by-test
+
+  pub record-lies : (p : Part) → b ≡ false → p ≡ partIn l r → Lies p ≡ recordFound page pencil l i (recordAt s i)
+  record-lies p t h = ap Lies h ∙ rw t at by-test
+
+-- ---- a layer of a stripe
+
+module _ (s page pencil : List ℕ) (row : Stripe) (l : ℕ) (f : FoundLayer) (e : f ≡ findLayer row l) where
+  pub layer-none : f ≡ NoLayer → Refuses BadLine ≡ stripeFound s page pencil l (Row row)
+  unfolding stripeFound layerFound
+  layer-none z = ap (layerFound s page pencil l) (sym z ∙ e)
+
+  pub layer-there : (i : ℕ) (q : Found) → f ≡ At i → q ≡ recordFound page pencil l i (recordAt s i) → q ≡ stripeFound s page pencil l (Row row)
+  unfolding stripeFound layerFound
+  layer-there i q z h = h ∙ ap (layerFound s page pencil l) (sym z ∙ e)
+
+-- the record of a layer that is found is there
+layer-within : (s : List ℕ) (row : Stripe) (l : ℕ) (f : FoundLayer) (i : ℕ) → Whole s row → f ≡ findLayer row l → f ≡ At i
+    → (i < length s / recordSize) × (i < 4294967296)
+unfolding findLayer
+layer-within s row l f i w e z =
+    cond-with (λ (x : FoundLayer). x ≡ At i → (i < length s / recordSize) × (i < 4294967296)) (leb 1 l && leb l (row .layers))
+    (λ t q.
+    let h = says-and (says-le 1 l) (says-le l (row .layers)) .told t in
+    let a = h .0 in
+    let b = h .1 in
+    let p : row .first + (l - 1) ≡ i = cc in
+    let m = w .records in
+    let n = w .few in
+    (omega arith, omega arith))
+    (λ t q. clash cc)
+    (sym e ∙ z)
+
+module _ (s : List ℕ) (row : Stripe) (l : ℕ) (f : FoundLayer) (i : ℕ) (w : Whole s row) (e : f ≡ findLayer row l) (z : f ≡ At i) where
+  pub layer-in : i < length s / recordSize
+  layer-in = layer-within s row l f i w e z .0
+
+  pub layer-small : i < 4294967296
+  layer-small = layer-within s row l f i w e z .1
+
+-- ---- a stripe of a sheet
+
+module _ (s page pencil : List ℕ) (k l : ℕ) where
+  good-found : Accepted s → foundOf s page pencil k l ≡ stripeFound s page pencil l (findStripe s k)
+  unfolding foundOf sheetFound
+  good-found g = rw (g .good) refl
+
+  pub stripe-none : (f : FoundStripe) → Accepted s → f ≡ findStripe s k → f ≡ NoStripe → Refuses BadLine ≡ foundOf s page pencil k l
+  unfolding stripeFound
+  stripe-none f g e z = sym (good-found g ∙ ap (stripeFound s page pencil l) (sym e ∙ z))
+
+  pub stripe-row : (f : FoundStripe) (row : Stripe) (q : Found) → Accepted s → f ≡ findStripe s k → f ≡ Row row → q ≡ stripeFound s page pencil l (Row row)
+      → q ≡ foundOf s page pencil k l
+  stripe-row f row q g e z h = h ∙ sym (good-found g ∙ ap (stripeFound s page pencil l) (sym e ∙ z))
+
+  pub sheet-bad : (v : Verdict) (i : ℕ) → v ≡ judgeOf s → v ≡ Bad i → Refuses (BadSheet i) ≡ foundOf s page pencil k l
+  unfolding foundOf sheetFound answerOf
+  sheet-bad v i e z = rw (← e, z) refl
+
+-- ---- the part itself
+
+pub octets-made : (d : RefT (List ℕ)) (start n : ℕ) (r : RefT (List ℕ)) → now r ≡ take (start + n - start) (drop start (now d)) → ptr r ≡ spot d start → PartAt d start n r
+octets-made d start n r e q =
+    let z : start + n - start ≡ n = omega arith in record { octets = e ∙ ap (λ (j : ℕ). take j (drop start (now d))) z; place = q }
+
+module _ (s : List ℕ) (page pencil : RefT (List ℕ)) (k l : ℕ) (f : Found) (e : f ≡ foundOf s (now page) (now pencil) k l) where
+  -- what is found, in words of what the call was answered
+  hands-as : (g : Found) → f ≡ g → (r : RefT (List ℕ)) → now r ≡ partBy (now page) (now pencil) g → ptr r ≡ spot (lentFrom page pencil (sourceBy g)) (startBy g)
+      → HandsPart s page pencil k l r
+  unfolding partOf partSource partStart
+  hands-as g z r o q =
+      record {
+        octets = o ∙ ap (partBy (now page) (now pencil)) (sym z ∙ e);
+        place = q ∙ ap (λ (x : Found). spot (lentFrom page pencil (sourceBy x)) (startBy x)) (sym z ∙ e);
+      }
+
+  pub part-none : (a : Answer) (r : RefT (List ℕ)) → f ≡ Refuses a → PartAt page 0 0 r → HandsPart s page pencil k l r
+  unfolding partBy sourceBy startBy lentFrom
+  part-none a r z w = hands-as (Refuses a) z r (w .octets) (w .place)
+
+  module _ (p : Part) (z : f ≡ Lies p) where
+    fits-as : (d : List ℕ) → octetsIn (now page) (now pencil) (p .source) ≡ d → p .start + p .len ≤ length d
+    fits-as d q = subst (λ (x : List ℕ). p .start + p .len ≤ length x) q (lies-within s (now page) (now pencil) k l p (sym e ∙ z))
+
+    -- of the slice that holds it
+    part-as : (x : Source) → p .source ≡ x → (r : RefT (List ℕ)) → PartAt (lentFrom page pencil x) (p .start) (p .len) r → now (lentFrom page pencil x) ≡ octetsIn (now page) (now pencil) x
+        → HandsPart s page pencil k l r
+    unfolding partBy sourceBy startBy
+    part-as x q r w v =
+        hands-as (Lies p) z r
+        (w .octets ∙ ap (λ (d : List ℕ). take (p .len) (drop (p .start) d)) (v ∙ ap (octetsIn (now page) (now pencil)) (sym q)))
+        (w .place ∙ ap (λ (y : Source). spot (lentFrom page pencil y) (p .start)) (sym q))
+
+    module _ (x : Source) (u : x ≡ p .source) where
+      pub fits-page : x ≡ Page → p .start + p .len ≤ length (now page)
+      unfolding octetsIn
+      fits-page v = fits-as (now page) (ap (octetsIn (now page) (now pencil)) (sym u ∙ v))
+
+      pub fits-pencil : x ≡ Pencil → p .start + p .len ≤ length (now pencil)
+      unfolding octetsIn
+      fits-pencil v = fits-as (now pencil) (ap (octetsIn (now page) (now pencil)) (sym u ∙ v))
+
+      pub part-page : (r : RefT (List ℕ)) → x ≡ Page → PartAt page (p .start) (p .len) r → HandsPart s page pencil k l r
+      unfolding octetsIn lentFrom
+      part-page r v w = part-as Page (sym u ∙ v) r w refl
+
+      pub part-pencil : (r : RefT (List ℕ)) → x ≡ Pencil → PartAt pencil (p .start) (p .len) r → HandsPart s page pencil k l r
+      unfolding octetsIn lentFrom
+      part-pencil r v w = part-as Pencil (sym u ∙ v) r w refl
+
+-- ---- the report
+
+module _ (x : Source) where
+  pub number-page : x ≡ Page → 0 ≡ sourceNumber x
+  unfolding sourceNumber
+  number-page e = ap sourceNumber (sym e)
+
+  pub number-pencil : x ≡ Pencil → 1 ≡ sourceNumber x
+  unfolding sourceNumber
+  number-pencil e = ap sourceNumber (sym e)
+
+pub report-made : (a : Answer) (x n : ℕ) (q : Report) → q ≡ reportOf a
+    → record { number = q .number; place = q .place; count = q .count; source = x; start = n } ≡ reportAt a x n
+unfolding reportAt reportOf
+report-made a x n q e = ap (λ (z : Report). record { number = z .number; place = z .place; count = z .count; source = x; start = n }) e
+
+module _ (f : Found) (r : DataReport) where
+  pub report-lies : (p : Part) (n : ℕ) → f ≡ Lies p → n ≡ sourceNumber (p .source) → r ≡ reportAt (Done (p .len)) n (p .start) → r ≡ reportFound f
+  unfolding reportFound dataBy sourceBy startBy
+  report-lies p n z e h = h ∙ ap (λ (m : ℕ). reportAt (Done (p .len)) m (p .start)) e ∙ ap reportFound (sym z)
+
+  pub report-refuses : (a : Answer) → f ≡ Refuses a → r ≡ reportAt a 0 0 → r ≡ reportFound f
+  unfolding reportFound dataBy sourceBy startBy sourceNumber
+  report-refuses a z h = h ∙ ap reportFound (sym z)
+
+pub ruleset reporting = (needs, number-page, number-pencil, report-made, report-lies, report-refuses)
+
+pub ruleset naming = (needs, source-page, source-pencil, len-page, len-pencil, in-uncoded, in-coded, passes-made, record-short, record-lies)
+
+pub ruleset finding = (needs, layer-none, layer-there, layer-in, layer-small, stripe-none, stripe-row, sheet-bad, sheet-good, found-whole, fault-small)
+
+pub ruleset handing = (needs, octets-made, part-none, fits-page, fits-pencil, part-page, part-pencil)

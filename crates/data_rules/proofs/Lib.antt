@@ -1,0 +1,6 @@
+pub mod Layer
+pub mod Cases
+pub mod Exactly
+pub mod Handed
+pub mod Own
+pub mod Examples
