@@ -80,8 +80,7 @@ def build_library_driver(tally, name="read", driver=READ_DRIVER):
     """The driver of a call over the library, or None.
 
     Only while crates.txt lists no crate of the library may its archive be
-    missing, or a call be missing in it: then the tests run on the reference
-    alone, and say so.
+    missing: then the tests run on the reference alone, and say so.
     """
     call, path = "spirerook_" + name.split("_")[0], archive()
     if not os.path.exists(path):
@@ -91,7 +90,7 @@ def build_library_driver(tally, name="read", driver=READ_DRIVER):
             print("the library is not tried: crates.txt lists no crate 'spirerook' yet")
         return None
     if call not in exported(path):
-        print("the library is not tried: it exports no %s yet" % call)
+        tally.check(False, "%s exports no %s" % (os.path.relpath(path, ROOT), call))
         return None
     return build("library_" + name, parts=driver + (path,))
 

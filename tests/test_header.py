@@ -144,11 +144,8 @@ def check_calls(tally):
             tally.check(False, "no %s: make it first" % os.path.relpath(path, reference_run.ROOT))
             continue
         names = reference_run.exported(path)
-        tally.check(names <= set(calls), "%s exports beside the header %s"
-                    % (os.path.basename(path), sorted(names - set(calls))))
-        missing = sorted(set(calls) - names)
-        if missing:
-            print("%s does not export yet: %s" % (os.path.basename(path), ", ".join(missing)))
+        tally.check(names == set(calls), "%s and the header differ in %s"
+                    % (os.path.basename(path), sorted(names ^ set(calls))))
 
 
 def check_misuse(tally, program):

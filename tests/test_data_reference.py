@@ -73,7 +73,7 @@ def main():
     plain.answers(lambda k: "damaged call %d" % k, damaged)
     watched.answers(lambda k: "watched call %d" % k, damaged[::5])
     if watched.library is not None:
-        counted.save("data_reference")
+        counted.save("test_data_reference")
     return tally.end()
 
 
