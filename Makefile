@@ -1,5 +1,15 @@
-.PHONY: test demo bench faults clean
+.PHONY: all test demo bench faults fuzz install uninstall clean
 .NOTPARALLEL:
+
+# the header has the version, since C programs can ask for it there; names of shared objects and pkg-config repeat it
+VERSION := $(shell sed -n 's/^\#define SPIREROOK_VERSION "\([0-9.]*\)".*/\1/p' include/spirerook.h 2>/dev/null)
+MAJOR := $(firstword $(subst ., ,$(VERSION)))
+PREFIX = /usr/local
+LIBDIR = $(PREFIX)/lib
+INCLUDEDIR = $(PREFIX)/include
+
+# the library for C, both ways
+all: build/libspirerook.a build/libspirerook.so
 
 test:
 	@bash tests/run
@@ -11,12 +21,18 @@ demo:
 	@rt check listing >build/demo.log 2>&1 </dev/null || { cat build/demo.log >&2; echo "demo: 'rt check listing' fails, as shown above" >&2; exit 1; }
 	@target/bin/listing <examples/example.sheet
 
-# faults planted in the reference, each of which the table of sheets, of pages, of pages to be written or of lines must find
+# faults planted in the reference, each of which a table of answers, or the test of the boundary, must find
 faults:
 	@python3 tests/faults_sheet.py
 	@python3 tests/faults_page.py
 	@python3 tests/faults_write.py
 	@python3 tests/faults_line.py
+	@python3 tests/faults_data.py
+	@python3 tests/faults_boundary.py
+
+# FUZZ_SECONDS of changed pages, sheets and plane lists, the library beside the reference; what differs is kept in tests/cases
+fuzz: build/libspirerook.a
+	@python3 tests/fuzz.py
 
 bench:
 	@bash bench/run
@@ -25,6 +41,28 @@ clean:
 	rm -rf build target
 
 build/libspirerook.a: $(shell find crates -name '*.rt' -o -name '*.antt' 2>/dev/null) crates.txt
+	@command -v rt >/dev/null 2>&1 || { echo "no command 'rt': the library is proved and built by the Rattle toolchain" >&2; exit 1; }
 	@mkdir -p build
 	rt staticlib spirerook
 	cp target/staticlib/libspirerook.a $@
+
+# nothing may be left undefined but what the C library has, and no text is relocated
+build/libspirerook.so: build/libspirerook.a
+	cc -shared -fPIC -o $@ -Wl,-soname,libspirerook.so.$(MAJOR) -Wl,--no-undefined -Wl,-z,text -Wl,-z,noexecstack \
+		-Wl,--whole-archive build/libspirerook.a -Wl,--no-whole-archive
+	ln -sf libspirerook.so $@.$(MAJOR)
+
+install: all
+	@case "$(LIBDIR):$(INCLUDEDIR)" in /*:/*) ;; *) echo "install: PREFIX must be an absolute path, not '$(PREFIX)'" >&2; exit 1 ;; esac
+	install -d "$(DESTDIR)$(LIBDIR)/pkgconfig" "$(DESTDIR)$(INCLUDEDIR)"
+	install -m 644 include/spirerook.h "$(DESTDIR)$(INCLUDEDIR)/spirerook.h"
+	install -m 644 build/libspirerook.a "$(DESTDIR)$(LIBDIR)/libspirerook.a"
+	install -m 755 build/libspirerook.so "$(DESTDIR)$(LIBDIR)/libspirerook.so.$(VERSION)"
+	ln -sf libspirerook.so.$(VERSION) "$(DESTDIR)$(LIBDIR)/libspirerook.so.$(MAJOR)"
+	ln -sf libspirerook.so.$(MAJOR) "$(DESTDIR)$(LIBDIR)/libspirerook.so"
+	sed -e 's|@PREFIX@|$(PREFIX)|' -e 's|@LIBDIR@|$(LIBDIR)|' -e 's|@INCLUDEDIR@|$(INCLUDEDIR)|' -e 's|@VERSION@|$(VERSION)|' \
+		spirerook.pc.in >"$(DESTDIR)$(LIBDIR)/pkgconfig/spirerook.pc"
+
+uninstall:
+	rm -f "$(DESTDIR)$(INCLUDEDIR)/spirerook.h" "$(DESTDIR)$(LIBDIR)/pkgconfig/spirerook.pc" "$(DESTDIR)$(LIBDIR)/libspirerook.a"
+	rm -f "$(DESTDIR)$(LIBDIR)/libspirerook.so" "$(DESTDIR)$(LIBDIR)/libspirerook.so.$(MAJOR)" "$(DESTDIR)$(LIBDIR)/libspirerook.so.$(VERSION)"

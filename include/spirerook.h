@@ -1,9 +1,15 @@
-/* Spirerook reads a mixed raster page (T.44, Mode 1) into a table of its layers, the sheet, writes a page from a sheet, and composes decoded layers
- * into lines of pixels.
+/* Spirerook reads a mixed raster page (ITU-T T.44, Mode 1) into a table of its layers, the sheet; writes a page from a sheet; hands out the coded
+ * data of a layer; and composes decoded layers into lines of pixels.  docs/C-API.md is the manual, with an example.
  *
- * Link build/libspirerook.a.  No call allocates, keeps anything or calls back: a caller lends octets for the time of a call, a length beside each
- * pointer.  Any octets of any length may be lent; a null pointer with length 0 too.  What is lent for writing may not overlap anything else
- * that is lent.  All numbers in octets are most significant octet first. */
+ * Of all four calls:
+ * - A caller lends octets for the time of the call, a length beside each pointer.  Any octets of any length may be lent, and any numbers given: a call
+ *   does its work, or refuses with a number and a place.  A null pointer is taken where the length is 0.
+ * - What is lent for reading (const) is left as it was and may overlap or be the same.  What is lent for writing may overlap nothing else that is lent.
+ * - A refusal changes no octet; Done changes those that it counts, from the first on, and none behind them.
+ * - No call allocates, keeps anything from one call to the next, reads a clock or a file, or calls back.  They share no state: threads may call at once,
+ *   each with its own buffers for writing.
+ * - No call recurses; each takes less stack than SPIREROOK_STACK, whatever it is lent.
+ * - All numbers in octets are most significant octet first. */
 #ifndef SPIREROOK_H
 #define SPIREROOK_H
 
@@ -14,66 +20,257 @@
 extern "C" {
 #endif
 
-/* The numbers of the paper.  Reading gives 0 to 13 and 18, writing 0, 1, 5, 13, 14, 16 and 18, a line 0, 13, 14, 15 and 17. */
+/* The first number changes with a call or struct that viewers link, the second with a call that is added. */
+#define SPIREROOK_VERSION "1.0.0"
+
+/* ---- Bounds ---- */
+
+#define SPIREROOK_RECORD_OCTETS 28      /* of a record of the sheet */
+#define SPIREROOK_STRIPES 64            /* of a page, at most */
+#define SPIREROOK_LAYERS 15             /* of a stripe, at most; 3 in a Mode 1 page */
+#define SPIREROOK_RECORDS 960           /* of a sheet, at most: 64 stripes of 15 layers */
+#define SPIREROOK_PAGE_SHEET_OCTETS 5376 /* hold the sheet of any Mode 1 page: 64 stripes of 3 records */
+#define SPIREROOK_SHEET_OCTETS 26880    /* of a sheet, at most: 960 records */
+#define SPIREROOK_PAGE_OCTETS 16777215  /* of a page, at most */
+#define SPIREROOK_WIDTH 32768           /* of a page in pixels, at most; 1 at least */
+#define SPIREROOK_HEIGHT 65535          /* of all stripes of a page together, at most; 1 at least for each */
+#define SPIREROOK_PLANE_OCTETS 5        /* of an entry of the plane list */
+#define SPIREROOK_PIXEL_OCTETS 4        /* of a pixel of a line: the colour, and 1 where it is seen */
+#define SPIREROOK_LINE_OCTETS 131072    /* of a line, at most: 4 times the width */
+#define SPIREROOK_STACK 16384           /* a thread of this stack size may make any call */
+
+/* ---- Numbers ---- */
+
+/* Each answer has one of these: number, constant, name, and what it tells. */
+#define SPIREROOK_NUMBERS(X) \
+    X(0, DONE, "Done", "the call did its work") \
+    X(1, SHORT, "Short", "octets end before a field or coded data does") \
+    X(2, BAD_MARK, "BadMark", "another marker or ident is due here") \
+    X(3, BAD_LENGTH, "BadLength", "the length of a segment is not one it may have") \
+    X(4, BAD_VERSION, "BadVersion", "the version must be 0") \
+    X(5, BAD_MODE, "BadMode", "the mode must be 1, and a page that is written has no layer above 3") \
+    X(6, BAD_CODER, "BadCoder", "no coder has this octet") \
+    X(7, BAD_RES, "BadRes", "a resolution is none of the six, or does not divide the page's") \
+    X(8, BAD_WIDTH, "BadWidth", "the page's width must be 1 to 32768") \
+    X(9, BAD_TYPE, "BadType", "a stripe cannot have these layers, or the page names no coder for one of them") \
+    X(10, BAD_STRIPE, "BadStripe", "a stripe's height, offset or mask length is wrong, or there are no stripes or more than 64") \
+    X(11, BAD_LAYER, "BadLayer", "the JPEG data of an image layer is not well formed") \
+    X(12, TRAILING, "Trailing", "only zero octets may follow the end of the page") \
+    X(13, NO_ROOM, "NoRoom", "the buffer is too small for the result") \
+    X(14, BAD_SHEET, "BadSheet", "the sheet breaks one of its rules") \
+    X(15, BAD_PLANE, "BadPlane", "the plane list names a layer that is not there, not coded or out of order, or samples that are not there") \
+    X(16, MISMATCH, "Mismatch", "a layer's coded data is not what its record says, or a second mask coder is used") \
+    X(17, BAD_LINE, "BadLine", "there is no such stripe, line or layer") \
+    X(18, TOO_LONG, "TooLong", "a page has at most 16777215 octets")
+
 enum {
-    SPIREROOK_DONE = 0,         /* the work was done */
-    SPIREROOK_SHORT = 1,        /* a field, or coded data, does not fit whole */
-    SPIREROOK_BAD_MARK = 2,     /* a page marker or ident due is not there */
-    SPIREROOK_BAD_LENGTH = 3,   /* a segment length breaks its rule */
-    SPIREROOK_BAD_VERSION = 4,  /* version not 0 */
-    SPIREROOK_BAD_MODE = 5,     /* mode not 1; in writing, a layer above 3 */
-    SPIREROOK_BAD_CODER = 6,    /* coder octet not listed */
-    SPIREROOK_BAD_RES = 7,      /* main resolution not listed, or a layer's not listed or no divisor of it */
-    SPIREROOK_BAD_WIDTH = 8,    /* page width outside 1 to 32,768 */
-    SPIREROOK_BAD_TYPE = 9,     /* stripe type not taken, or it names a layer whose coder octet is 0 */
-    SPIREROOK_BAD_STRIPE = 10,  /* height, sum of heights, offset or mask length wrong; a 65th stripe; none */
-    SPIREROOK_BAD_LAYER = 11,   /* the walk over a JPEG layer breaks a rule other than 1, 3 and 7 */
-    SPIREROOK_TRAILING = 12,    /* an octet other than 0 after the end */
-    SPIREROOK_NO_ROOM = 13,     /* the output buffer is smaller than the result */
-    SPIREROOK_BAD_SHEET = 14,   /* a rule of the sheet is broken */
-    SPIREROOK_BAD_PLANE = 15,   /* a listed layer is absent, uncoded, out of order, or runs past the samples */
-    SPIREROOK_MISMATCH = 16,    /* in writing, a layer's data and its record disagree, or two masks have different coders */
-    SPIREROOK_BAD_LINE = 17,    /* no such stripe, line or layer */
-    SPIREROOK_TOO_LONG = 18     /* a page of more than 16,777,215 octets */
+#define SPIREROOK_CONSTANT(number, constant, name, text) SPIREROOK_##constant = number,
+    SPIREROOK_NUMBERS(SPIREROOK_CONSTANT)
+#undef SPIREROOK_CONSTANT
+    SPIREROOK_NUMBER_COUNT = 19
 };
 
+/* The name of a number, as "BadRes"; of one that no call gives, "unknown". */
+static inline const char *spirerook_name(uint32_t number)
+{
+    switch (number) {
+#define SPIREROOK_CASE(number, constant, name, text) case number: return name;
+        SPIREROOK_NUMBERS(SPIREROOK_CASE)
+#undef SPIREROOK_CASE
+        default: return "unknown";
+    }
+}
+
+/* What a number tells, for people: a phrase without a capital or a full stop. */
+static inline const char *spirerook_text(uint32_t number)
+{
+    switch (number) {
+#define SPIREROOK_CASE(number, constant, name, text) case number: return text;
+        SPIREROOK_NUMBERS(SPIREROOK_CASE)
+#undef SPIREROOK_CASE
+        default: return "no call gives this number";
+    }
+}
+
+/* ---- Answers ---- */
+
 /* number: one of the above.
- * place:  of a refusal in reading, the first octet of the field at fault, from 0; it may equal the page's length, where a field is missing at its
- *         end.  In writing, the record at fault, from 0; it may equal the number of records, where one more was due.
- *         Of a line, the record (BadSheet) or the entry of the plane list (BadPlane) at fault, from 0; it may equal the number of records or of
- *         whole entries, where one more was due or stands in part.
- *         Done, NoRoom, BadLine and TooLong have place 0.
- * count:  of Done, what was written; a refusal has 0. */
+ * place:  of a refusal, where the fault is, as each call says below; of Done, 0.
+ * count:  of Done, the records or octets written, or the octets of the part; of a refusal, 0. */
 typedef struct {
     uint32_t number, place;
     uint64_t count;
 } spirerook_answer;
 
-/* Reads a page into the sheet: records of 28 octets, three a stripe, and count tells how many.  5,376 octets hold the sheet of any Mode 1 page.
- * Octets of the buffer past the records stay as they were.  A refusal changes no octet of it: the page is judged first, then the room. */
+/* The same, and where the part stands: count octets from start on, of the page (source 0) or of the pencil file (source 1).  An empty part, that is
+ * every one of count 0, has source 0 and start 0. */
+typedef struct {
+    uint32_t number, place;
+    uint64_t count;
+    uint32_t source, start;
+} spirerook_part;
+
+enum { SPIREROOK_FROM_PAGE = 0, SPIREROOK_FROM_PENCIL = 1 };
+
+/* ---- Calls ---- */
+
+/* Reads a page into the sheet: three records a stripe; count tells how many records.
+ * Lent: the page, for reading; room for the sheet, for writing (SPIREROOK_PAGE_SHEET_OCTETS are enough for any page).
+ * Numbers, in this order:
+ *   TooLong, place 0: the page has more than SPIREROOK_PAGE_OCTETS octets; nothing of it is looked at.
+ *   Short, BadMark, BadLength, BadVersion, BadMode, BadCoder, BadRes, BadWidth, BadType, BadStripe, BadLayer, Trailing: the first fault in the order of
+ *     the page's octets.  The place is the first octet of the field at fault, from 0; it equals the page's length where a field is due at its end.
+ *   NoRoom, place 0: 28 octets a record do not fit.
+ *   Done.  Octets behind the records stay as they were. */
 spirerook_answer spirerook_read(const uint8_t *page, size_t page_len, uint8_t *sheet, size_t sheet_len);
 
-/* Writes the page of a sheet whose starts point into the data, and count tells how many octets it has; records may share data.  A page of no
- * optional segment and no padding: 26 octets, 39 a stripe and the coded data, at most 16,777,215.  It is refused, in this order: a sheet that breaks
- * a rule; a layer above 3, at the first; then record by record coded data that passes the data's end (Short), or that is not just the JPEG layer that
- * its record tells, or a mask whose coder is not that of an earlier mask (Mismatch); then the length, then the room.
+/* Writes the page of a sheet; count tells how many octets: 26, 39 a stripe, and the coded data.  There are no optional segments and no padding.
+ * Lent: the sheet and the data that the starts of its records point into, both for reading; room for the page, for writing.  Records may share data.
+ * Numbers, in this order; places are records, from 0:
+ *   BadSheet: the first record that breaks a rule; it equals the number of whole records where one more was due.
+ *   BadMode: the first record of a layer above 3.
+ *   Short or Mismatch, record by record: coded data passes the end of the data (Short, judged first); or an image's data is not just the JPEG layer
+ *     that its record tells, or a mask's coder is not that of an earlier coded mask (Mismatch).
+ *   TooLong, place 0: the page would have more than SPIREROOK_PAGE_OCTETS octets.
+ *   NoRoom, place 0: the page does not fit.
+ *   Done.  Octets behind the page stay as they were.
  * Time: a walk over the data of each coded image record, 128 of them at most, and one copy of the page.  Records that share long data are walked
- * each, even where the page turns out too long.
- * Octets of the buffer past the page stay as they were.  A refusal changes no octet of it. */
+ * each, even where the page turns out too long. */
 spirerook_answer spirerook_write(const uint8_t *sheet, size_t sheet_len, const uint8_t *data, size_t data_len, uint8_t *page, size_t page_len);
 
-/* Composes a line of a stripe, both counted from 0, out of decoded layers, and count tells how many octets it has: four a pixel of the page's width,
- * left to right.  A pixel is its colour and 1 where it is seen, or 0 0 0 0 where it is unseen: it is seen exactly if it has one colour whatever the
- * layers hold that were not read.
- * The plane list tells which coded layers of the stripe were read: entries of five octets, the layer and four of start, most significant octet
- * first, layers rising.  From its start in the samples a layer has its own width by height, row by row, one octet a sample of a mask (0 is 0, all
- * else 1) and three of an image layer.  Layers may share samples; coded layers that are not listed are unread.
- * It is refused, in this order: a sheet that breaks a rule (BadSheet, at the record); no such stripe or line (BadLine, place 0); the first entry
- * whose layer the stripe has not, or has uncoded, or that does not rise above the entry before, or that runs past the samples, and behind the whole
- * entries one of less than five octets (BadPlane, at the entry); less than four octets a pixel (NoRoom, place 0).
- * Octets of the buffer past the line stay as they were.  A refusal changes no octet of it. */
+/* Composes a line of a stripe, both counted from 0, out of decoded layers; count tells how many octets: four a pixel of the page's width, left to right.
+ * A pixel is its colour and 1 where it is seen, or 0 0 0 0 where it is unseen: it is seen exactly if it has one colour whatever the layers hold that
+ * were not read.
+ * Lent: the sheet, the plane list and the samples, for reading; room for the line, for writing.
+ * The plane list tells which coded layers of the stripe were read: entries of five octets, the layer and four of its start in the samples, layers
+ * rising.  From its start a layer has its own width by height, row by row, one octet a sample of a mask (0 is 0, all else 1) and three of an image
+ * layer.  Layers may share samples; coded layers that are not listed are unread.
+ * Numbers, in this order:
+ *   BadSheet: the place is the first record that breaks a rule, from 0, or the number of whole records where one more was due.
+ *   BadLine, place 0: the sheet has no such stripe, or the stripe no such line.
+ *   BadPlane: the place is the first entry, from 0, whose layer the stripe does not have or has uncoded, or is not above that of the entry before, or
+ *     runs past the samples; or the number of whole entries, where a part of one stands behind them.
+ *   NoRoom, place 0: four octets a pixel do not fit.
+ *   Done.  Octets behind the line stay as they were. */
 spirerook_answer spirerook_line(const uint8_t *sheet, size_t sheet_len, const uint8_t *planes, size_t planes_len, const uint8_t *samples,
                                 size_t samples_len, uint32_t stripe, uint32_t line, uint8_t *out, size_t out_len);
+
+/* Tells where the coded data of a layer stands, and copies none of it: layers 1 to 3 have it in the page, higher ones in the pencil file.  Stripes are
+ * counted from 0, layers from 1.  The part of a layer that is not coded is empty, and so is that of a refusal.
+ * Lent: the sheet, the page and the pencil file, all for reading.  Nothing is written, and of the page and the pencil file only the lengths matter.
+ * Numbers, in this order:
+ *   BadSheet: the place is the first record that breaks a rule, from 0, or the number of whole records where one more was due.
+ *   BadLine, place 0: the sheet has no such stripe, or the stripe no such layer.
+ *   Short: the layer's data passes the end of its source; the place is the layer's record, from 0.
+ *   Done: the part lies within its source. */
+spirerook_part spirerook_data(const uint8_t *sheet, size_t sheet_len, const uint8_t *page, size_t page_len, const uint8_t *pencil, size_t pencil_len,
+                              uint32_t stripe, uint32_t layer);
+
+/* ---- Records ---- */
+
+/* The fields of a record.  Each reader below is lent the 28 octets of one record. */
+static inline uint32_t spirerook_get2(const uint8_t *octets)
+{
+    return (uint32_t)octets[0] << 8 | octets[1];
+}
+
+static inline uint32_t spirerook_get4(const uint8_t *octets)
+{
+    return spirerook_get2(octets) << 16 | spirerook_get2(octets + 2);
+}
+
+/* Record k of a sheet, from 0. */
+static inline const uint8_t *spirerook_record_at(const uint8_t *sheet, size_t k)
+{
+    return sheet + k * SPIREROOK_RECORD_OCTETS;
+}
+
+static inline uint32_t spirerook_record_stripe(const uint8_t *record) { return spirerook_get2(record); }
+
+/* 1 the background, 2 the mask, 3 the foreground; above, even ones are masks and odd ones images. */
+static inline uint32_t spirerook_record_layer(const uint8_t *record) { return record[2]; }
+
+/* Of a mask 1 (MH), 2 (MR), 4 (MMR) or 8 (JBIG as T.85 has it), of an image 1 (JPEG); 0 where the layer is not coded. */
+static inline uint32_t spirerook_record_coder(const uint8_t *record) { return record[3]; }
+
+/* Offsets in pixels of the page, from the stripe's upper left corner. */
+static inline uint32_t spirerook_record_x(const uint8_t *record) { return spirerook_get2(record + 4); }
+static inline uint32_t spirerook_record_y(const uint8_t *record) { return spirerook_get2(record + 6); }
+
+/* In the layer's own samples.  Those of layer 2 are the page's width and the stripe's height, coded or not. */
+static inline uint32_t spirerook_record_width(const uint8_t *record) { return spirerook_get2(record + 8); }
+static inline uint32_t spirerook_record_height(const uint8_t *record) { return spirerook_get2(record + 10); }
+
+/* 100, 200, 300, 400, 600 or 1200; that of layer 2 is the page's, and all others divide it. */
+static inline uint32_t spirerook_record_resolution(const uint8_t *record) { return spirerook_get2(record + 12); }
+
+/* The three octets of the base colour. */
+static inline const uint8_t *spirerook_record_base(const uint8_t *record) { return record + 14; }
+
+/* Where the coded data stands. */
+static inline uint32_t spirerook_record_start(const uint8_t *record) { return spirerook_get4(record + 18); }
+static inline uint32_t spirerook_record_length(const uint8_t *record) { return spirerook_get4(record + 22); }
+
+/* 1 where the layer is coded, 0 where not. */
+static inline int spirerook_record_coded(const uint8_t *record) { return spirerook_record_length(record) != 0; }
+
+/* 1 where the layer is a mask, 0 where it is an image. */
+static inline int spirerook_record_mask(const uint8_t *record) { return record[2] % 2 == 0; }
+
+/* The octets that the layer's decoded samples take: one a sample of a mask, three of an image; 0 where it is not coded. */
+static inline uint64_t spirerook_record_samples(const uint8_t *record)
+{
+    uint64_t count = (uint64_t)spirerook_record_width(record) * spirerook_record_height(record);
+    return spirerook_record_coded(record) ? count * (spirerook_record_mask(record) ? 1 : 3) : 0;
+}
+
+/* ---- Makers ---- */
+
+static inline void spirerook_put2(uint8_t *octets, uint32_t value)
+{
+    octets[0] = (uint8_t)(value >> 8 & 255);
+    octets[1] = (uint8_t)(value & 255);
+}
+
+static inline void spirerook_put4(uint8_t *octets, uint32_t value)
+{
+    spirerook_put2(octets, value >> 16);
+    spirerook_put2(octets + 2, value & 65535);
+}
+
+/* An entry of the plane list: SPIREROOK_PLANE_OCTETS octets.  Layers rise from entry to entry, and are at most SPIREROOK_LAYERS. */
+static inline void spirerook_put_plane(uint8_t *entry, uint32_t layer, uint32_t start)
+{
+    entry[0] = (uint8_t)(layer & 255);
+    spirerook_put4(entry + 1, start);
+}
+
+/* The fields of a record by name, for those who make a sheet. */
+typedef struct {
+    uint32_t stripe, layer, coder, x, y, width, height, resolution;
+    uint8_t base[3];
+    uint32_t start, length;
+} spirerook_record;
+
+/* A record: SPIREROOK_RECORD_OCTETS octets.  Whether it keeps the rules of a sheet, the calls say. */
+static inline void spirerook_put_record(uint8_t *record, const spirerook_record *fields)
+{
+    spirerook_put2(record, fields->stripe);
+    record[2] = (uint8_t)(fields->layer & 255);
+    record[3] = (uint8_t)(fields->coder & 255);
+    spirerook_put2(record + 4, fields->x);
+    spirerook_put2(record + 6, fields->y);
+    spirerook_put2(record + 8, fields->width);
+    spirerook_put2(record + 10, fields->height);
+    spirerook_put2(record + 12, fields->resolution);
+    record[14] = fields->base[0];
+    record[15] = fields->base[1];
+    record[16] = fields->base[2];
+    record[17] = 0;
+    spirerook_put4(record + 18, fields->start);
+    spirerook_put4(record + 22, fields->length);
+    spirerook_put2(record + 26, 0);
+}
 
 #ifdef __cplusplus
 }

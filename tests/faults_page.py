@@ -181,7 +181,8 @@ FAULTS = [
     ("as_library.c", "an octet behind the page read", "return same;",
      "same.place += ((volatile const uint8_t *)page)[page_len] * 0;\n    return same;"),
     ("as_library.c", "a count with a refusal", "answer.count}", "answer.number + answer.count}"),
-    ("as_library.c", "a place with Done", "answer.place,", "answer.place + !answer.number,"),
+    ("as_library.c", "a place with Done", "{answer.number, answer.place,",
+     "{answer.number, answer.place + !answer.number,"),
     ("as_library.c", "a null pointer refused", "return same;",
      "if (page == NULL) same.number = 2;\n    return same;"),
 ]

@@ -74,7 +74,7 @@ class Stripe:
                                 for layer, fields in self.layers.items())
 
 
-def stripes_of(words):
+def stripes_of(words, kind=Stripe):
     """The stripes of the column `sheet`."""
     words = re.sub(r"(\d+)\*\(([^()]*)\)", lambda m: " ".join([m[2]] * int(m[1])), words)
     stripes = []
@@ -82,7 +82,7 @@ def stripes_of(words):
         begins = STRIPE.fullmatch(word)
         if begins:
             width, height, layers, main = begins.groups()
-            stripes.append(Stripe(int(width), int(height), int(layers or 3), int(main or MAIN)))
+            stripes.append(kind(int(width), int(height), int(layers or 3), int(main or MAIN)))
         elif word != "nothing":
             stripes[-1].word(word)
     return stripes

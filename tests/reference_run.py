@@ -18,11 +18,14 @@ READ_DRIVER = ("sheet.c", "console.c", os.path.join(DRIVER, "lent.c"),
                os.path.join(DRIVER, "read.c"))
 WRITE_DRIVER = READ_DRIVER[:-1] + (os.path.join(DRIVER, "write.c"),)
 LINE_DRIVER = READ_DRIVER[:-1] + (os.path.join(DRIVER, "line.c"),)
+DATA_DRIVER = ("console.c", os.path.join(DRIVER, "lent.c"), os.path.join(DRIVER, "data.c"))
 FAR_DRIVER = ("sheet.c", "console.c", os.path.join(DRIVER, "line_far.c"))
-CALLS = ("page.c", "reading.c", "stripe.c", "jpeg.c", "write.c", "line.c", "as_library.c")
+CALLS = ("page.c", "reading.c", "stripe.c", "jpeg.c", "write.c", "line.c", "data.c",
+         "as_library.c")
 READ = CALLS + READ_DRIVER
 WRITE = CALLS + WRITE_DRIVER
 LINE = CALLS + LINE_DRIVER
+DATA = CALLS + ("sheet.c",) + DATA_DRIVER
 
 
 def build(name="reference_list", sources=SOURCES, flags=("-O2",), parts=LIST):
@@ -36,9 +39,41 @@ def build(name="reference_list", sources=SOURCES, flags=("-O2",), parts=LIST):
     return program
 
 
+def build_archive(name, sources=SOURCES, flags=("-O2",)):
+    """The reference as an archive with the library's calls, so that the tests can try it, or one
+    with a fault in it, in the library's place."""
+    folder = os.path.join(ROOT, "build", name + ".objects")
+    os.makedirs(folder, exist_ok=True)
+    objects = []
+    for file in CALLS + ("sheet.c",):
+        objects.append(os.path.join(folder, file[:-2] + ".o"))
+        subprocess.run(["cc", *WARNINGS, *flags, "-I", sources, "-I", HEADERS, "-c",
+                        os.path.join(sources, file), "-o", objects[-1]], check=True)
+    path = os.path.join(ROOT, "build", name + ".a")
+    if os.path.exists(path):
+        os.remove(path)
+    subprocess.run(["ar", "rcs", path, *objects], check=True)
+    return path
+
+
 def library_is_listed():
     with open(os.path.join(ROOT, "crates.txt"), encoding="utf-8") as lines:
         return any(re.match(r"\s*spirerook\s*:", line) for line in lines)
+
+
+def archive():
+    """The library that is tried."""
+    return os.path.abspath(os.environ.get("LIBRARY")
+                           or os.path.join(ROOT, "build", "libspirerook.a"))
+
+
+def exported(path):
+    """The names of functions that an archive or shared object gives to others."""
+    flags = ["-D"] if path.endswith(".so") else []
+    told = subprocess.run(["nm", "--defined-only", "-g", *flags, path], check=True,
+                          stdout=subprocess.PIPE).stdout.decode("ascii", "replace")
+    return {words[2] for words in map(str.split, told.splitlines())
+            if len(words) == 3 and words[1] in "TtWi"}
 
 
 def build_library_driver(tally, name="read", driver=READ_DRIVER):
@@ -47,14 +82,17 @@ def build_library_driver(tally, name="read", driver=READ_DRIVER):
     Only while crates.txt lists no crate of the library may its archive be
     missing: then the tests run on the reference alone, and say so.
     """
-    archive = os.environ.get("LIBRARY") or os.path.join(ROOT, "build", "libspirerook.a")
-    if os.path.exists(archive):
-        return build("library_" + name, parts=driver + (os.path.abspath(archive),))
-    if os.environ.get("LIBRARY") or library_is_listed():
-        tally.check(False, "no %s: make it first" % os.path.relpath(archive, ROOT))
-    else:
-        print("the library is not tried: crates.txt lists no crate 'spirerook' yet")
-    return None
+    call, path = "spirerook_" + name.split("_")[0], archive()
+    if not os.path.exists(path):
+        if os.environ.get("LIBRARY") or library_is_listed():
+            tally.check(False, "no %s: make it first" % os.path.relpath(path, ROOT))
+        else:
+            print("the library is not tried: crates.txt lists no crate 'spirerook' yet")
+        return None
+    if call not in exported(path):
+        tally.check(False, "%s exports no %s" % (os.path.relpath(path, ROOT), call))
+        return None
+    return build("library_" + name, parts=driver + (path,))
 
 
 def ended(program, octets, words):
@@ -135,6 +173,17 @@ def line_words(sheet, planes, samples, room, stripe, line):
 def line_many(program, cases):
     """The answer and the line to each (sheet, planes, samples, room, stripe, line)."""
     words = b"".join(line_words(*case) for case in cases)
+    return answers_many(program, words, len(cases))
+
+
+def data_words(sheet, page, pencil, stripe, layer):
+    """A call as the driver of coded data reads it."""
+    return (numbers(len(sheet), len(page), len(pencil), stripe, layer) + sheet + page + pencil)
+
+
+def data_many(program, cases):
+    """The answer and the part to each (sheet, page, pencil, stripe, layer)."""
+    words = b"".join(data_words(*case) for case in cases)
     return answers_many(program, words, len(cases))
 
 

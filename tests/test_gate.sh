@@ -61,6 +61,8 @@ fresh; sed -i 's/{ puts/{ int unused; puts/' tests/test_c.c; gate 'a warning of 
 fresh; rm tests/test_*; gate 'no host test' 0 '4 passed, 0 failed'
 fresh; echo '3 passed, 1 failed' >>stub/ci; echo 1 >stub/ci.status; gate 'an unproved crate' 1 '3 passed, 1 failed'; said 'host tests are not run'
 fresh; echo '3 passed, 1 failed' >>stub/ci; echo 1 >stub/ci.status; rm target/must-fail/one/a/.log; gate 'an edit not tried since its crate is unproved' 1 '3 passed, 1 failed'
+fresh; echo 'print("9 passed, 0 failed")' >tests/test_boundary.py; gate 'the test that gathers counts' 0 '19 passed, 0 failed'
+check "it runs once, and last" [ "$(grep '^the step' out | cut -d: -f1 | tr '\n' ';')" = 'the step rt ci;the step tests/test_p.py;the step tests/test_s.sh;the step tests/test_c.c;the step tests/test_boundary.py;' ]
 fresh; echo 1 >stub/ci.status; gate 'rt ends badly' 1 '4 passed, 1 failed'
 fresh; echo 'rt: broken' >stub/ci; echo 2 >stub/ci.status; gate 'rt without tally' 1 '0 passed, 1 failed'
 fresh; echo 1 >stub/fmt.status; gate 'bad layout' 1 '10 passed, 1 failed'; said 'FAILED rt fmt --check: badly laid out'

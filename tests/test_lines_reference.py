@@ -5,12 +5,12 @@ them: the same answer, and the same line octet for octet.
 SEED makes a run again; LIBRARY names another archive than build/libspirerook.a.
 """
 
-import collections
 import copy
 import os
 import random
 import sys
 
+import counts
 import line_making
 import line_random
 import reference_run
@@ -51,13 +51,13 @@ class Composer:
     def __init__(self, tally, library, name, flags):
         self.tally, self.library = tally, library
         self.reference = reference_run.build(name, flags=flags, parts=reference_run.LINE)
-        self.compared, self.numbers = 0, collections.Counter()
+        self.compared, self.counts = 0, counts.Counts()
 
     def answers(self, told, calls):
         """What the reference answers to each call, which the library answers too;
         `told` names one of them by its number."""
         answers = composed(self.reference, calls)
-        self.numbers.update(number_of(answer) for answer, _ in answers)
+        self.counts.add("line", [answer for answer, _ in answers])
         if self.library is not None:
             got = composed(self.library, calls)
             wrong = [k for k in range(len(calls)) if got[k] != answers[k]]
@@ -77,11 +77,6 @@ class Composer:
             self.tally.check(got == due, "%s: %s is due, but the reference says %s%s"
                              % (told, due[0], got[0], first_difference(due, got)))
         return answers
-
-
-def number_of(answer):
-    words = answer.split()
-    return 0 if words[0] == "done" else int(words[1]) if words[0] == "refused" else -1
 
 
 def first_difference(due, got):
@@ -226,13 +221,15 @@ def main():
     check_planes(watched, rng, [rng.choice(works) for _ in range(PLANES)])
     check_sheets(watched, rng, [rng.choice(works) for _ in range(SHEETS)])
     check_all_read(tally, plain, rng, works[::2])
-    numbers = watched.numbers + plain.numbers
+    watched.counts.join(plain.counts)
+    numbers = watched.counts.calls["line"]
     print("answers: " + ", ".join("%d %d times" % each for each in sorted(numbers.items())))
     for number, least in LEAST.items():
         tally.check(numbers[number] >= least, "only %d answers %d" % (numbers[number], number))
     if library is not None:
         print("%d lines composed by the reference and by the library"
               % (watched.compared + plain.compared))
+        watched.counts.save("test_lines_reference")
     return tally.end()
 
 

@@ -10,6 +10,7 @@ import os
 import random
 import sys
 
+import counts
 import page_making
 import reference_run
 
@@ -35,7 +36,7 @@ class Reader:
         self.reference = reference_run.build("reference_read", flags=SANITIZED,
                                              parts=reference_run.READ)
         self.library = reference_run.build_library_driver(tally)
-        self.compared = 0
+        self.compared, self.counts = 0, counts.Counts()
 
     def lines(self, told, pages):
         """What the reference prints for each page, which the library prints too."""
@@ -52,6 +53,7 @@ class Reader:
             if not wrong:
                 self.tally.check(True, "")
             self.compared += len(pages)
+            self.counts.add("read", map(page_making.answer, answers))
         return answers
 
 
@@ -248,6 +250,7 @@ def main():
     check_damaged(tally, reader, random.Random(seed + 2))
     if reader.library is not None:
         print("%d pages read by the reference and by the library" % reader.compared)
+        reader.counts.save("test_pages_reference")
     return tally.end()
 
 

@@ -10,6 +10,7 @@ import os
 import random
 import sys
 
+import counts
 import page_making
 import reference_run
 import test_outside
@@ -52,7 +53,7 @@ class Writer:
     def __init__(self, tally, library, name, flags):
         self.tally, self.library = tally, library
         self.reference = reference_run.build(name, flags=flags, parts=reference_run.WRITE)
-        self.compared = 0
+        self.compared, self.counts = 0, counts.Counts()
 
     def answers(self, told, works):
         """What the reference answers to each (sheet, data, room), which the library
@@ -67,6 +68,7 @@ class Writer:
             if not wrong:
                 self.tally.check(True, "")
             self.compared += len(works)
+            self.counts.add("write", [answer for answer, _ in answers])
         return answers
 
     def check(self, works):
@@ -275,6 +277,8 @@ def main():
     if library is not None:
         print("%d sheets written by the reference and by the library"
               % (watched.compared + plain.compared))
+        watched.counts.join(plain.counts)
+        watched.counts.save("test_writes_reference")
     return tally.end()
 
 

@@ -109,16 +109,5 @@ static bool line_many(const uint8_t *input, size_t octets)
 
 int main(int arguments, char **words)
 {
-    size_t octets;
-    if (arguments != 2 || strcmp(words[1], "many") != 0) {
-        fputs("use: line_far many\n", stderr);
-        return EXIT_FAILURE;
-    }
-    uint8_t *input = read_standard_input(&octets);
-    if (input == NULL) {
-        return EXIT_FAILURE;
-    }
-    bool done = line_many(input, octets);
-    free(input);
-    return done ? EXIT_SUCCESS : EXIT_FAILURE;
+    return run_many(arguments, words, "line_far", line_many);
 }

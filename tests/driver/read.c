@@ -194,21 +194,28 @@ static bool read_many(const uint8_t *input, size_t octets)
     return at == octets;
 }
 
-int main(int arguments, char **words)
+/* A page of standard input, by itself. */
+static bool read_alone(const char *room)
 {
     size_t octets;
     uint8_t *input = read_standard_input(&octets);
-    if (input == NULL) {
+    bool done = input != NULL &&
+                read_one(input, octets,
+                         room == NULL ? LARGEST_SHEET : strtoul(room, NULL, 10));
+    free(input);
+    return done;
+}
+
+int main(int arguments, char **words)
+{
+    const char *word = arguments > 1 ? words[1] : NULL;
+    if (word != NULL && strcmp(word, "many") == 0) {
+        return run_many(arguments, words, "read", read_many);
+    }
+    if (arguments > 2 || (word != NULL && (*word == '\0' ||
+                          word[strspn(word, "0123456789")] != '\0'))) {
+        fputs("use: read [ROOM | many]\n", stderr);
         return EXIT_FAILURE;
     }
-    bool done;
-    if (arguments > 1 && strcmp(words[1], "many") == 0) {
-        done = read_many(input, octets);
-    } else if (arguments > 1) {
-        done = read_one(input, octets, strtoul(words[1], NULL, 10));
-    } else {
-        done = read_one(input, octets, LARGEST_SHEET);
-    }
-    free(input);
-    return done ? EXIT_SUCCESS : EXIT_FAILURE;
+    return read_alone(word) ? EXIT_SUCCESS : EXIT_FAILURE;
 }

@@ -19,7 +19,6 @@
 
 #include <stdbool.h>
 #include <stdio.h>
-#include <stdlib.h>
 #include <string.h>
 
 enum { GUARD = 64 /* octets beside the buffer that are looked at */ };
@@ -206,16 +205,5 @@ static bool write_many(const uint8_t *input, size_t octets)
 
 int main(int arguments, char **words)
 {
-    size_t octets;
-    if (arguments != 2 || strcmp(words[1], "many") != 0) {
-        fputs("use: write many\n", stderr);
-        return EXIT_FAILURE;
-    }
-    uint8_t *input = read_standard_input(&octets);
-    if (input == NULL) {
-        return EXIT_FAILURE;
-    }
-    bool done = write_many(input, octets);
-    free(input);
-    return done ? EXIT_SUCCESS : EXIT_FAILURE;
+    return run_many(arguments, words, "write", write_many);
 }

@@ -1,4 +1,5 @@
 /* The reference behind the library's header, so that one driver serves both. */
+#include "data.h"
 #include "line.h"
 #include "page.h"
 #include "spirerook.h"
@@ -35,4 +36,20 @@ spirerook_answer spirerook_line(const uint8_t *sheet, size_t sheet_len,
     struct reference_answer composed = reference_line(&call, out, out_len);
     spirerook_answer shown = {composed.number, composed.place, composed.count};
     return shown;
+}
+
+/* Only the lengths of the page and of the pencil file matter to the paper. */
+spirerook_part spirerook_data(const uint8_t *sheet, size_t sheet_len,
+                              const uint8_t *page, size_t page_len,
+                              const uint8_t *pencil, size_t pencil_len,
+                              uint32_t stripe, uint32_t layer)
+{
+    (void)page;
+    (void)pencil;
+    const struct reference_data_call call = {sheet, sheet_len, page_len,
+                                             pencil_len, stripe, layer};
+    struct reference_part found = reference_data(&call);
+    spirerook_part handed = {found.answer.number, found.answer.place,
+                             found.answer.count, found.source, found.start};
+    return handed;
 }

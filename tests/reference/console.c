@@ -3,6 +3,7 @@
 #include <inttypes.h>
 #include <stdio.h>
 #include <stdlib.h>
+#include <string.h>
 
 uint8_t *read_standard_input(size_t *octets)
 {
@@ -30,6 +31,27 @@ uint8_t *read_standard_input(size_t *octets)
         return NULL;
     }
     return input;
+}
+
+int run_many(int arguments, char **words, const char *name,
+             bool (*many)(const uint8_t *input, size_t octets))
+{
+    size_t octets;
+    if (arguments != 2 || strcmp(words[1], "many") != 0) {
+        fprintf(stderr, "use: %s many\n", name);
+        return EXIT_FAILURE;
+    }
+    uint8_t *input = read_standard_input(&octets);
+    if (input == NULL) {
+        return EXIT_FAILURE;
+    }
+    bool done = many(input, octets);
+    if (!done) {
+        fprintf(stderr, "%s: the calls end in their midst, or memory lacks\n",
+                name);
+    }
+    free(input);
+    return done ? EXIT_SUCCESS : EXIT_FAILURE;
 }
 
 /* "stripe, layer, coder, x, y, width, height, resolution, three base octets,

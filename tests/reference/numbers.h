@@ -1,4 +1,4 @@
-/* "Numbers that a call returns", those that reading, writing or a line can give;
+/* "Numbers that a call returns", those that a call can give;
  * DONE and BAD_SHEET stand in sheet.h. */
 #ifndef REFERENCE_NUMBERS_H
 #define REFERENCE_NUMBERS_H

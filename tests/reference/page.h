@@ -16,8 +16,9 @@ enum {
 };
 
 /* A number of the paper's table with its place and the records (reading) or
- * octets (writing, lines) written.  "Done has place 0 and returns the records or
- * octets written ...; a refusal returns 0 of them." */
+ * octets (writing, lines) written, or those of a part.  "Done has place 0 and
+ * returns the records or octets written, or the length of the part handed out;
+ * a refusal returns 0 of them." */
 struct reference_answer {
     unsigned number, place;
     unsigned long long count;

@@ -1,0 +1,176 @@
+"""include/spirerook.h: clean for C11, C17 and C++17; its numbers, bounds, readers and makers;
+and its calls, which are those that the archive and the shared object export.
+
+The numbers and bounds due are held here, copied from the paper.
+"""
+
+import os
+import random
+import re
+import subprocess
+import sys
+
+import counts
+import reference_run
+import sheet_random
+from sheet_making import record
+from write_random import record_row
+
+HEADER = os.path.join(reference_run.HEADERS, "spirerook.h")
+STRICT = ["-Wall", "-Wextra", "-Wpedantic", "-Wconversion", "-Wshadow", "-Werror"]
+COMPILERS = [("cc", "c", "c11"), ("cc", "c", "c17"), ("c++", "c++", "c++17"),
+             ("clang", "c", "c11"), ("clang++", "c++", "c++17")]
+NEEDED = ("cc", "c++")      # the others are tried where they are there
+BOUNDS = {"RECORD_OCTETS": 28, "STRIPES": 64, "LAYERS": 15, "RECORDS": 960,
+          "PAGE_SHEET_OCTETS": 5376, "SHEET_OCTETS": 26880, "PAGE_OCTETS": 16777215,
+          "WIDTH": 32768, "HEIGHT": 65535, "PLANE_OCTETS": 5, "PIXEL_OCTETS": 4,
+          "LINE_OCTETS": 131072}
+# facts of the paper that a number's sentence has to carry
+FACTS = {1: ["field", "coded data"], 2: ["marker", "ident"], 3: ["length", "segment"],
+         4: ["version", "0"], 5: ["mode", "1", "3"], 6: ["coder"], 7: ["resolution", "divide"],
+         8: ["width", "32768"], 9: ["stripe", "coder"], 10: ["height", "offset", "mask", "64"],
+         11: ["JPEG"], 12: ["zero", "end"], 13: ["buffer"], 14: ["sheet"],
+         15: ["plane", "coded", "order", "samples"], 16: ["record", "mask"],
+         17: ["stripe", "line", "layer"], 18: ["page", "16777215"]}
+RECORDS = 300
+
+
+def has(command):
+    return subprocess.run(["sh", "-c", 'command -v "$0"', command], check=False,
+                          stdout=subprocess.DEVNULL).returncode == 0
+
+
+def compiled(tally, compiler, language, standard):
+    """The program of tests/driver/header.c, or None."""
+    program = os.path.join(reference_run.ROOT, "build", "header_%s_%s" % (compiler, standard))
+    done = subprocess.run([compiler, "-std=" + standard, *STRICT, "-O2", "-x", language,
+                           "-I", reference_run.HEADERS, os.path.join(reference_run.DRIVER, "header.c"),
+                           "-o", program], check=False, stderr=subprocess.PIPE)
+    tally.check(done.returncode == 0 and not done.stderr, "%s -std=%s: %s" % (
+        compiler, standard, done.stderr.decode("utf-8", "replace")[:600]))
+    return program if done.returncode == 0 else None
+
+
+def check_alone(tally):
+    """The header asks for nothing before it, twice is once, and nothing of it is unused."""
+    for compiler, language, standard in COMPILERS:
+        if not has(compiler):
+            continue
+        done = subprocess.run(
+            [compiler, "-std=" + standard, *STRICT, "-fsyntax-only", "-I", reference_run.HEADERS,
+             "-x", language, "-"], input=b'#include "spirerook.h"\n#include "spirerook.h"\n'
+            b"extern int only;\n", check=False, stderr=subprocess.PIPE)
+        tally.check(done.returncode == 0 and not done.stderr,
+                    "%s -std=%s, the header alone: %s" % (compiler, standard, done.stderr[:600]))
+
+
+def check_numbers(tally, program):
+    lines = reference_run.run(program, b"", "numbers")[0].splitlines()
+    texts = {}
+    for number, name in enumerate(counts.NAMES):
+        found = re.fullmatch(r"%d %s: (.+)" % (number, name), lines[number])
+        tally.check(found is not None, "%d is not %s: %s" % (number, name, lines[number]))
+        texts[number] = found[1] if found else ""
+    tally.check(lines[19:] == ["%d unknown: no call gives this number" % k for k in (19, 20)],
+                "numbers above 18: %s" % lines[19:])
+    tally.check(len(set(texts.values())) == 19, "two numbers tell the same")
+    for number, words in FACTS.items():
+        missing = [word for word in words if word not in texts[number]]
+        tally.check(not missing, "%d tells nothing of %s: %s" % (number, missing, texts[number]))
+    for text in texts.values():
+        tally.check(not text.endswith(".") and (text[0].islower() or text.startswith("JPEG")),
+                    "not a phrase: %s" % text)
+
+
+def check_bounds(tally, program):
+    lines = reference_run.run(program, b"", "bounds")[0].splitlines()
+    got = {name: int(value) for value, name in map(str.split, lines)}
+    tally.check(got == BOUNDS, "bounds: %s" % (set(got.items()) ^ set(BOUNDS.items())))
+
+
+def check_records(tally, program, rng):
+    """Each field from its own octets, and back."""
+    sheet = b"".join(bytes(record(
+        rng.randrange(65536), rng.randrange(256), rng.randrange(256), *(
+            rng.randrange(65536) for _ in range(5)), [rng.randrange(256) for _ in range(3)],
+        rng.randrange(2 ** 32), rng.choice([0, rng.randrange(2 ** 32)]))) for _ in range(RECORDS))
+    lines = reference_run.run(program, sheet, "records")[0].splitlines()
+    tally.check(len(lines) == 2 * RECORDS, "%d lines of records" % len(lines))
+    for k in range(RECORDS):
+        row = record_row(sheet, k)
+        coded, mask = int(row[12] != 0), int(row[1] % 2 == 0)
+        samples = coded * row[5] * row[6] * (1 if mask else 3)
+        due = " ".join(map(str, [*row, coded, mask, samples]))
+        tally.check(lines[2 * k] == due, "record %d: %s is due, not %s" % (k, due, lines[2 * k]))
+        tally.check(lines[2 * k + 1] == sheet[28 * k:28 * k + 28].hex(),
+                    "record %d made again: %s" % (k, lines[2 * k + 1]))
+    dirty = bytearray(sheet_random.good_sheet(rng, stripes=1, layers=3))
+    dirty[17], dirty[26], dirty[27] = 1, 2, 3
+    made = reference_run.run(program, bytes(dirty), "records")[0].splitlines()[1]
+    tally.check(made[34:36] == "00" and made[52:] == "0000", "zeros of a record: %s" % made)
+
+
+def check_planes(tally, program):
+    entries = [(1, 0), (15, 2 ** 32 - 1), (2, 0x01020304), (255, 0x80000000), (10, 65536)]
+    words = "".join("%d %d\n" % each for each in entries)
+    lines = reference_run.run(program, words.encode(), "planes")[0].splitlines()
+    due = ["%02x%08x" % each for each in entries]
+    tally.check(lines == due, "plane entries %s, not %s" % (lines, due))
+
+
+def declared():
+    """(name, the comment before it) of each function that the header only declares."""
+    with open(HEADER, encoding="ascii") as file:
+        text = file.read()
+    calls = re.compile(r"/\*((?:(?!\*/).)*)\*/\n(?:spirerook_\w+) (spirerook_\w+)\([^;{]*\);", re.S)
+    return {found[2]: found[1] for found in calls.finditer(text)}, text
+
+
+def check_calls(tally):
+    """Every declared call is exported and none else; its comment names its numbers."""
+    calls, text = declared()
+    plain = re.sub(r"/\*.*?\*/", "", text, flags=re.S)
+    tally.check(set(calls) == set(re.findall(r"^spirerook_\w+ (spirerook_\w+)\(", plain, re.M)),
+                "a call without a comment")
+    tally.check(set(calls) == {"spirerook_" + call for call in counts.GIVEN}, "calls: %s" % calls)
+    for call, numbers in counts.GIVEN.items():
+        told = calls.get("spirerook_" + call, "")
+        named = {k for k, name in enumerate(counts.NAMES) if re.search(r"\b%s\b" % name, told)}
+        tally.check(named == set(numbers), "spirerook_%s: its comment differs from what it gives: %s"
+                    % (call, sorted(named ^ set(numbers))))
+    shared = os.path.join(reference_run.ROOT, "build", "libspirerook.so")
+    for path in (reference_run.archive(), shared):
+        if not os.path.exists(path):
+            tally.check(False, "no %s: make it first" % os.path.relpath(path, reference_run.ROOT))
+            continue
+        names = reference_run.exported(path)
+        tally.check(names == set(calls), "%s and the header differ in %s"
+                    % (os.path.basename(path), sorted(names ^ set(calls))))
+
+
+def check_misuse(tally, program):
+    done = subprocess.run([program, "else"], check=False, stderr=subprocess.PIPE)
+    tally.check(done.returncode == 1 and done.stderr.startswith(b"use: "), "no message to misuse")
+
+
+def main():
+    seed = int(os.environ.get("SEED") or random.randrange(2 ** 32))
+    print("SEED=%d" % seed)
+    tally = reference_run.Tally()
+    check_alone(tally)
+    for compiler, language, standard in COMPILERS:
+        if compiler not in NEEDED and not has(compiler):
+            continue
+        program = compiled(tally, compiler, language, standard)
+        if program is not None:
+            check_numbers(tally, program)
+            check_bounds(tally, program)
+            check_records(tally, program, random.Random(seed))
+            check_planes(tally, program)
+            check_misuse(tally, program)
+    check_calls(tally)
+    return tally.end()
+
+
+if __name__ == "__main__":
+    sys.exit(main())
