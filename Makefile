@@ -8,6 +8,11 @@ PREFIX = /usr/local
 LIBDIR = $(PREFIX)/lib
 INCLUDEDIR = $(PREFIX)/include
 
+# the programs over the library: host/NAME.c each
+VIEW = colour file
+MAKE_PAGE = colour file
+HOST_C = cc -std=c11 -D_DEFAULT_SOURCE -Wall -Wextra -Werror -O2 -Iinclude
+
 # the library for C, both ways
 all: build/libspirerook.a build/libspirerook.so
 
@@ -51,6 +56,17 @@ build/libspirerook.so: build/libspirerook.a
 	cc -shared -fPIC -o $@ -Wl,-soname,libspirerook.so.$(MAJOR) -Wl,--no-undefined -Wl,-z,text -Wl,-z,noexecstack \
 		-Wl,--whole-archive build/libspirerook.a -Wl,--no-whole-archive
 	ln -sf libspirerook.so $@.$(MAJOR)
+
+build/host/%.o: host/%.c $(wildcard host/*.h) include/spirerook.h
+	@bash tests/need cc:gcc stdio.h:libc6-dev jpeglib.h:libjpeg62-turbo-dev tiffio.h:libtiff-dev jbig85.h:libjbig-dev png.h:libpng-dev
+	@mkdir -p build/host
+	$(HOST_C) -c -o $@ $<
+
+build/spirerook-view: $(VIEW:%=build/host/%.o) build/libspirerook.a
+	cc -o $@ $^ -ltiff -ljbig -ljpeg -lpng -lm
+
+build/spirerook-make: $(MAKE_PAGE:%=build/host/%.o) build/libspirerook.a
+	cc -o $@ $^ -ltiff -ljbig -ljpeg -lpng -lm
 
 install: all
 	@case "$(LIBDIR):$(INCLUDEDIR)" in /*:/*) ;; *) echo "install: PREFIX must be an absolute path, not '$(PREFIX)'" >&2; exit 1 ;; esac
