@@ -9,7 +9,7 @@ LIBDIR = $(PREFIX)/lib
 INCLUDEDIR = $(PREFIX)/include
 
 # the programs over the library: host/NAME.c each
-VIEW = colour file
+VIEW = view options book layers decode decode_fax decode_t85 decode_jpeg picture screen colour file
 MAKE_PAGE = colour file
 HOST_C = cc -std=c11 -D_DEFAULT_SOURCE -Wall -Wextra -Werror -O2 -Iinclude
 
