@@ -58,12 +58,12 @@ build/libspirerook.so: build/libspirerook.a
 	ln -sf libspirerook.so $@.$(MAJOR)
 
 build/host/%.o: host/%.c $(wildcard host/*.h) include/spirerook.h
-	@bash tests/need cc:gcc stdio.h:libc6-dev jpeglib.h:libjpeg62-turbo-dev tiffio.h:libtiff-dev jbig85.h:libjbig-dev png.h:libpng-dev
+	@bash tests/need cc:gcc stdio.h:libc6-dev jpeglib.h:libjpeg62-turbo-dev tiffio.h:libtiff-dev jbig85.h:libjbig-dev png.h:libpng-dev zlib.h:zlib1g-dev
 	@mkdir -p build/host
 	$(HOST_C) -c -o $@ $<
 
 build/spirerook-view: $(VIEW:%=build/host/%.o) build/libspirerook.a
-	cc -o $@ $^ -ltiff -ljbig -ljpeg -lpng -lm
+	cc -o $@ $^ -ltiff -ljbig -ljpeg -lz -lm
 
 build/spirerook-make: $(MAKE_PAGE:%=build/host/%.o) build/libspirerook.a
 	cc -o $@ $^ -ltiff -ljbig -ljpeg -lpng -lm

@@ -4,7 +4,7 @@
 #include <string.h>
 
 static const char usage[] =
-    "usage: spirerook-view PAGE [--pencil SHEET FILE] [-o OUT.png] [--list] [--unread STRIPE:LAYER ..] [--stripe N] [--memory SIZE]\n";
+    "usage: spirerook-view PAGE [--pencil SHEET FILE] [-o OUT.png] [--list] [--unread STRIPE:LAYER ..] [--stripe N] [--memory SIZE] [--times]\n";
 
 static const char help[] =
     "Shows a mixed raster page (ITU-T T.44, Mode 1) as a PNG at the page's resolution.\n"
@@ -15,6 +15,7 @@ static const char help[] =
     "  --unread STRIPE:LAYER .. shows the page as if these layers could not be read\n"
     "  --stripe N               shows this stripe only; stripes count from 0, layers from 1\n"
     "  --memory SIZE            for the samples of a stripe, as 512M or 2G (1G if not given)\n"
+    "  --times                  tells how long the parts of the work took\n"
     "  --help, --version\n"
     "\n"
     "Exit status: 0 shown whole, 3 shown with unseen pixels, 1 refused, 2 bad option.\n";
@@ -80,12 +81,14 @@ static int take_option(char **words, int left, options *asked)
 {
     const char *option = words[0];
     uint64_t number;
-    int arguments = strcmp(option, "--pencil") == 0 ? 2 : strcmp(option, "--list") == 0 ? 0 : 1;
+    int arguments = strcmp(option, "--pencil") == 0 ? 2 : strcmp(option, "--list") == 0 || strcmp(option, "--times") == 0 ? 0 : 1;
     if (left <= arguments) {
         return bad("the option lacks what it is about", option), 0;
     }
     if (strcmp(option, "--list") == 0) {
         asked->list = true;
+    } else if (strcmp(option, "--times") == 0) {
+        asked->times = true;
     } else if (strcmp(option, "-o") == 0) {
         asked->out = words[1];
     } else if (strcmp(option, "--pencil") == 0) {
@@ -108,7 +111,7 @@ static int take_option(char **words, int left, options *asked)
 
 static bool is_option(const char *word)
 {
-    static const char *const known[] = {"-o", "--pencil", "--list", "--unread", "--stripe", "--memory"};
+    static const char *const known[] = {"-o", "--pencil", "--list", "--unread", "--stripe", "--memory", "--times"};
     for (size_t k = 0; k < sizeof known / sizeof *known; k++) {
         if (strcmp(word, known[k]) == 0) {
             return true;

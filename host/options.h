@@ -13,7 +13,7 @@ enum { STATUS_WHOLE = 0, STATUS_REFUSED = 1, STATUS_BAD_OPTION = 2, STATUS_UNSEE
 
 typedef struct {
     const char *page, *pencil_sheet, *pencil_file, *out; /* null where not given */
-    bool list;
+    bool list, times;
     bool unread[SPIREROOK_STRIPES][SPIREROOK_LAYERS + 1];
     bool one_stripe;
     uint32_t stripe;

@@ -18,11 +18,13 @@ typedef struct {
     size_t from, to; /* stripes */
     uint32_t width, height;
     double began, decoders_left, told;
+    double decoding, composing, colouring, writing; /* seconds spent so far */
     uint64_t unseen;
     uint32_t y, composed; /* rows done, and those of them that were composed in time */
     picture *picture;     /* null where none is asked for */
     screen *colours;
-    uint8_t *line, *row;
+    uint8_t *line, *before, *row; /* a line, the one before it, and the row that is shown */
+    size_t line_unseen;
 } run;
 
 static bool set_up(run *r, const options *asked, const book *opened)
@@ -38,8 +40,9 @@ static bool set_up(run *r, const options *asked, const book *opened)
     }
     r->colours = calloc(1, sizeof *r->colours);
     r->line = malloc((size_t)r->width * SPIREROOK_PIXEL_OCTETS);
+    r->before = calloc(r->width, SPIREROOK_PIXEL_OCTETS);
     r->row = malloc((size_t)r->width * 3);
-    return r->colours != NULL && r->line != NULL && r->row != NULL;
+    return r->colours != NULL && r->line != NULL && r->before != NULL && r->row != NULL;
 }
 
 static void clear_away(run *r)
@@ -49,6 +52,7 @@ static void clear_away(run *r)
     }
     free(r->colours);
     free(r->line);
+    free(r->before);
     free(r->row);
 }
 
@@ -70,34 +74,66 @@ static void end_progress(run *r)
     }
 }
 
+/* A line like the one before it makes the same row, but for the squares of unseen pixels, which change with the rows. */
+static void colour_line(run *r)
+{
+    bool like = r->y > 0 && memcmp(r->line, r->before, (size_t)r->width * SPIREROOK_PIXEL_OCTETS) == 0;
+    if (!like || (r->line_unseen > 0 && r->y % SQUARE == 0)) {
+        uint8_t *line = r->line;
+        r->line_unseen = row_of_line(r->colours, line, r->width, r->y, r->row);
+        r->line = r->before;
+        r->before = line;
+    }
+    r->unseen += r->line_unseen;
+}
+
+static bool compose_line(run *r, const stripe_layers *read, size_t stripe, uint32_t line)
+{
+    const book *b = r->opened;
+    spirerook_answer done = spirerook_line(b->sheet, b->sheet_octets, read->planes, read->planes_octets, read->samples, read->octets, (uint32_t)stripe,
+                                           line, r->line, (size_t)r->width * SPIREROOK_PIXEL_OCTETS);
+    if (done.number != SPIREROOK_DONE) {
+        end_progress(r);
+        fprintf(stderr, "%s: stripe %zu, line %u: refused: %s (%u) at %u\n", r->asked->page, stripe, (unsigned)line, spirerook_name(done.number),
+                (unsigned)done.number, (unsigned)done.place);
+    }
+    return done.number == SPIREROOK_DONE;
+}
+
 /* A row of the picture: the line composed and coloured or, when time is up, all unseen. */
 static bool show_line(run *r, const stripe_layers *read, size_t stripe, uint32_t line)
 {
-    if (r->composed == r->y && seconds_now() - r->began < COMPOSING_SECONDS) {
-        const book *b = r->opened;
-        spirerook_answer done = spirerook_line(b->sheet, b->sheet_octets, read->planes, read->planes_octets, read->samples, read->octets,
-                                               (uint32_t)stripe, line, r->line, (size_t)r->width * SPIREROOK_PIXEL_OCTETS);
-        if (done.number != SPIREROOK_DONE) {
-            end_progress(r);
-            fprintf(stderr, "%s: stripe %zu, line %u: refused: %s (%u) at %u\n", r->asked->page, stripe, (unsigned)line, spirerook_name(done.number),
-                    (unsigned)done.number, (unsigned)done.place);
+    double began = seconds_now(), composed = began;
+    if (r->composed == r->y && began - r->began < COMPOSING_SECONDS) {
+        if (!compose_line(r, read, stripe, line)) {
             return false;
         }
-        r->unseen += row_of_line(r->colours, r->line, r->width, r->y, r->row);
+        composed = seconds_now();
+        colour_line(r);
         r->composed++;
     } else {
-        unseen_row(r->width, r->y, r->row);
+        if (r->y == r->composed || r->y % SQUARE == 0) {
+            unseen_row(r->width, r->y, r->row);
+        }
         r->unseen += r->width;
     }
+    double coloured = seconds_now();
+    bool good = r->picture == NULL || put_row(r->picture, r->row);
     r->y++;
-    return r->picture == NULL || put_row(r->picture, r->row);
+    r->composing += composed - began;
+    r->colouring += coloured - composed;
+    r->writing += seconds_now() - coloured;
+    return good;
 }
 
 static bool show_stripe(run *r, size_t stripe)
 {
     stripe_layers read;
     uint32_t height = spirerook_record_height(mask_of_stripe(r->opened, stripe));
+    double began = seconds_now(), left = r->began + COMPOSING_SECONDS - began;
+    r->decoders_left = r->decoders_left < left ? r->decoders_left : left;
     read_layers(r->asked, r->opened, stripe, &r->decoders_left, &read);
+    r->decoding += seconds_now() - began;
     end_progress(r);
     tell_layers(r->asked, r->opened, stripe, &read);
     bool good = true;
@@ -124,6 +160,13 @@ static void tell_page(const run *r)
     } else {
         printf("%" PRIu64 " of %" PRIu64 " unseen\n", r->unseen, pixels);
     }
+}
+
+static void tell_times(const run *r, double began)
+{
+    double all = seconds_now() - began;
+    printf("%.3f s: decoding %.3f, composing %.3f, colour %.3f, PNG %.3f, all else %.3f\n", all, r->decoding, r->composing, r->colouring, r->writing,
+           all - r->decoding - r->composing - r->colouring - r->writing);
 }
 
 static int cannot_write(const char *name, const char *why)
@@ -170,7 +213,7 @@ static int show_into_file(run *r)
     return why == NULL ? STATUS_WHOLE : cannot_write(r->asked->out, why);
 }
 
-static int show(const options *asked, const book *opened)
+static int show(const options *asked, const book *opened, double began)
 {
     run r;
     int status = STATUS_REFUSED;
@@ -183,6 +226,9 @@ static int show(const options *asked, const book *opened)
     }
     if (status == STATUS_WHOLE) {
         tell_page(&r);
+        if (asked->times) {
+            tell_times(&r, began);
+        }
         printf(asked->out == NULL ? "no picture was asked for (-o OUT.png)\n" : "%s: written\n", asked->out);
         status = r.unseen == 0 ? STATUS_WHOLE : STATUS_UNSEEN;
     }
@@ -227,6 +273,7 @@ static int check_choices(const options *asked, const book *opened)
 
 static int view(const options *asked, book *opened)
 {
+    double began = seconds_now();
     int status = open_book(asked, opened);
     if (status == STATUS_WHOLE) {
         status = check_choices(asked, opened);
@@ -238,7 +285,7 @@ static int view(const options *asked, book *opened)
             }
         }
     } else if (status == STATUS_WHOLE) {
-        status = show(asked, opened);
+        status = show(asked, opened, began);
     }
     close_book(opened);
     return status;
