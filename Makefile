@@ -10,7 +10,8 @@ INCLUDEDIR = $(PREFIX)/include
 
 # the programs over the library: host/NAME.c each
 VIEW = $(addprefix view/,view options book layers decode decode_fax decode_t85 decode_jpeg picture screen) colour file
-MAKE_PAGE = colour file
+MAKE_PAGE = $(addprefix make/,make plan plan_layer plan_words picture_in picture_png picture_pnm to_lab code_fax code_t85 code_jpeg layers sheets outputs octets trouble) \
+	colour file
 HOST_C = cc -std=c11 -D_DEFAULT_SOURCE -Wall -Wextra -Werror -O2 -Iinclude -Ihost
 
 # the library for C, both ways
