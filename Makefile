@@ -9,9 +9,10 @@ LIBDIR = $(PREFIX)/lib
 INCLUDEDIR = $(PREFIX)/include
 
 # the programs over the library: host/NAME.c each
-VIEW = view options book layers decode decode_fax decode_t85 decode_jpeg picture screen colour file
-MAKE_PAGE = colour file
-HOST_C = cc -std=c11 -D_DEFAULT_SOURCE -Wall -Wextra -Werror -O2 -Iinclude
+VIEW = $(addprefix view/,view options book layers decode decode_fax decode_t85 decode_jpeg picture screen) colour file
+MAKE_PAGE = $(addprefix make/,make plan plan_layer plan_words picture_in picture_png picture_pnm to_lab code_fax code_t85 code_jpeg layers sheets outputs octets trouble) \
+	colour file
+HOST_C = cc -std=c11 -D_DEFAULT_SOURCE -Wall -Wextra -Werror -O2 -Iinclude -Ihost
 
 # the library for C, both ways
 all: build/libspirerook.a build/libspirerook.so
@@ -57,9 +58,9 @@ build/libspirerook.so: build/libspirerook.a
 		-Wl,--whole-archive build/libspirerook.a -Wl,--no-whole-archive
 	ln -sf libspirerook.so $@.$(MAJOR)
 
-build/host/%.o: host/%.c $(wildcard host/*.h) include/spirerook.h
+build/host/%.o: host/%.c $(wildcard host/*.h host/*/*.h) include/spirerook.h
 	@bash tests/need cc:gcc stdio.h:libc6-dev jpeglib.h:libjpeg62-turbo-dev tiffio.h:libtiff-dev jbig85.h:libjbig-dev png.h:libpng-dev zlib.h:zlib1g-dev
-	@mkdir -p build/host
+	@mkdir -p $(@D)
 	$(HOST_C) -c -o $@ $<
 
 build/spirerook-view: $(VIEW:%=build/host/%.o) build/libspirerook.a

@@ -4,22 +4,23 @@
 
 #include "colour.h"
 
-/* Squares of two colours, neither of which a seen pixel ever has (see below): not one pixel of the pattern can be taken for ink. */
-static const uint8_t squares[2][3] = {{255, 0, 255}, {0, 255, 0}};
+/* Green squares on magenta: neither is a colour that a seen pixel ever has (see below), so not one pixel of the pattern can be taken for ink.  Green has a
+ * quarter of the area: half of each would look grey from afar. */
+static const uint8_t magenta[3] = {255, 0, 255}, green[3] = {0, 255, 0};
 
-static const uint8_t *square_at(size_t x, uint32_t y)
+static const uint8_t *pattern_at(size_t x, uint32_t y)
 {
-    return squares[(x / SQUARE + y / SQUARE) % 2];
+    return x / SQUARE % 2 == 1 && y / SQUARE % 2 == 1 ? green : magenta;
 }
 
-/* A seen colour that would come out as one of the pattern's is shown one step darker in a component that is full there. */
+/* A seen colour that would come out as one of the pattern's is shown a step darker. */
 static void shown_colour(const uint8_t *lab, uint8_t *srgb)
 {
     srgb_of_lab(lab, srgb);
-    for (int k = 0; k < 2; k++) {
-        if (memcmp(srgb, squares[k], 3) == 0) {
-            srgb[k] = 254;
-        }
+    if (memcmp(srgb, magenta, 3) == 0) {
+        srgb[0] = 254;
+    } else if (memcmp(srgb, green, 3) == 0) {
+        srgb[1] = 254;
     }
 }
 
@@ -39,7 +40,7 @@ size_t row_of_line(screen *colours, const uint8_t *line, size_t width, uint32_t 
 {
     size_t unseen = 0;
     for (size_t x = 0; x < width; x++) {
-        const uint8_t *pixel = line + 4 * x, *colour = pixel[3] == 1 ? seen_colour(colours, pixel) : square_at(x, y);
+        const uint8_t *pixel = line + 4 * x, *colour = pixel[3] == 1 ? seen_colour(colours, pixel) : pattern_at(x, y);
         unseen += pixel[3] != 1;
         row[3 * x] = colour[0];
         row[3 * x + 1] = colour[1];
@@ -51,6 +52,6 @@ size_t row_of_line(screen *colours, const uint8_t *line, size_t width, uint32_t 
 void unseen_row(size_t width, uint32_t y, uint8_t *row)
 {
     for (size_t x = 0; x < width; x++) {
-        memcpy(row + 3 * x, square_at(x, y), 3);
+        memcpy(row + 3 * x, pattern_at(x, y), 3);
     }
 }

@@ -5,8 +5,8 @@
 #include <stddef.h>
 #include <stdint.h>
 
-/* Colours met before: pages have few, images many that return.  Unseen pixels are drawn as squares of this side. */
-enum { SCREEN_COLOURS = 1 << 16, SQUARE = 8 };
+/* Colours met before: pages have few, images many that return.  The pattern of unseen pixels has squares of this side. */
+enum { SCREEN_COLOURS = 1 << 16, SQUARE = 16 };
 
 typedef struct {
     uint32_t known[SCREEN_COLOURS]; /* a line's four octets; 0 where the place is free */

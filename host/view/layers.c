@@ -122,7 +122,8 @@ static void tell_why(const options *asked, finding found, const uint8_t *record)
         case LAYER_TOO_SLOW: printf("its decoder took over %d seconds", DECODER_SECONDS); break;
         case LAYER_NO_TIME: printf("the %d seconds for decoders are used up", DECODERS_SECONDS); break;
         case LAYER_TOO_LARGE:
-            printf("its %" PRIu64 " octets of samples pass the %" PRIu64 " allowed to a stripe (--memory)", spirerook_record_samples(record), asked->memory);
+            printf("its %" PRIu64 " octets of samples, with those of lower layers, pass the %" PRIu64 " allowed to a stripe (--memory)",
+                   spirerook_record_samples(record), asked->memory);
             break;
         case LAYER_NO_ROOM: printf("there is no memory for its %" PRIu64 " octets of samples", spirerook_record_samples(record)); break;
         case LAYER_SHORT: printf("its data passes the end of the file"); break;

@@ -1,0 +1,203 @@
+/* spirerook-make: a page from pictures, as a plan says. */
+#include <signal.h>
+#include <spirerook.h>
+#include <stdio.h>
+#include <string.h>
+
+#include "layers.h"
+#include "outputs.h"
+#include "plan.h"
+#include "sheets.h"
+#include "trouble.h"
+
+static const char program[] = "spirerook-make";
+
+static const char help[] =
+    "use: spirerook-make PLAN -o PAGE [--pencil SHEET FILE]\n"
+    "     spirerook-make --help | --version\n"
+    "\n"
+    "Makes a mixed raster page (ITU-T T.44, Mode 1) from pictures in PNG and PNM, and with --pencil the FILE of the layers above 3 and the SHEET of\n"
+    "all layers.  The plan is a text, a line for each thing; # begins a comment, and names with blanks stand in double quotes:\n"
+    "\n"
+    "  resolution 400       of the page: 100, 200, 300, 400, 600 or 1200\n"
+    "  coder mmr            of the page's masks: mh, mr, mmr (the default) or t85\n"
+    "  width 2336           of the page, needed where no stripe has a mask\n"
+    "  stripe               begins a stripe; the lines of its layers follow, in any order\n"
+    "  height 700           of the stripe, needed where it has no mask\n"
+    "  background FILE|none [resolution R] [at X Y] [base RRGGBB | lab L A B] [quality Q] [progressive] [half]\n"
+    "  mask FILE|none\n"
+    "  foreground FILE|none [as background]\n"
+    "  pencil-mask FILE|none [coder C] [resolution R] [at X Y]\n"
+    "  pencil-image FILE|none [as background]      behind its pencil-mask; up to six pairs a stripe\n"
+    "\n"
+    "Dark samples of a mask are 1.  Where a layer is none its base colour counts, and nothing else.  File names are seen from the plan's folder.\n"
+    "Exit status: 0 done; 1 refused, or a file cannot be read or written; 2 a bad option.\n";
+
+typedef struct {
+    const char *plan, *page, *sheet, *pencil;   /* null where not given */
+} options;
+
+static bool bad_option(trouble *what, const char *form, const char *word)
+{
+    tell(what, form, word);
+    what->status = STATUS_BAD_OPTION;
+    return false;
+}
+
+/* An option with the word or words behind it; null words end them all. */
+static bool take_option(char ***words, options *given, trouble *what)
+{
+    const char *word = **words;
+    bool page = strcmp(word, "-o") == 0;
+    if (!page && strcmp(word, "--pencil") != 0) {
+        return bad_option(what, "unknown option '%s'; --help tells of all", word);
+    }
+    if ((page ? given->page : given->sheet) != NULL) {
+        return bad_option(what, "'%s' is given twice", word);
+    }
+    if ((*words)[1] == NULL || (!page && (*words)[2] == NULL)) {
+        return bad_option(what, page ? "'%s' needs the name of the page" : "'%s' needs the names of the sheet and of the file", word);
+    }
+    *(page ? &given->page : &given->sheet) = *++*words;
+    if (!page) {
+        given->pencil = *++*words;
+    }
+    return true;
+}
+
+static bool take_options(char **words, options *given, trouble *what)
+{
+    bool plain = false;         /* behind "--" all words are names */
+    for (; *words != NULL; words++) {
+        if (!plain && strcmp(*words, "--") == 0) {
+            plain = true;
+        } else if (!plain && **words == '-') {
+            if (!take_option(&words, given, what)) {
+                return false;
+            }
+        } else if (given->plan != NULL) {
+            return bad_option(what, "'%s' is a second plan", *words);
+        } else {
+            given->plan = *words;
+        }
+    }
+    if (given->plan == NULL) {
+        return bad_option(what, "%s", "no plan is named; --help tells how");
+    }
+    return given->page != NULL || bad_option(what, "%s", "no page is named: -o PAGE");
+}
+
+static bool is_input(const plan *from, const char *name)
+{
+    bool found = same_file(from->file, name);
+    for (unsigned k = 0; !found && k < from->stripe_count * SPIREROOK_LAYERS; k++) {
+        const char *path = from->stripes[k / SPIREROOK_LAYERS].layers[k % SPIREROOK_LAYERS].path;
+        found = path != NULL && same_file(path, name);
+    }
+    return found;
+}
+
+/* Whether the options fit each other and the plan. */
+static bool fits(const options *given, const plan *from, trouble *what)
+{
+    const char *names[] = {given->page, given->sheet, given->pencil};
+    unsigned count = given->sheet == NULL ? 1 : 3;
+    if (has_pencil(from) != (given->sheet != NULL)) {
+        return bad_option(what, given->sheet == NULL ? "%s has pencil layers: --pencil SHEET FILE must name files for them"
+                                                     : "%s has no pencil layers: --pencil has nothing to write", from->file);
+    }
+    for (unsigned k = 0; k < count; k++) {
+        if (is_input(from, names[k])) {
+            return bad_option(what, "%s is read from, and would be written over", names[k]);
+        }
+        for (unsigned before = 0; before < k; before++) {
+            if (same_place(names[before], names[k])) {
+                return bad_option(what, "%s would be written twice", names[k]);
+            }
+        }
+    }
+    return true;
+}
+
+static void list_layer(const plan_layer *layer, const spirerook_record *record)
+{
+    printf("stripe %u, layer %u: ", (unsigned)record->stripe, (unsigned)record->layer);
+    if (record->length == 0) {
+        printf("not coded\n");
+        return;
+    }
+    printf("%s, %s, %u by %u at %u, %u octets\n", layer->name, coder_name(record), (unsigned)record->width, (unsigned)record->height,
+           (unsigned)record->resolution, (unsigned)record->length);
+}
+
+static bool list_layers(const plan *from, const coded_layers *layers, trouble *what)
+{
+    for (unsigned s = 0; s < from->stripe_count; s++) {
+        for (unsigned k = 0; k < from->stripes[s].layer_count; k++) {
+            list_layer(&from->stripes[s].layers[k], &layers->records[s][k]);
+        }
+    }
+    return (fflush(stdout) == 0 && !ferror(stdout)) || tell(what, "standard output cannot be written");
+}
+
+static bool list_files(const output *outputs, unsigned count, trouble *what)
+{
+    printf("written:");
+    for (unsigned k = 0; k < count; k++) {
+        printf("%s %s, %zu octets", k == 0 ? "" : ";", outputs[k].name, outputs[k].length);
+    }
+    printf("\n");
+    return (fflush(stdout) == 0 && !ferror(stdout)) || tell(what, "standard output cannot be written");
+}
+
+/* The list of layers is printed when the files are whole but not yet in their places. */
+static bool write_all(const options *given, const plan *from, const coded_layers *layers, const made_page *page, const octet_list *sheet,
+                      trouble *what)
+{
+    output outputs[] = {{.name = given->page, .octets = page->page.octets, .length = page->page.length},
+                        {.name = given->sheet, .octets = sheet->octets, .length = sheet->length},
+                        {.name = given->pencil, .octets = layers->pencil_data.octets, .length = layers->pencil_data.length}};
+    unsigned count = given->sheet == NULL ? 1 : 3;
+    if (!begin_outputs(outputs, count, what)) {
+        return false;
+    }
+    if (!list_layers(from, layers, what)) {
+        drop_outputs(outputs, count);
+        return false;
+    }
+    return keep_outputs(outputs, count, what) && list_files(outputs, count, what);
+}
+
+static bool make(const options *given, trouble *what)
+{
+    plan *from = NULL;
+    coded_layers *layers = NULL;
+    made_page page = {.page = {NULL, 0, 0}};
+    octet_list sheet = {NULL, 0, 0};
+    bool done = read_plan(given->plan, &from, what) && fits(given, from, what) && code_layers(from, &layers, what) &&
+                make_page(from, layers, &page, what) && (given->sheet == NULL || make_pencil_sheet(from, layers, &page, &sheet, what)) &&
+                write_all(given, from, layers, &page, &sheet, what);
+    free_octets(&sheet);
+    free_octets(&page.page);
+    free_layers(layers);
+    free_plan(from);
+    return done;
+}
+
+int main(int count, char **words)
+{
+    options given = {NULL, NULL, NULL, NULL};
+    trouble what;
+    if (count == 2 && strcmp(words[1], "--help") == 0) {
+        return fputs(help, stdout) == EOF || fflush(stdout) != 0;
+    }
+    if (count == 2 && strcmp(words[1], "--version") == 0) {
+        return printf("%s %s\n", program, SPIREROOK_VERSION) < 0 || fflush(stdout) != 0;
+    }
+    signal(SIGXFSZ, SIG_IGN);   /* a file over a limit is a write that fails, with a message */
+    if (!take_options(words + (count > 0), &given, &what) || !make(&given, &what)) {
+        say(program, &what);
+        return what.status;
+    }
+    return 0;
+}
