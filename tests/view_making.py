@@ -49,7 +49,8 @@ class Coders:
         return os.path.join(self.folder, name)
 
     def run(self, words, octets=b""):
-        return subprocess.run(words, input=octets, stdout=subprocess.PIPE, check=True).stdout
+        return subprocess.run(words, input=octets, stdout=subprocess.PIPE,
+                              stderr=subprocess.PIPE, check=True).stdout
 
     def mask(self, coder, rows):
         return self.t85(rows) if coder == 8 else self.fax(coder, rows)
@@ -271,8 +272,12 @@ class Shown:
 
     def unseen(self):
         """(unseen, all) of the page's line, or None."""
-        found = re.findall(r"pixels, (\d+) of (\d+) unseen$", self.told, re.M)
-        return tuple(map(int, found[0])) if len(found) == 1 else None
+        found = re.findall(r": (\d+) by (\d+) pixels, (?:(\d+) of (\d+) unseen|all seen)$",
+                           self.told, re.M)
+        if len(found) != 1:
+            return None
+        width, height, unseen, all_pixels = (int(cell or 0) for cell in found[0])
+        return (unseen, all_pixels) if unseen else (0, width * height)
 
     def is_read(self, stripe, layer):
         """Whether a layer's line ends with `read`; None if there is not one line for it."""

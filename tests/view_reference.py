@@ -13,7 +13,7 @@ import zlib
 UNKNOWN = "unknown"
 UNSEEN = None
 MAGENTA, GREEN = (255, 0, 255), (0, 255, 0)
-SQUARE = 8
+SQUARE = 16
 
 
 class Layer:
@@ -106,7 +106,7 @@ def from_chromaticity(x, y):
     return [x / y, 1.0, (1 - x - y) / y]
 
 
-D50 = [0.9642, 1.0, 0.8249]                   # T.42's white, as ICC and CIE 15 round it
+D50 = [0.96422, 1.0, 0.82521]                 # T.42's white
 D65 = from_chromaticity(0.3127, 0.3290)       # IEC 61966-2-1 gives white and primaries so
 PRIMARIES = [from_chromaticity(*xy) for xy in ((0.64, 0.33), (0.30, 0.60), (0.15, 0.06))]
 BRADFORD = [[0.8951, 0.2664, -0.1614], [-0.7502, 1.7135, 0.0367], [0.0389, -0.0685, 1.0296]]
@@ -160,8 +160,8 @@ class Difference:
     """Counts what the shown pixels are against the due ones."""
 
     def __init__(self):
-        self.pixels = self.unseen = self.wrong = self.a_step = self.shown_unseen = 0
-        self.first = ""
+        self.pixels = self.unseen = self.wrong = self.shown_unseen = 0
+        self.steps, self.first = set(), ""
 
     def add(self, x, y, due, shown):
         self.pixels += 1
@@ -178,19 +178,21 @@ class Difference:
                 x, y, due and (due, screen(due)), shown)
 
     def is_a_step(self, due, shown):
-        """Rounding near a half, where digits of the constants may tell; or one of the two colours
-        kept free, for which the manual does not say what is darkened."""
+        """Rounding near a half, where digits of the constants may tell, most for light near 0; or one
+        of the two colours kept free, for which the manual does not say what is darkened."""
         exact = screen_exactly(due)
         rounded = tuple(int(part + 0.5) for part in exact)
         if rounded in (MAGENTA, GREEN):
             return shown != rounded and all(0 <= r - s <= 1 for r, s in zip(rounded, shown))
-        near = all(abs(part - s) < 0.55 for part, s in zip(exact, shown))
-        self.a_step += near
+        near = all(abs(part - s) < 0.75 for part, s in zip(exact, shown))
+        if near:
+            self.steps.add(due)
         return near and shown not in (MAGENTA, GREEN)
 
 
 def pattern(x, y):
-    return MAGENTA if (x // SQUARE + y // SQUARE) % 2 == 0 else GREEN
+    """Green squares on magenta; the manual leaves open where they stand, the viewer has them so."""
+    return GREEN if x // SQUARE % 2 == 1 and y // SQUARE % 2 == 1 else MAGENTA
 
 
 def compared(lines, picture):
