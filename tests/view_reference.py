@@ -44,10 +44,10 @@ def contents_of_row(layer, main, width, y, layer_3_is_coded):
         return [alone] * width
     k = main // layer.resolution
     inside_y = 0 <= y - layer.y < layer.height * k
-    row = []
+    row, outside = [], layer.outside()
     for x in range(width):
         if not (inside_y and 0 <= x - layer.x < layer.width * k):
-            row.append(layer.outside())
+            row.append(outside)
         elif layer.unread:
             row.append(UNKNOWN)
         else:
@@ -177,6 +177,13 @@ class Difference:
             self.first = self.first or "at %d %d %s is due, and %s is shown" % (
                 x, y, due and (due, screen(due)), shown)
 
+    def add_right(self, line):
+        """A line shown to the octet; no seen colour of the reference is one of the pattern's."""
+        unseen = line.count(UNSEEN)
+        self.pixels += len(line)
+        self.unseen += unseen
+        self.shown_unseen += unseen
+
     def is_a_step(self, due, shown):
         """Rounding near a half, where digits of the constants may tell, most for light near 0; or one
         of the two colours kept free, for which the manual does not say what is darkened."""
@@ -199,6 +206,11 @@ def compared(lines, picture):
     """The difference of lines of colours and a PNG."""
     difference = Difference()
     for y, line in enumerate(lines):
+        plain = b"".join(bytes(pattern(x, y) if due is UNSEEN else screen(due))
+                         for x, due in enumerate(line))
+        if picture.samples == 3 and picture.rows[y] == plain:
+            difference.add_right(line)
+            continue
         for x, due in enumerate(line):
             difference.add(x, y, due, picture.pixel(x, y))
     return difference
@@ -269,7 +281,7 @@ def unfilter(kind, line, above, step):
     if kind == 0:
         return line
     if kind == 2:
-        return bytes((a + b) & 255 for a, b in zip(line, above))
+        return line_added(line, above)
     row = bytearray()
     for at, value in enumerate(line):
         before = row[at - step] if at >= step else 0
@@ -284,6 +296,18 @@ def unfilter(kind, line, above, step):
             raise ValueError("no such filter")
         row.append(value & 255)
     return bytes(row)
+
+
+def line_added(line, above):
+    """Octet by octet: all those at even places in one sum, then all those at odd ones."""
+    if not any(line):
+        return above
+    a, b = int.from_bytes(line, "big"), int.from_bytes(above, "big")
+    even = int.from_bytes((b"\0\xff" * len(line))[:len(line)], "big")
+    odd = int.from_bytes((b"\xff\0" * len(line))[:len(line)], "big")
+    top = 1 << 8 * len(line)
+    added = ((a & even) + (b & even) & even) | ((a & odd) + (b & odd) & odd)
+    return (added % top).to_bytes(len(line), "big")
 
 
 def nearest(before, above, corner):
