@@ -101,7 +101,7 @@ def run(folder, *words, program=PROGRAM, seconds=60, limits=(), **kept):
             resource.setrlimit(what, (most, most))
     done = subprocess.run([program, *words], cwd=folder, check=False, stderr=subprocess.PIPE,
                           stdout=kept.pop("stdout", subprocess.PIPE), timeout=seconds,
-                          preexec_fn=limit, **kept)
+                          preexec_fn=limit if limits else None, **kept)
     return (done.returncode, (done.stdout or b"").decode("utf-8", "replace"),
             done.stderr.decode("utf-8", "replace"))
 
