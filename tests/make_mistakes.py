@@ -89,6 +89,7 @@ PLANS = [
     ("resolution 400\nstripe\nheight 8\nmask m.pbm\n", 4,
      "m.pbm is 9 samples high, but the stripe is 8 (line 3)"),
     ("resolution 400\nstripe\nmask wide.pbm\n", 3, "wide.pbm is 32769 samples wide; a page is at most"),
+    (HEAD + "background long.ppm\n", 5, "long.ppm: libjpeg cannot code the image: Maximum"),
     (HEAD + "background missing.png\n", 5, "missing.png: No such file"),
     (HEAD + "background none.d/none\n", 5, "none.d/none: No such file"),
     (HEAD + 'background "none"\n', 5, "none: No such file"),
@@ -136,6 +137,7 @@ def pictures(folder, rng):
     write(os.path.join(folder, "m.pbm"), make_kit.pbm(make_kit.strokes(40, 9)))
     write(os.path.join(folder, "n.pbm"), make_kit.pbm(make_kit.strokes(39, 9)))
     write(os.path.join(folder, "wide.pbm"), b"P4 32769 1 " + bytes(4097))
+    write(os.path.join(folder, "long.ppm"), b"P6 65501 1 255 " + bytes(3 * 65501))
     write(os.path.join(folder, "i.ppm"), make_kit.ppm(10, 6, make_kit.gradient(10, 6)))
     write(os.path.join(folder, "noise.ppm"), b"P6 800 800 255 " + rng.randbytes(3 * 800 * 800))
     write(os.path.join(folder, "p.plan"), BACK)
@@ -248,7 +250,7 @@ def check_outputs(tally, folder):
             write(os.path.join(folder, "o.plan"), plan)
             ran = run(folder, "o.plan", "-o", names[0], "--pencil", *names[1:])
             check_refusal(tally, folder, "to " + place, ran, 1, words)
-    short = [(resource.RLIMIT_FSIZE, 4096)]
+    short = [(resource.RLIMIT_FSIZE, 1024)]
     write(os.path.join(folder, "old"), "as it was")
     ran = run(folder, "o.plan", "-o", "old", "--pencil", "s", "f", limits=short)
     check_refusal(tally, folder, "a short disk", ran, 1, "old: File too large")
@@ -264,7 +266,7 @@ def check_outputs(tally, folder):
 
 # ---- damage
 
-DAMAGED = 300
+DAMAGED = 240
 SAFE = ["-fsanitize=address,undefined", "-fno-sanitize-recover=all", "-g", "-O1"]
 REPORT = 99
 

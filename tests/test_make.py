@@ -7,6 +7,7 @@ SEED makes a run again.
 
 import os
 import random
+import resource
 import subprocess
 import sys
 import tempfile
@@ -124,6 +125,20 @@ def check_images(tally, reader, folder):
                     "JPEG %s begins %s" % (words, jpeg[:20].hex()))
 
 
+def check_time(tally, folder, rng):
+    """Eight million samples of some 200,000 colours take about a second of a processor."""
+    rows = [rng.randbytes(12000) for _ in range(50)]
+    write(os.path.join(folder, "big.ppm"), b"P6 4000 2000 255\n" + b"".join(rows) * 40)
+    before = resource.getrusage(resource.RUSAGE_CHILDREN)
+    status, _, wrong = make(folder, "resolution 400\nwidth 4000\nstripe\nheight 2000\n"
+                            "background big.ppm quality 20 half\n")
+    after = resource.getrusage(resource.RUSAGE_CHILDREN)
+    spent = after.ru_utime + after.ru_stime - before.ru_utime - before.ru_stime
+    tally.check(status == 0 and spent < 4, "a big image: status %d, %s, %.1f s" % (
+        status, wrong, spent))
+    os.remove(os.path.join(folder, "big.ppm"))
+
+
 def flat(colour, alpha):
     """On white, to the nearest."""
     return tuple((value * alpha + 255 * (255 - alpha) + 127) // 255 for value in colour)
@@ -152,6 +167,17 @@ def kinds():
     yield ("palette with holes", png(*size, 3, 8, lambda x, y: ((x + y) % 30,), table + holes),
            lambda x, y: flat(colours[(x + y) % 30],
                              (x + y) % 30 * 50 % 256 if (x + y) % 30 < 10 else 255))
+    for depth in (2, 8, 16):     # one value stands for a hole
+        hole, most = (1 << depth - 1) + 1, 2 ** depth - 1
+        shade = lambda x, y, hole=hole: (hole if (x + y) % 3 else x % 2,)
+        clear = lambda x, y, shade=shade, most=most: (
+            (255,) * 3 if (x + y) % 3 else (to_octet(shade(x, y)[0], most),) * 3)
+        yield ("grey %d with a hole" % depth, png(*size, 0, depth, shade, make_kit.chunk(
+            b"tRNS", hole.to_bytes(2, "big"))), clear)
+        if depth > 2:
+            yield ("RGB %d with a hole" % depth, png(
+                *size, 2, depth, lambda x, y, shade=shade: shade(x, y) * 3,
+                make_kit.chunk(b"tRNS", hole.to_bytes(2, "big") * 3)), clear)
     for depth in (8, 16):
         most = 2 ** depth - 1
         full = lambda x, y, most=most: tuple((x * 977 + y * 7001 + k * 4099) * 17 % (most + 1)
@@ -327,6 +353,7 @@ def main():
         with tempfile.TemporaryDirectory() as folder:
             check_masks(tally, reader, folder, random.Random(seed))
             check_images(tally, reader, folder)
+            check_time(tally, folder, random.Random(seed))
             check_kinds(tally, folder)
             check_stripes(tally, reader, folder)
             check_pencil(tally, folder, finder)
