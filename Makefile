@@ -1,4 +1,4 @@
-.PHONY: all test demo bench faults fuzz install uninstall clean
+.PHONY: all test demo pictures bench faults fuzz install uninstall clean
 .NOTPARALLEL:
 
 # the header has the version, since C programs can ask for it there; names of shared objects and pkg-config repeat it
@@ -20,12 +20,17 @@ all: build/libspirerook.a build/libspirerook.so
 test:
 	@bash tests/run
 
-# the listing of the paper's example sheet
+# a prompt-book page made from drawings and shown, whole and with layers unread
 demo:
-	@grep -q '^listing:' crates.txt || { echo "demo: crates.txt lists no crate 'listing', the program that prints a sheet" >&2; exit 1; }
-	@mkdir -p build
-	@rt check listing >build/demo.log 2>&1 </dev/null || { cat build/demo.log >&2; echo "demo: 'rt check listing' fails, as shown above" >&2; exit 1; }
-	@target/bin/listing <examples/example.sheet
+	@command -v rt >/dev/null 2>&1 || { echo "demo: no command 'rt': the library is proved and built by the Rattle toolchain" >&2; exit 1; }
+	@[ -f build/libspirerook.a ] || echo "Proving and building the library (README.md tells how long that takes)"
+	@mkdir -p build/demo
+	@$(MAKE) --no-print-directory build/spirerook-view build/spirerook-make >build/demo/log 2>&1 || { cat build/demo/log >&2; echo "demo: the programs do not build, as shown above" >&2; exit 1; }
+	@bash examples/promptbook/demo build/demo
+
+# the small pictures that README.md shows, from the demo's
+pictures:
+	@bash tools/pictures build/demo docs/pictures
 
 # faults planted in the reference, each of which a table of answers, or the test of the boundary, must find
 faults:
