@@ -1,4 +1,4 @@
-.PHONY: all test demo pictures bench faults fuzz install uninstall clean
+.PHONY: all test demo pictures view-objects bench faults fuzz install uninstall clean
 .NOTPARALLEL:
 
 # the header has the version, since C programs can ask for it there; names of shared objects and pkg-config repeat it
@@ -67,6 +67,10 @@ build/host/%.o: host/%.c $(wildcard host/*.h host/*/*.h) include/spirerook.h
 	@bash tests/need cc:gcc stdio.h:libc6-dev jpeglib.h:libjpeg62-turbo-dev tiffio.h:libtiff-dev jbig85.h:libjbig-dev png.h:libpng-dev zlib.h:zlib1g-dev
 	@mkdir -p $(@D)
 	$(HOST_C) -c -o $@ $<
+
+# for those who build the viewer in another way
+view-objects:
+	@echo $(VIEW)
 
 build/spirerook-view: $(VIEW:%=build/host/%.o) build/libspirerook.a
 	cc -o $@ $^ -ltiff -ljbig -ljpeg -lz -lm
