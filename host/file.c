@@ -24,9 +24,11 @@ static void take_away(int number)
     raise(number);
 }
 
+/* A file that may not grow is told by the write that fails. */
 static void watch_signals(void)
 {
-    static const int numbers[] = {SIGINT, SIGTERM, SIGHUP, SIGPIPE, SIGXFSZ};
+    static const int numbers[] = {SIGINT, SIGTERM, SIGHUP, SIGPIPE};
+    signal(SIGXFSZ, SIG_IGN);
     for (size_t k = 0; k < sizeof numbers / sizeof *numbers; k++) {
         struct sigaction now = {.sa_handler = take_away}, before;
         if (sigaction(numbers[k], NULL, &before) == 0 && before.sa_handler == SIG_DFL) {

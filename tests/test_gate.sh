@@ -80,9 +80,10 @@ need() { PATH="$room/bin:$PATH" bash tests/need "$@" >out 2>&1 </dev/null; }
 fresh
 printf '#!/bin/sh\nexec "$@"\n' >"$room/bin/sudo"; sed -i 's/exec/shift; exec/' "$room/bin/sudo"
 printf '#!/bin/sh\nexit 100\n' >"$room/bin/apt-get"; chmod +x "$room/bin/sudo" "$room/bin/apt-get"
-check "what is there needs no package" need bash:bash stdio.h:libc6-dev
-check "what cannot be had is an error" eval '! need bash:bash no-such-command:no-such-package no/such.h:no-such-dev'
-said 'could not install: no-such-package no-such-dev'
+printf '#!/bin/sh\n[ "$1" != "There Serif" ] || echo "There Serif"\n' >"$room/bin/fc-list"; chmod +x "$room/bin/fc-list"
+check "what is there needs no package" need bash:bash stdio.h:libc6-dev "font=There Serif:fonts-there"
+check "what cannot be had is an error" eval '! need bash:bash no-such-command:no-such-package no/such.h:no-such-dev "font=No Such:fonts-no-such"'
+said 'could not install: no-such-package no-such-dev fonts-no-such'
 printf '#!/bin/sh\ncase "$*" in *install*such-package) cp "$0" "%s/bin/no-such-command" ;; esac\n' "$room" >"$room/bin/apt-get"
 check "what is missing is installed" need no-such-command:no-such-package
 printf '#!/bin/sh\nexit 100\n' >"$room/bin/apt-get"; sed -i 's/python3:python3/absent-thing:absent-package/' tests/run

@@ -1,0 +1,28 @@
+/* What the viewer is asked for. */
+#ifndef OPTIONS_H
+#define OPTIONS_H
+
+#include <stdbool.h>
+#include <stddef.h>
+#include <stdint.h>
+
+#include <spirerook.h>
+
+/* The viewer's exit statuses. */
+enum { STATUS_WHOLE = 0, STATUS_REFUSED = 1, STATUS_BAD_OPTION = 2, STATUS_UNSEEN = 3 };
+
+typedef struct {
+    const char *page, *pencil_sheet, *pencil_file, *out; /* null where not given */
+    bool list, times;
+    bool unread[SPIREROOK_STRIPES][SPIREROOK_LAYERS + 1];
+    bool one_stripe;
+    uint32_t stripe;
+    uint64_t memory; /* octets of samples that a stripe's layers may take together */
+} options;
+
+typedef enum { OPTIONS_GOOD, OPTIONS_BAD, OPTIONS_ANSWERED } options_answer;
+
+/* Says on standard error what is bad; --help and --version are answered on standard output. */
+options_answer read_options(int count, char **words, options *asked);
+
+#endif

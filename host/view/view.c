@@ -1,0 +1,305 @@
+/* The viewer: a page into a picture, each pixel in its true colour or drawn as unseen.  docs/VIEWER.md is the manual. */
+#include <errno.h>
+#include <inttypes.h>
+#include <stdlib.h>
+#include <string.h>
+#include <unistd.h>
+
+#include "book.h"
+#include "clock.h"
+#include "layers.h"
+#include "picture.h"
+#include "screen.h"
+
+/* A run over the stripes that are shown, from the upper edge of the first. */
+typedef struct {
+    const options *asked;
+    const book *opened;
+    size_t from, to; /* stripes */
+    uint32_t width, height;
+    double began, decoders_left, told;
+    double decoding, composing, colouring, writing; /* seconds spent so far */
+    uint64_t unseen;
+    uint32_t y, composed; /* rows done, and those of them that were composed in time */
+    picture *picture;     /* null where none is asked for */
+    screen *colours;
+    uint8_t *line, *before, *row; /* a line, the one before it, and the row that is shown */
+    size_t line_unseen;
+} run;
+
+static bool set_up(run *r, const options *asked, const book *opened)
+{
+    *r = (run){.asked = asked, .opened = opened, .to = opened->stripes, .began = seconds_now(), .decoders_left = DECODERS_SECONDS};
+    if (asked->one_stripe) {
+        r->from = asked->stripe;
+        r->to = r->from + 1;
+    }
+    r->width = spirerook_record_width(mask_of_stripe(opened, r->from));
+    for (size_t stripe = r->from; stripe < r->to; stripe++) {
+        r->height += spirerook_record_height(mask_of_stripe(opened, stripe));
+    }
+    r->colours = calloc(1, sizeof *r->colours);
+    r->line = malloc((size_t)r->width * SPIREROOK_PIXEL_OCTETS);
+    r->before = calloc(r->width, SPIREROOK_PIXEL_OCTETS);
+    r->row = malloc((size_t)r->width * 3);
+    return r->colours != NULL && r->line != NULL && r->before != NULL && r->row != NULL;
+}
+
+static void clear_away(run *r)
+{
+    if (r->picture != NULL) {
+        drop_picture(r->picture);
+    }
+    free(r->colours);
+    free(r->line);
+    free(r->before);
+    free(r->row);
+}
+
+/* On a terminal, and where it takes long. */
+static void tell_progress(run *r)
+{
+    double now = seconds_now();
+    if (now - r->began > 1 && now - r->told > 0.2 && isatty(STDERR_FILENO)) {
+        fprintf(stderr, "\rline %u of %u ", (unsigned)r->y, (unsigned)r->height);
+        r->told = now;
+    }
+}
+
+static void end_progress(run *r)
+{
+    if (r->told > 0) {
+        fprintf(stderr, "\r%40s\r", "");
+        r->told = 0;
+    }
+}
+
+/* A line like the one before it makes the same row, but for the squares of unseen pixels, which change with the rows. */
+static void colour_line(run *r)
+{
+    bool like = r->y > 0 && memcmp(r->line, r->before, (size_t)r->width * SPIREROOK_PIXEL_OCTETS) == 0;
+    if (!like || (r->line_unseen > 0 && r->y % SQUARE == 0)) {
+        uint8_t *line = r->line;
+        r->line_unseen = row_of_line(r->colours, line, r->width, r->y, r->row);
+        r->line = r->before;
+        r->before = line;
+    }
+    r->unseen += r->line_unseen;
+}
+
+static bool compose_line(run *r, const stripe_layers *read, size_t stripe, uint32_t line)
+{
+    const book *b = r->opened;
+    spirerook_answer done = spirerook_line(b->sheet, b->sheet_octets, read->planes, read->planes_octets, read->samples, read->octets, (uint32_t)stripe,
+                                           line, r->line, (size_t)r->width * SPIREROOK_PIXEL_OCTETS);
+    if (done.number != SPIREROOK_DONE) {
+        end_progress(r);
+        fprintf(stderr, "%s: stripe %zu, line %u: refused: %s (%u) at %u\n", r->asked->page, stripe, (unsigned)line, spirerook_name(done.number),
+                (unsigned)done.number, (unsigned)done.place);
+    }
+    return done.number == SPIREROOK_DONE;
+}
+
+/* A row of the picture: the line composed and coloured or, when time is up, all unseen. */
+static bool show_line(run *r, const stripe_layers *read, size_t stripe, uint32_t line)
+{
+    double began = seconds_now(), composed = began;
+    if (r->composed == r->y && began - r->began < COMPOSING_SECONDS) {
+        if (!compose_line(r, read, stripe, line)) {
+            return false;
+        }
+        composed = seconds_now();
+        colour_line(r);
+        r->composed++;
+    } else {
+        if (r->y == r->composed || r->y % SQUARE == 0) {
+            unseen_row(r->width, r->y, r->row);
+        }
+        r->unseen += r->width;
+    }
+    double coloured = seconds_now();
+    bool good = r->picture == NULL || put_row(r->picture, r->row);
+    r->y++;
+    r->composing += composed - began;
+    r->colouring += coloured - composed;
+    r->writing += seconds_now() - coloured;
+    return good;
+}
+
+static bool show_stripe(run *r, size_t stripe)
+{
+    stripe_layers read;
+    uint32_t height = spirerook_record_height(mask_of_stripe(r->opened, stripe));
+    double began = seconds_now(), left = r->began + COMPOSING_SECONDS - began;
+    r->decoders_left = r->decoders_left < left ? r->decoders_left : left;
+    read_layers(r->asked, r->opened, stripe, &r->decoders_left, &read);
+    r->decoding += seconds_now() - began;
+    end_progress(r);
+    tell_layers(r->asked, r->opened, stripe, &read);
+    bool good = true;
+    for (uint32_t line = 0; good && line < height; line++) {
+        good = show_line(r, &read, stripe, line);
+        if (line % 16 == 0) {
+            tell_progress(r);
+        }
+    }
+    free_layers(&read);
+    return good;
+}
+
+static void tell_page(const run *r)
+{
+    uint64_t pixels = (uint64_t)r->width * r->height;
+    if (r->composed < r->y) {
+        printf("%s: lines %u to %u were not composed within %d seconds; unseen is shown\n", r->asked->page, (unsigned)r->composed, (unsigned)(r->y - 1),
+               COMPOSING_SECONDS);
+    }
+    printf("%s: %u by %u pixels, ", r->asked->page, (unsigned)r->width, (unsigned)r->height);
+    if (r->unseen == 0) {
+        printf("all seen\n");
+    } else {
+        printf("%" PRIu64 " of %" PRIu64 " unseen\n", r->unseen, pixels);
+    }
+}
+
+static void tell_times(const run *r, double began)
+{
+    double all = seconds_now() - began;
+    printf("%.3f s: decoding %.3f, composing %.3f, colour %.3f, PNG %.3f, all else %.3f\n", all, r->decoding, r->composing, r->colouring, r->writing,
+           all - r->decoding - r->composing - r->colouring - r->writing);
+}
+
+static int cannot_write(const char *name, const char *why)
+{
+    fprintf(stderr, "%s: cannot be written: %s\n", name, why);
+    return STATUS_REFUSED;
+}
+
+/* All stripes, into the picture if one is asked for; false where it could not be finished. */
+static bool show_stripes(run *r, FILE *file)
+{
+    if (file != NULL) {
+        r->picture = begin_picture(file, r->width, r->height, spirerook_record_resolution(mask_of_stripe(r->opened, r->from)));
+        if (r->picture == NULL) {
+            return false;
+        }
+    }
+    bool good = true;
+    for (size_t stripe = r->from; good && stripe < r->to; stripe++) {
+        good = show_stripe(r, stripe);
+    }
+    end_progress(r);
+    if (good && r->picture != NULL) {
+        good = end_picture(r->picture, r->unseen);
+        r->picture = NULL;
+    }
+    return good;
+}
+
+static int show_into_file(run *r)
+{
+    new_file out;
+    const char *why = open_beside(r->asked->out, &out);
+    if (why != NULL) {
+        return cannot_write(r->asked->out, why);
+    }
+    errno = 0;
+    if (!show_stripes(r, out.file)) {
+        why = errno == 0 ? "the picture could not be made" : strerror(errno);
+        drop_file(&out);
+        return cannot_write(r->asked->out, why);
+    }
+    why = keep_file(&out);
+    return why == NULL ? STATUS_WHOLE : cannot_write(r->asked->out, why);
+}
+
+static int show(const options *asked, const book *opened, double began)
+{
+    run r;
+    int status = STATUS_REFUSED;
+    if (!set_up(&r, asked, opened)) {
+        fprintf(stderr, "%s: there is not enough memory\n", asked->page);
+    } else if (asked->out != NULL) {
+        status = show_into_file(&r);
+    } else {
+        status = show_stripes(&r, NULL) ? STATUS_WHOLE : STATUS_REFUSED;
+    }
+    if (status == STATUS_WHOLE) {
+        tell_page(&r);
+        if (asked->times) {
+            tell_times(&r, began);
+        }
+        printf(asked->out == NULL ? "no picture was asked for (-o OUT.png)\n" : "%s: written\n", asked->out);
+        status = r.unseen == 0 ? STATUS_WHOLE : STATUS_UNSEEN;
+    }
+    clear_away(&r);
+    return status;
+}
+
+static int bad_choice(const char *option, size_t stripe, size_t layer, const char *what)
+{
+    fprintf(stderr, "spirerook-view: %s %zu", option, stripe);
+    if (layer != 0) {
+        fprintf(stderr, ":%zu", layer);
+    }
+    fprintf(stderr, ": %s\n", what);
+    return STATUS_BAD_OPTION;
+}
+
+/* Options that name what the page does not have, or would write over what is read. */
+static int check_choices(const options *asked, const book *opened)
+{
+    if (asked->one_stripe && asked->stripe >= opened->stripes) {
+        return bad_choice("--stripe", asked->stripe, 0, "the page has no such stripe");
+    }
+    for (size_t stripe = 0; stripe < SPIREROOK_STRIPES; stripe++) {
+        for (size_t layer = 1; layer <= SPIREROOK_LAYERS; layer++) {
+            size_t layers = stripe < opened->stripes ? opened->first[stripe + 1] - opened->first[stripe] : 0;
+            if (asked->unread[stripe][layer] &&
+                (layer > layers || !spirerook_record_coded(spirerook_record_at(opened->sheet, opened->first[stripe] + layer - 1)))) {
+                return bad_choice("--unread", stripe, layer, "the page has no such coded layer");
+            }
+        }
+    }
+    const char *inputs[] = {asked->page, asked->pencil_sheet, asked->pencil_file};
+    for (size_t k = 0; asked->out != NULL && k < 3; k++) {
+        if (inputs[k] != NULL && same_file(asked->out, inputs[k])) {
+            fprintf(stderr, "spirerook-view: -o %s: the picture would take the place of what is read\n", asked->out);
+            return STATUS_BAD_OPTION;
+        }
+    }
+    return STATUS_WHOLE;
+}
+
+static int view(const options *asked, book *opened)
+{
+    double began = seconds_now();
+    int status = open_book(asked, opened);
+    if (status == STATUS_WHOLE) {
+        status = check_choices(asked, opened);
+    }
+    if (status == STATUS_WHOLE && asked->list) {
+        for (size_t stripe = 0; stripe < opened->stripes; stripe++) {
+            if (!asked->one_stripe || stripe == asked->stripe) {
+                tell_layers(asked, opened, stripe, NULL);
+            }
+        }
+    } else if (status == STATUS_WHOLE) {
+        status = show(asked, opened, began);
+    }
+    close_book(opened);
+    return status;
+}
+
+int main(int count, char **words)
+{
+    static options asked;
+    static book opened;
+    options_answer answer = read_options(count, words, &asked);
+    int status = answer == OPTIONS_GOOD ? view(&asked, &opened) : answer == OPTIONS_BAD ? STATUS_BAD_OPTION : STATUS_WHOLE;
+    if (fflush(stdout) != 0) {
+        fprintf(stderr, "spirerook-view: standard output: %s\n", strerror(errno));
+        return STATUS_REFUSED;
+    }
+    return status;
+}
