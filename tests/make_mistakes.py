@@ -1,6 +1,7 @@
 """Mistakes that spirerook-make meets: in plans, options, pictures and outputs, and files damaged at
 random under the address and undefined behaviour sanitizers."""
 
+import glob
 import os
 import resource
 import subprocess
@@ -274,11 +275,11 @@ REPORT = 99
 def sanitized(tally):
     """The program with the sanitizers, or None."""
     program = os.path.join(reference_run.ROOT, "build", "make_sanitized")
-    with open(os.path.join(reference_run.ROOT, "Makefile"), encoding="ascii") as file:
-        names = next(line for line in file if line.startswith("MAKE_PAGE =")).split()[2:]
-    files = [os.path.join(reference_run.ROOT, "host", name + ".c") for name in names]
+    host = os.path.join(reference_run.ROOT, "host")
+    files = [os.path.join(host, name) for name in ("colour.c", "file.c")]
+    files += sorted(glob.glob(os.path.join(host, "make", "*.c")))
     done = subprocess.run(["cc", "-std=c11", "-D_DEFAULT_SOURCE", *SAFE, "-I", reference_run.HEADERS,
-                           *files, reference_run.archive(), "-o", program, "-ltiff", "-ljbig",
+                           "-I", host, *files, reference_run.archive(), "-o", program, "-ltiff", "-ljbig",
                            "-ljpeg", "-lpng", "-lm"], check=False, stderr=subprocess.PIPE)
     tally.check(done.returncode == 0, "the sanitizers: %s" % done.stderr.decode()[-500:])
     return program if done.returncode == 0 else None
