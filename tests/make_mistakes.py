@@ -95,8 +95,8 @@ PLANS = [
     (HEAD + "background none.d/none\n", 5, "none.d/none: No such file"),
     (HEAD + 'background "none"\n', 5, "none: No such file"),
     (HEAD + "background .\n", 5, ".: Is a directory"),
-    (HEAD + "background /dev/null\n", 5, "neither PNG nor PNM"),
-    (HEAD + "background /dev/zero\n", 5, "neither PNG nor PNM"),
+    (HEAD + "background /dev/zero\n", 5, "/dev/zero: this is no plain file"),
+    (HEAD + "background pipe\n", 5, "pipe: this is no plain file"),
     ("resolution 400\nwidth 4\nstripe\0\n", 0, "an octet 0"),
     ("#" * 1048576, 0, "a plan has less than 1048576 octets"),
 ]
@@ -108,7 +108,7 @@ REFUSED = [
      "the sheet breaks one of its rules; see line 5"),
     (HEAD + "background i.ppm\nstripe\nheight 65535\nbackground i.ppm\n",
      "BadSheet (14) at record 4 (stripe 1, layer 2): the sheet breaks one of its rules; see line 7"),
-    (HEAD + "background noise.ppm quality 100\n" + "stripe\nheight 1\nbackground noise.ppm\n" * 20,
+    ("resolution 400\ncoder mh\n" + "stripe\nmask noise.pbm\n" * 2,
      "TooLong (18): a page has at most 16777215 octets; this one would have "),
 ]
 # options behind the plan "p.plan", and words of the message; the status is 2
@@ -140,7 +140,8 @@ def pictures(folder, rng):
     write(os.path.join(folder, "wide.pbm"), b"P4 32769 1 " + bytes(4097))
     write(os.path.join(folder, "long.ppm"), b"P6 65501 1 255 " + bytes(3 * 65501))
     write(os.path.join(folder, "i.ppm"), make_kit.ppm(10, 6, make_kit.gradient(10, 6)))
-    write(os.path.join(folder, "noise.ppm"), b"P6 800 800 255 " + rng.randbytes(3 * 800 * 800))
+    write(os.path.join(folder, "noise.pbm"), b"P4 8000 4500 " + rng.randbytes(1000 * 4500))
+    os.mkfifo(os.path.join(folder, "pipe"))
     write(os.path.join(folder, "p.plan"), BACK)
     write(os.path.join(folder, "pencil.plan"), HEAD + "mask m.pbm\n" + PAIR)
 
