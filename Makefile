@@ -63,8 +63,12 @@ build/libspirerook.so: build/libspirerook.a
 		-Wl,--whole-archive build/libspirerook.a -Wl,--no-whole-archive
 	ln -sf libspirerook.so $@.$(MAJOR)
 
-build/host/%.o: host/%.c $(wildcard host/*.h host/*/*.h) include/spirerook.h
+build/host/needs: tests/need
 	@bash tests/need cc:gcc stdio.h:libc6-dev jpeglib.h:libjpeg62-turbo-dev tiffio.h:libtiff-dev jbig85.h:libjbig-dev png.h:libpng-dev zlib.h:zlib1g-dev
+	@mkdir -p $(@D)
+	@touch $@
+
+build/host/%.o: host/%.c $(wildcard host/*.h host/*/*.h) include/spirerook.h | build/host/needs
 	@mkdir -p $(@D)
 	$(HOST_C) -c -o $@ $<
 
