@@ -8,7 +8,7 @@
 #include <zlib.h>
 
 /* More effort than this costs time and saves little: pages are paper and text.  A run of fewer rows is not worth the break that it makes. */
-enum { EFFORT = 3, LONG_RUN = 32, ROOM = 1 << 18, FILTER_UP = 2, RAW = -15 };
+enum { EFFORT = 3, LONG_RUN = 8, ROOM = 1 << 18, FILTER_UP = 2, RAW = -15 };
 
 struct picture {
     FILE *file;
