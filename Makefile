@@ -1,4 +1,4 @@
-.PHONY: all test demo bench faults fuzz install uninstall clean
+.PHONY: all test demo pictures view-objects bench faults fuzz install install-programs uninstall clean
 .NOTPARALLEL:
 
 # the header has the version, since C programs can ask for it there; names of shared objects and pkg-config repeat it
@@ -7,6 +7,8 @@ MAJOR := $(firstword $(subst ., ,$(VERSION)))
 PREFIX = /usr/local
 LIBDIR = $(PREFIX)/lib
 INCLUDEDIR = $(PREFIX)/include
+BINDIR = $(PREFIX)/bin
+PROGRAMS = spirerook-view spirerook-make
 
 # the programs over the library: host/NAME.c each
 VIEW = $(addprefix view/,view options book layers decode decode_fax decode_t85 decode_jpeg picture screen) colour file
@@ -20,12 +22,17 @@ all: build/libspirerook.a build/libspirerook.so
 test:
 	@bash tests/run
 
-# the listing of the paper's example sheet
+# a prompt-book page made from drawings and shown, whole and with layers unread
 demo:
-	@grep -q '^listing:' crates.txt || { echo "demo: crates.txt lists no crate 'listing', the program that prints a sheet" >&2; exit 1; }
-	@mkdir -p build
-	@rt check listing >build/demo.log 2>&1 </dev/null || { cat build/demo.log >&2; echo "demo: 'rt check listing' fails, as shown above" >&2; exit 1; }
-	@target/bin/listing <examples/example.sheet
+	@command -v rt >/dev/null 2>&1 || { echo "demo: no command 'rt': the library is proved and built by the Rattle toolchain" >&2; exit 1; }
+	@[ -f build/libspirerook.a ] || echo "Proving and building the library (README.md tells how long that takes)"
+	@mkdir -p build/demo
+	@$(MAKE) --no-print-directory build/spirerook-view build/spirerook-make >build/demo/log 2>&1 || { cat build/demo/log >&2; echo "demo: the programs do not build, as shown above" >&2; exit 1; }
+	@bash examples/promptbook/demo build/demo
+
+# the small pictures that README.md shows, from the demo's
+pictures:
+	@bash tools/pictures build/demo docs/pictures
 
 # faults planted in the reference, each of which a table of answers, or the test of the boundary, must find
 faults:
@@ -58,10 +65,18 @@ build/libspirerook.so: build/libspirerook.a
 		-Wl,--whole-archive build/libspirerook.a -Wl,--no-whole-archive
 	ln -sf libspirerook.so $@.$(MAJOR)
 
-build/host/%.o: host/%.c $(wildcard host/*.h host/*/*.h) include/spirerook.h
+build/host/needs: tests/need
 	@bash tests/need cc:gcc stdio.h:libc6-dev jpeglib.h:libjpeg62-turbo-dev tiffio.h:libtiff-dev jbig85.h:libjbig-dev png.h:libpng-dev zlib.h:zlib1g-dev
 	@mkdir -p $(@D)
+	@touch $@
+
+build/host/%.o: host/%.c $(wildcard host/*.h host/*/*.h) include/spirerook.h | build/host/needs
+	@mkdir -p $(@D)
 	$(HOST_C) -c -o $@ $<
+
+# for those who build the viewer in another way
+view-objects:
+	@echo $(VIEW)
 
 build/spirerook-view: $(VIEW:%=build/host/%.o) build/libspirerook.a
 	cc -o $@ $^ -ltiff -ljbig -ljpeg -lz -lm
@@ -80,6 +95,13 @@ install: all
 	sed -e 's|@PREFIX@|$(PREFIX)|' -e 's|@LIBDIR@|$(LIBDIR)|' -e 's|@INCLUDEDIR@|$(INCLUDEDIR)|' -e 's|@VERSION@|$(VERSION)|' \
 		spirerook.pc.in >"$(DESTDIR)$(LIBDIR)/pkgconfig/spirerook.pc"
 
+# the viewer and the page maker, which need more of the system than the library does
+install-programs: $(PROGRAMS:%=build/%)
+	@case "$(BINDIR)" in /*) ;; *) echo "install: PREFIX must be an absolute path, not '$(PREFIX)'" >&2; exit 1 ;; esac
+	install -d "$(DESTDIR)$(BINDIR)"
+	install -m 755 $^ "$(DESTDIR)$(BINDIR)"
+
 uninstall:
+	rm -f $(PROGRAMS:%="$(DESTDIR)$(BINDIR)/%")
 	rm -f "$(DESTDIR)$(INCLUDEDIR)/spirerook.h" "$(DESTDIR)$(LIBDIR)/pkgconfig/spirerook.pc" "$(DESTDIR)$(LIBDIR)/libspirerook.a"
 	rm -f "$(DESTDIR)$(LIBDIR)/libspirerook.so" "$(DESTDIR)$(LIBDIR)/libspirerook.so.$(MAJOR)" "$(DESTDIR)$(LIBDIR)/libspirerook.so.$(VERSION)"

@@ -1,4 +1,4 @@
-"""examples/example.sheet, which `make demo` lists, is the paper's example: its layer 2 record octet for
+"""examples/example.sheet, is the paper's example: its layer 2 record octet for
 octet, and the three lines that the paper prints, read by the table of docs/FIELDS.md, section 7."""
 import pathlib
 import struct

@@ -1,5 +1,4 @@
 /* spirerook-make: a page from pictures, as a plan says. */
-#include <signal.h>
 #include <spirerook.h>
 #include <stdio.h>
 #include <string.h>
@@ -194,7 +193,6 @@ int main(int count, char **words)
     if (count == 2 && strcmp(words[1], "--version") == 0) {
         return printf("%s %s\n", program, SPIREROOK_VERSION) < 0 || fflush(stdout) != 0;
     }
-    signal(SIGXFSZ, SIG_IGN);   /* a file over a limit is a write that fails, with a message */
     if (!take_options(words + (count > 0), &given, &what) || !make(&given, &what)) {
         say(program, &what);
         return what.status;

@@ -55,6 +55,16 @@ bool begin_outputs(output *outputs, unsigned count, trouble *what)
     return true;
 }
 
+/* The file itself where the name is a link to it, as open_beside has it. */
+static void take_away(const char *name)
+{
+    char *place = realpath(name, NULL);
+    if (place != NULL) {
+        unlink(place);
+    }
+    free(place);
+}
+
 /* Where a later one fails, those that took their places already are taken away again. */
 bool keep_outputs(output *outputs, unsigned count, trouble *what)
 {
@@ -64,7 +74,7 @@ bool keep_outputs(output *outputs, unsigned count, trouble *what)
             continue;
         }
         for (unsigned before = 0; before < k; before++) {
-            unlink(outputs[before].name);
+            take_away(outputs[before].name);
         }
         drop_outputs(outputs, count);
         return tell(what, "%s: %s", outputs[k].name, why);

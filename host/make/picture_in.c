@@ -2,6 +2,7 @@
 
 #include <stdlib.h>
 #include <string.h>
+#include <sys/stat.h>
 
 #include "file.h"
 
@@ -60,27 +61,30 @@ static bool is_pnm(const whole_file *file)
     return file->length >= 2 && file->octets[0] == 'P' && file->octets[1] >= '1' && file->octets[1] <= '6';
 }
 
-/* The first octets tell whether the rest is worth reading: a file may have no end. */
+static bool is_plain(const char *name)
+{
+    struct stat there;
+    return stat(name, &there) != 0 || S_ISREG(there.st_mode) || S_ISDIR(there.st_mode);
+}
+
+/* Twice: the first octets tell whether all are worth reading.  A folder, or nothing at all, is told of by read_file. */
 static bool read_known(const char *name, whole_file *file, trouble *what)
 {
-    const char *why = read_file(name, sizeof png_mark, file);
-    if (why != NULL) {
-        return tell(what, "%s", why);
+    const size_t limits[] = {sizeof png_mark, most_file};
+    for (int k = 0; k < 2; k++) {
+        const char *why = is_plain(name) ? read_file(name, limits[k], file) : "this is no plain file";
+        if (why != NULL) {
+            return tell(what, "%s", why);
+        }
+        bool known = is_png(file) || is_pnm(file);
+        if (!known || k == 0 || file->length == most_file) {
+            free(file->octets);
+        }
+        if (!known) {
+            return tell(what, "the picture is neither PNG nor PNM (P1 to P6)");
+        }
     }
-    bool known = is_png(file) || is_pnm(file);
-    free(file->octets);
-    if (!known) {
-        return tell(what, "the picture is neither PNG nor PNM (P1 to P6)");
-    }
-    why = read_file(name, most_file, file);
-    if (why != NULL) {
-        return tell(what, "%s", why);
-    }
-    if (file->length == most_file) {
-        free(file->octets);
-        return tell(what, "the file has over 2 GiB");
-    }
-    return true;
+    return file->length < most_file || tell(what, "the file has over 2 GiB");
 }
 
 bool read_picture(const char *name, picture_use use, picture *made, trouble *what)

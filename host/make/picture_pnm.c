@@ -72,7 +72,7 @@ static unsigned colours(const pnm_reader *pnm)
     return pnm->kind % 3 == 0 ? 3 : 1;
 }
 
-/* Whether the samples can stand in what is left of the file: digits take one octet each in P1, two with their blank in P2 and P3 (the last may lack it). */
+/* Whether the samples can stand in what is left of the file.  In P1 each takes an octet at least; in P2 and P3 two with its blank, but the last. */
 static bool is_long_enough(const pnm_reader *pnm)
 {
     uint64_t row = (uint64_t)pnm->width * colours(pnm), left = pnm->length - pnm->at;

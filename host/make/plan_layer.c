@@ -104,8 +104,15 @@ static bool take_picture(const plan *made, plan_line *line, plan_layer *layer)
     return (layer->name != NULL && layer->path != NULL) || wrong(line, "there is not enough memory");
 }
 
+/* The library would refuse it too, but at the stripe's layer 2. */
+static bool divides(const plan *made, plan_line *line, const plan_layer *layer)
+{
+    return layer->path == NULL || made->resolution % layer->resolution == 0 ||
+           wrong(line, "a resolution of %u does not divide the page's %u", (unsigned)layer->resolution, (unsigned)made->resolution);
+}
+
 bool take_layer(const plan *made, plan_line *line, unsigned layer_number, plan_layer *layer)
 {
     layer->line = line->number;
-    return take_picture(made, line, layer) && take_options(line, options_of(layer_number), layer);
+    return take_picture(made, line, layer) && take_options(line, options_of(layer_number), layer) && divides(made, line, layer);
 }

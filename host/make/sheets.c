@@ -9,12 +9,12 @@ typedef struct {
     size_t length;
 } lent_sheet;
 
-/* The line of the plan that a record stems from. */
+/* The line of the plan that a record stems from: layer 2 has the stripe's height also where it has no mask. */
 static unsigned line_of(const plan *from, unsigned stripe, unsigned layer)
 {
     const plan_stripe *in = &from->stripes[stripe];
     unsigned line = in->layers[layer - 1].line;
-    return line == 0 ? in->line : line;
+    return line != 0 ? line : layer == 2 && in->height_line != 0 ? in->height_line : in->line;
 }
 
 /* A refusal whose place is a record of the sheet. */

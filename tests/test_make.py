@@ -1,0 +1,365 @@
+"""spirerook-make: what it codes is decoded by outside programs, its pages and sheets are read by the
+reference, and each mistake has its message and status.
+
+make_kit.py has the pictures and decoders, make_mistakes.py the mistakes and the damaged files.
+SEED makes a run again.
+"""
+
+import os
+import random
+import resource
+import subprocess
+import sys
+import tempfile
+
+import make_kit
+import make_mistakes
+import reference_run
+from make_kit import CODERS, SHOWN, make, png, read, write
+
+WHITE, BLACK = (255, 128, 96), (0, 128, 96)
+SIZES = [(1, 1), (7, 3), (8, 2), (33, 130), (208, 60), (1728, 40), (2336, 17)]
+
+
+def listing(reader, page):
+    """The reference's records of a page, as rows of numbers."""
+    printed = reference_run.run(reader, page)[0]
+    if "refused" in printed or not printed:
+        return printed
+    return [list(map(int, line.split())) for line in printed.splitlines()]
+
+
+def layer_sizes(told):
+    """(stripe, layer) to the octets that a run lists."""
+    sizes = {}
+    for line in told.splitlines()[:-1]:
+        head, rest = line.split(": ", 1)
+        stripe, layer = (int(part.split()[1]) for part in head.split(", "))
+        sizes[stripe, layer] = 0 if rest == "not coded" else int(rest.split(", ")[-1].split()[0])
+    return sizes
+
+
+def due_records(stripes, told):
+    """The records due: each stripe is three rows of coder, x, y, width, height, resolution and base;
+    lengths are as told, and starts follow: mask, background, foreground."""
+    sizes, at, records = layer_sizes(told), 22, []
+    for number, rows in enumerate(stripes):
+        at += 39
+        starts = {}
+        for layer in (2, 1, 3):
+            starts[layer] = at if sizes[number, layer] else 0
+            at += sizes[number, layer]
+        for layer in (1, 2, 3):
+            *box, base = rows[layer - 1]
+            records.append([number, layer, *box, *base, starts[layer], sizes[number, layer]])
+    return records, at + 4
+
+
+def uncoded(main, base):
+    return (0, 0, 0, 0, 0, main, base)
+
+
+def mask_record(coder, width, height, main):
+    return (coder, 0, 0, width, height, main, (0, 0, 0))
+
+
+def check_page(tally, reader, folder, what, plan, stripes, words=()):
+    """A plan is made into a page of these records; answers (page, records)."""
+    status, told, wrong = make(folder, plan, *words)
+    if not (status == 0 and wrong == ""):
+        tally.check(False, "%s: status %d, %s" % (what, status, wrong))
+        return None, []
+    page = read(os.path.join(folder, "p.page"))
+    due, size = due_records(stripes, told)
+    got = listing(reader, page)
+    tally.check(got == due and len(page) == size, "%s: records\n%s\nnot\n%s" % (what, got, due))
+    tally.check(told.splitlines()[-1].startswith("written: p.page, %d octets" % size),
+                "%s: it tells %s" % (what, told))
+    return page, got
+
+
+def part_of(page, record):
+    return page[record[11]:record[11] + record[12]]
+
+
+def check_masks(tally, reader, folder, rng):
+    """Every coder, decoded outside to the same picture."""
+    for width, height in SIZES:
+        for rows in (make_kit.strokes(width, height), make_kit.dots(width, height, rng)):
+            write(os.path.join(folder, "m.pbm"), make_kit.pbm(rows))
+            for coder, number in CODERS.items():
+                what = "%s of %d by %d" % (coder, width, height)
+                page, got = check_page(
+                    tally, reader, folder, what,
+                    "resolution 200\ncoder %s\nstripe\nmask m.pbm\n" % coder,
+                    [[uncoded(200, WHITE), mask_record(number, width, height, 200),
+                      uncoded(200, BLACK)]])
+                if page is None:
+                    continue
+                back = make_kit.decoded_mask(folder, coder, part_of(page, got[1]), width, height)
+                tally.check(back == make_kit.bits(rows), what + " decodes to another picture")
+
+
+def check_images(tally, reader, folder):
+    """JPEG within a small error; the words that change the coding are seen in it."""
+    size = (96, 64)
+    write(os.path.join(folder, "i.ppm"), make_kit.ppm(*size, make_kit.gradient(*size)))
+    source = read(os.path.join(folder, "i.ppm"))[-3 * size[0] * size[1]:]
+    for words, most, mark in (("", 4, b"\xff\xc0"), ("quality 100", 2, b"\xff\xc0"),
+                              ("half", 8, b"\xff\xc0"), ("progressive", 4, b"\xff\xc2"),
+                              ("quality 30 progressive half", 14, b"\xff\xc2")):
+        plan = ("resolution 400\nwidth 500\nstripe\nheight 300\n"
+                "foreground i.ppm %s resolution 200 at 31 7 lab 1 2 3\n" % words)
+        page, got = check_page(tally, reader, folder, "JPEG " + words, plan, [
+            [uncoded(400, WHITE), mask_record(0, 500, 300, 400), (1, 31, 7, *size, 200, (1, 2, 3))]])
+        if page is None:
+            continue
+        jpeg = part_of(page, got[2])
+        far = make_kit.error(make_kit.decoded_image(folder, jpeg), source)
+        tally.check(far <= most, "JPEG %s: an error of %.2f" % (words, far))
+        frame = jpeg.find(mark)
+        sampling = jpeg[frame + 11] if frame > 0 else 0
+        tally.check(sampling == (0x22 if "half" in words else 0x11),
+                    "JPEG %s: the frame has sampling %02x" % (words, sampling))
+        tally.check(jpeg[2:16] == b"\xff\xe1\x00\x0cG3FAX\x00\x07\xca\x00\xc8",
+                    "JPEG %s begins %s" % (words, jpeg[:20].hex()))
+
+
+def check_time(tally, folder, rng):
+    """Eight million samples of some 200,000 colours take about a second of a processor."""
+    rows = [rng.randbytes(12000) for _ in range(50)]
+    write(os.path.join(folder, "big.ppm"), b"P6 4000 2000 255\n" + b"".join(rows) * 40)
+    before = resource.getrusage(resource.RUSAGE_CHILDREN)
+    status, _, wrong = make(folder, "resolution 400\nwidth 4000\nstripe\nheight 2000\n"
+                            "background big.ppm quality 20 half\n")
+    after = resource.getrusage(resource.RUSAGE_CHILDREN)
+    spent = after.ru_utime + after.ru_stime - before.ru_utime - before.ru_stime
+    tally.check(status == 0 and spent < 4, "a big image: status %d, %s, %.1f s" % (
+        status, wrong, spent))
+    os.remove(os.path.join(folder, "big.ppm"))
+
+
+def flat(colour, alpha):
+    """On white, to the nearest."""
+    return tuple((value * alpha + 255 * (255 - alpha) + 127) // 255 for value in colour)
+
+
+def to_octet(value, most):
+    return (2 * value * 255 + most) // (2 * most)
+
+
+def kinds():
+    """(name, a picture, the same as a function to three octets) of all kinds of files, 19 by 11."""
+    size = (19, 11)
+    colours = [((k * 37) % 256, (k * 91) % 256, (k * 13) % 256) for k in range(256)]
+    table = make_kit.chunk(b"PLTE", bytes(sum(colours, ())))
+    holes = make_kit.chunk(b"tRNS", bytes((k * 50) % 256 for k in range(10)))
+    for depth in (1, 2, 4, 8, 16):
+        most = 2 ** depth - 1
+        grey = lambda x, y, most=most: ((x * 7919 + y * 104729) * 31 % (most + 1),)
+        due = lambda x, y, most=most, grey=grey: (to_octet(grey(x, y)[0], most),) * 3
+        for inter in (False, True):
+            yield "grey %d %s" % (depth, inter), png(*size, 0, depth, grey, b"", inter), due
+        if depth < 16:
+            yield ("palette %d" % depth, png(*size, 3, depth, grey, make_kit.chunk(
+                b"PLTE", bytes(sum(colours[:2 ** depth], ())))),
+                   lambda x, y, grey=grey: colours[grey(x, y)[0]])
+    yield ("palette with holes", png(*size, 3, 8, lambda x, y: ((x + y) % 30,), table + holes),
+           lambda x, y: flat(colours[(x + y) % 30],
+                             (x + y) % 30 * 50 % 256 if (x + y) % 30 < 10 else 255))
+    for depth in (2, 8, 16):     # one value stands for a hole
+        hole, most = (1 << depth - 1) + 1, 2 ** depth - 1
+        shade = lambda x, y, hole=hole: (hole if (x + y) % 3 else x % 2,)
+        clear = lambda x, y, shade=shade, most=most: (
+            (255,) * 3 if (x + y) % 3 else (to_octet(shade(x, y)[0], most),) * 3)
+        yield ("grey %d with a hole" % depth, png(*size, 0, depth, shade, make_kit.chunk(
+            b"tRNS", hole.to_bytes(2, "big"))), clear)
+        if depth > 2:
+            yield ("RGB %d with a hole" % depth, png(
+                *size, 2, depth, lambda x, y, shade=shade: shade(x, y) * 3,
+                make_kit.chunk(b"tRNS", hole.to_bytes(2, "big") * 3)), clear)
+    for depth in (8, 16):
+        most = 2 ** depth - 1
+        full = lambda x, y, most=most: tuple((x * 977 + y * 7001 + k * 4099) * 17 % (most + 1)
+                                             for k in range(4))
+        octets = lambda x, y, most=most, full=full: [to_octet(v, most) for v in full(x, y)]
+        yield ("RGB %d" % depth, png(*size, 2, depth, lambda x, y, full=full: full(x, y)[:3]),
+               lambda x, y, octets=octets: octets(x, y)[:3])
+        for inter in (False, True):
+            yield ("RGBA %d %s" % (depth, inter), png(*size, 6, depth, full, b"", inter),
+                   lambda x, y, octets=octets: flat(octets(x, y)[:3], octets(x, y)[3]))
+        yield ("grey and alpha %d" % depth,
+               png(*size, 4, depth, lambda x, y, full=full: full(x, y)[:2]),
+               lambda x, y, octets=octets: flat([octets(x, y)[0]] * 3, octets(x, y)[1]))
+    yield from pnm_kinds(size)
+
+
+def pnm_kinds(size):
+    """P1 to P5, and P6 with other highest values."""
+    width, height = size
+    places = [(x, y) for y in range(height) for x in range(width)]
+    bit = lambda x, y: (x * 3 + y * 5) % 7 < 3
+    plain = "".join("%d" % bit(*at) + ("\n" if at[0] == width - 1 else "") for at in places)
+    due = lambda x, y: (0,) * 3 if bit(x, y) else (255,) * 3
+    yield "P1", b"P1 # a comment\n# 9 9\n19\n11 " + plain.encode(), due
+    yield "P4", make_kit.pbm([[int(bit(x, y)) for x in range(width)] for y in range(height)]), due
+    for most in (1, 10, 255, 256, 1000, 65535):
+        value = lambda x, y, k=0, most=most: (x * 7919 + y * 104729 + k * 41) * 31 % (most + 1)
+        text = " ".join(str(value(*at)) for at in places)
+        yield ("P2 %d" % most, b"P2 19 11 #\r\n%d\n%s" % (most, text.encode()),
+               lambda x, y, value=value, most=most: (to_octet(value(x, y), most),) * 3)
+        octets = b"".join(value(*at).to_bytes(1 + (most > 255), "big") for at in places)
+        yield ("P5 %d" % most, b"P5 19 #\n#\n11\n%d\n%s" % (most, octets),
+               lambda x, y, value=value, most=most: (to_octet(value(x, y), most),) * 3)
+        triple = lambda x, y, value=value: [value(x, y, k) for k in range(3)]
+        colour = lambda x, y, triple=triple, most=most: [to_octet(v, most) for v in triple(x, y)]
+        text = "\n".join(str(v) for at in places for v in triple(*at))
+        yield "P3 %d" % most, b"P3\t19 11 %d\r%s\n" % (most, text.encode()), colour
+        octets = b"".join(v.to_bytes(1 + (most > 255), "big") for at in places for v in triple(*at))
+        yield "P6 %d" % most, b"P6 19 11 %d\n%s" % (most, octets), colour
+
+
+def check_kinds(tally, folder):
+    """Each kind of file gives the page of the same picture in P6, and as a mask that of a P4."""
+    image = "resolution 200\nwidth 30\nstripe\nheight 20\nbackground pic\n"
+    for name, octets, colour in kinds():
+        rows = [[int(2 * sum(colour(x, y)) < 765) for x in range(19)] for y in range(11)]
+        for what, plan, plain in (("image", image, make_kit.ppm(19, 11, colour)),
+                                  ("mask", "resolution 200\nstripe\nmask pic\n",
+                                   make_kit.pbm(rows))):
+            pages = []
+            for each in (plain, octets):
+                write(os.path.join(folder, "pic"), each)
+                status, _, wrong = make(folder, plan)
+                pages.append(read(os.path.join(folder, "p.page")) if status == 0 else wrong)
+            tally.check(pages[0] == pages[1] and isinstance(pages[0], bytes),
+                        "%s as %s gives another page: %s" % (name, what, pages[1][:200]))
+
+
+def check_stripes(tally, reader, folder):
+    """Several stripes of all choices of layers; names with blanks, from another folder."""
+    sub = os.path.join(folder, "a b")
+    os.makedirs(sub, exist_ok=True)
+    write(os.path.join(sub, "m #1.pbm"), make_kit.pbm(make_kit.strokes(40, 9)))
+    write(os.path.join(sub, "i.ppm"), make_kit.ppm(10, 6, make_kit.gradient(10, 6)))
+    write(os.path.join(folder, "a b", "p.plan"), """resolution 600#main
+coder mr\r
+width 40  # as the masks have it
+stripe
+  mask "m #1.pbm"
+stripe
+\tforeground none base FFFFFF
+background i.ppm at 65535 3 resolution 300
+mask "m #1.pbm"
+height 9
+stripe
+background none lab 9 8 7
+mask none
+foreground "%s/i.ppm" base 000000
+height 65000
+stripe
+mask "m #1.pbm"
+foreground "i.ppm" resolution 100
+background i.ppm base ffffff
+""" % os.path.abspath(sub))
+    status, told, wrong = make_kit.run(folder, "a b/p.plan", "-o", "p.page")
+    tally.check(status == 0 and wrong == "", "stripes: status %d, %s" % (status, wrong))
+    if status != 0:
+        return
+    mask, back = mask_record(2, 40, 9, 600), uncoded(600, WHITE)
+    stripes = [[back, mask, uncoded(600, BLACK)],
+               [(1, 65535, 3, 10, 6, 300, WHITE), mask, uncoded(600, WHITE)],
+               [uncoded(600, (9, 8, 7)), mask_record(0, 40, 65000, 600), (1, 0, 0, 10, 6, 600, BLACK)],
+               [(1, 0, 0, 10, 6, 600, WHITE), mask, (1, 0, 0, 10, 6, 100, BLACK)]]
+    due, size = due_records(stripes, told)
+    page = read(os.path.join(folder, "p.page"))
+    tally.check(listing(reader, page) == due and len(page) == size, "stripes: another page")
+    line = "stripe 3, layer 2: m #1.pbm, MR, 40 by 9 at 600, %d octets" % layer_sizes(told)[3, 2]
+    tally.check(line in told.splitlines(), "stripes: it tells %s" % told)
+
+
+def pencil_plan(folder, pairs):
+    """A stripe for each number of pairs; the plan, and (coder, rows) of each pencil mask."""
+    plan, masks = "resolution 400\ncoder mh\nwidth 50\n", {}
+    for stripe, count in enumerate(pairs):
+        plan += "stripe\nmask m.pbm\n"
+        for pair in range(count):
+            coder = list(CODERS)[(stripe + pair) % 4]
+            rows = make_kit.strokes(20 + 9 * pair + stripe, 5 + pair, 1 + stripe)
+            name = "s%d_%d.pbm" % (stripe, pair)
+            write(os.path.join(folder, name), make_kit.pbm(rows))
+            masks[stripe, 4 + 2 * pair] = (coder, rows)
+            plan += "pencil-mask %s %s at %d %d resolution 200\npencil-image %s base FFFFFF\n" % (
+                name, "" if coder == "mh" else "coder " + coder, pair, stripe,
+                "i.ppm resolution 100" if pair % 2 else "none")
+    return plan, masks
+
+
+def check_pencil(tally, folder, finder):
+    """Sheets of 3 to 15 layers, their data found by the reference and decoded outside."""
+    write(os.path.join(folder, "m.pbm"), make_kit.pbm(make_kit.strokes(50, 8)))
+    write(os.path.join(folder, "i.ppm"), make_kit.ppm(12, 9, make_kit.gradient(12, 9)))
+    pairs = [1, 0, 6, 2, 3, 4, 5, 0]
+    plan, masks = pencil_plan(folder, pairs)
+    status, told, wrong = make(folder, plan, "--pencil", "p.sheet", "p.pencil")
+    tally.check(status == 0 and wrong == "", "pencil: status %d, %s" % (status, wrong))
+    if status != 0:
+        return
+    page, sheet, pencil = (read(os.path.join(folder, "p." + end))
+                           for end in ("page", "sheet", "pencil"))
+    tally.check(told.splitlines()[-1] == "written: p.page, %d octets; p.sheet, %d octets; p.pencil, "
+                "%d octets" % (len(page), len(sheet), len(pencil)), "pencil: it tells %s" % told)
+    places = [(s, layer) for s, count in enumerate(pairs) for layer in range(1, 4 + 2 * count)]
+    tally.check(len(sheet) == 28 * len(places), "pencil: a sheet of %d octets" % len(sheet))
+    answers = reference_run.data_many(finder, [(sheet, page, pencil, *at) for at in places])
+    sizes, at = layer_sizes(told), 0
+    for place, (line, part) in zip(places, answers):
+        source, start = ("1", at) if place[1] > 3 and sizes[place] else ("0", line.split()[-1])
+        tally.check(line == "done %d %s %s" % (sizes[place], source, start),
+                    "pencil: the data of %s is %s" % (place, line))
+        at += sizes[place] if place[1] > 3 else 0
+        if place in masks:
+            coder, rows = masks[place]
+            back = make_kit.decoded_mask(folder, coder, part, len(rows[0]), len(rows))
+            tally.check(back == make_kit.bits(rows) and "layer %d: s%d_%d.pbm, %s, %d by %d at 200, "
+                        % (place[1], place[0], place[1] // 2 - 2, SHOWN[coder], len(rows[0]),
+                           len(rows)) in told, "pencil: %s is another picture" % (place,))
+    tally.check(at == len(pencil), "pencil: the file has %d octets, not %d" % (len(pencil), at))
+
+
+def is_built(tally):
+    """The program, made anew from what stands here; the library is not made for it."""
+    if not os.path.exists(os.path.join(reference_run.ROOT, "build", "libspirerook.a")):
+        tally.check(False, "no build/libspirerook.a: make it first")
+        return False
+    clean = {key: value for key, value in os.environ.items() if not key.startswith("MAKE")}
+    done = subprocess.run(["make", "--no-print-directory", "-C", reference_run.ROOT,
+                           "build/spirerook-make"], env=clean, check=False,
+                          stdout=subprocess.PIPE, stderr=subprocess.STDOUT)
+    built = done.returncode == 0 and os.path.exists(make_kit.PROGRAM)
+    tally.check(built, "make build/spirerook-make: %s" % done.stdout.decode()[-500:])
+    return built
+
+
+def main():
+    seed = int(os.environ.get("SEED") or random.randrange(2 ** 32))
+    print("SEED=%d" % seed)
+    tally = reference_run.Tally()
+    subprocess.run(["bash", os.path.join(reference_run.ROOT, "tests", "need"), *make_kit.NEEDS],
+                   check=True)
+    if is_built(tally):
+        reader = reference_run.build("make_reader", parts=reference_run.READ)
+        finder = reference_run.build("make_finder", parts=reference_run.DATA)
+        with tempfile.TemporaryDirectory() as folder:
+            check_masks(tally, reader, folder, random.Random(seed))
+            check_images(tally, reader, folder)
+            check_time(tally, folder, random.Random(seed))
+            check_kinds(tally, folder)
+            check_stripes(tally, reader, folder)
+            check_pencil(tally, folder, finder)
+        make_mistakes.check_all(tally, random.Random(seed))
+    return tally.end()
+
+
+if __name__ == "__main__":
+    sys.exit(main())
