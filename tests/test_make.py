@@ -125,6 +125,35 @@ def check_images(tally, reader, folder):
                     "JPEG %s begins %s" % (words, jpeg[:20].hex()))
 
 
+def lab_of(srgb):
+    """Codes in T.42's default range, not rounded: sRGB to CIELAB under D50 (Bradford)."""
+    light = [v / 255 / 12.92 if v <= 10 else ((v / 255 + 0.055) / 1.055) ** 2.4 for v in srgb]
+    rows = ((0.4360747, 0.3850649, 0.1430804, 0.96422), (0.2225045, 0.7168786, 0.0606169, 1.0),
+            (0.0139322, 0.0971045, 0.7141733, 0.82521))
+    ratios = [sum(a * b for a, b in zip(row, light)) / row[3] for row in rows]
+    x, y, z = (t ** (1 / 3) if t > 216 / 24389 else t * 841 / 108 + 4 / 29 for t in ratios)
+    exact = ((116 * y - 16) * 2.55, 128 + 500 * (x - y) * 1.5, 96 + 200 * (y - z) * 1.275)
+    return [min(max(value, 0), 255) for value in exact]
+
+
+def check_colours(tally, folder, rng):
+    """Blocks of one colour each come back as the nearest codes: at quality 100 JPEG keeps them."""
+    colours = [(255, 255, 255), (0, 0, 0), (255, 0, 0), (0, 255, 0), (0, 0, 255), (10, 11, 12)]
+    colours += [tuple(rng.randbytes(3)) for _ in range(58)]
+    write(os.path.join(folder, "blocks.ppm"), make_kit.ppm(
+        64, 64, lambda x, y: colours[y // 8 * 8 + x // 8]))
+    status, _, wrong = make(folder, "resolution 200\nwidth 64\nstripe\nheight 64\n"
+                            "background blocks.ppm quality 100\n")
+    tally.check(status == 0, "blocks of colours: %s" % wrong)
+    got = make_kit.codes(folder, read(os.path.join(folder, "p.page"))[61:-4])
+    tally.check(len(got) == 64 * 64 * 3, "blocks of colours: %d octets" % len(got))
+    for k, colour in enumerate(colours if len(got) == 64 * 64 * 3 else []):
+        at = (k // 8 * 8 * 64 + k % 8 * 8) * 3
+        due = lab_of(colour)
+        tally.check(all(abs(a - b) < 0.501 for a, b in zip(got[at:at + 3], due)),
+                    "colour %s: codes %s, not %s" % (colour, list(got[at:at + 3]), due))
+
+
 def check_time(tally, folder, rng):
     """Eight million samples of some 200,000 colours take about a second of a processor."""
     rows = [rng.randbytes(12000) for _ in range(50)]
@@ -353,6 +382,7 @@ def main():
         with tempfile.TemporaryDirectory() as folder:
             check_masks(tally, reader, folder, random.Random(seed))
             check_images(tally, reader, folder)
+            check_colours(tally, folder, random.Random(seed))
             check_time(tally, folder, random.Random(seed))
             check_kinds(tally, folder)
             check_stripes(tally, reader, folder)
