@@ -1,4 +1,4 @@
-.PHONY: all test demo pictures view-objects bench faults fuzz install uninstall clean
+.PHONY: all test demo pictures view-objects bench faults fuzz install install-programs uninstall clean
 .NOTPARALLEL:
 
 # the header has the version, since C programs can ask for it there; names of shared objects and pkg-config repeat it
@@ -7,6 +7,8 @@ MAJOR := $(firstword $(subst ., ,$(VERSION)))
 PREFIX = /usr/local
 LIBDIR = $(PREFIX)/lib
 INCLUDEDIR = $(PREFIX)/include
+BINDIR = $(PREFIX)/bin
+PROGRAMS = spirerook-view spirerook-make
 
 # the programs over the library: host/NAME.c each
 VIEW = $(addprefix view/,view options book layers decode decode_fax decode_t85 decode_jpeg picture screen) colour file
@@ -63,8 +65,12 @@ build/libspirerook.so: build/libspirerook.a
 		-Wl,--whole-archive build/libspirerook.a -Wl,--no-whole-archive
 	ln -sf libspirerook.so $@.$(MAJOR)
 
-build/host/%.o: host/%.c $(wildcard host/*.h host/*/*.h) include/spirerook.h
+build/host/needs: tests/need
 	@bash tests/need cc:gcc stdio.h:libc6-dev jpeglib.h:libjpeg62-turbo-dev tiffio.h:libtiff-dev jbig85.h:libjbig-dev png.h:libpng-dev zlib.h:zlib1g-dev
+	@mkdir -p $(@D)
+	@touch $@
+
+build/host/%.o: host/%.c $(wildcard host/*.h host/*/*.h) include/spirerook.h | build/host/needs
 	@mkdir -p $(@D)
 	$(HOST_C) -c -o $@ $<
 
@@ -89,6 +95,13 @@ install: all
 	sed -e 's|@PREFIX@|$(PREFIX)|' -e 's|@LIBDIR@|$(LIBDIR)|' -e 's|@INCLUDEDIR@|$(INCLUDEDIR)|' -e 's|@VERSION@|$(VERSION)|' \
 		spirerook.pc.in >"$(DESTDIR)$(LIBDIR)/pkgconfig/spirerook.pc"
 
+# the viewer and the page maker, which need more of the system than the library does
+install-programs: $(PROGRAMS:%=build/%)
+	@case "$(BINDIR)" in /*) ;; *) echo "install: PREFIX must be an absolute path, not '$(PREFIX)'" >&2; exit 1 ;; esac
+	install -d "$(DESTDIR)$(BINDIR)"
+	install -m 755 $^ "$(DESTDIR)$(BINDIR)"
+
 uninstall:
+	rm -f $(PROGRAMS:%="$(DESTDIR)$(BINDIR)/%")
 	rm -f "$(DESTDIR)$(INCLUDEDIR)/spirerook.h" "$(DESTDIR)$(LIBDIR)/pkgconfig/spirerook.pc" "$(DESTDIR)$(LIBDIR)/libspirerook.a"
 	rm -f "$(DESTDIR)$(LIBDIR)/libspirerook.so" "$(DESTDIR)$(LIBDIR)/libspirerook.so.$(MAJOR)" "$(DESTDIR)$(LIBDIR)/libspirerook.so.$(VERSION)"

@@ -120,6 +120,21 @@ def check_staged(tally, folder):
     tally.check(status != 0 and "must be an absolute path" in told, "a relative prefix: %s" % told)
 
 
+def check_programs(tally, folder):
+    """The viewer and the page maker run where they are put, and are taken away again."""
+    prefix = os.path.join(folder, "programs")
+    status, told = make("install-programs", "PREFIX=" + prefix)
+    tally.check(status == 0 and files_below(prefix) == ["bin/spirerook-make", "bin/spirerook-view"],
+                "make install-programs: %s %s" % (files_below(prefix), told[-300:]))
+    for name in files_below(prefix):
+        ran = subprocess.run([os.path.join(prefix, name), "--version"], check=False,
+                             stdout=subprocess.PIPE)
+        words = ran.stdout.decode().split()
+        tally.check(ran.returncode == 0 and words[:1] == [os.path.basename(name)], "%s: %s" % (name, ran))
+    make("uninstall", "PREFIX=" + prefix)
+    tally.check(files_below(prefix) == [], "make uninstall leaves %s" % files_below(prefix))
+
+
 def main():
     tally = reference_run.Tally()
     if not os.path.exists(os.path.join(reference_run.ROOT, "build", "libspirerook.a")):
@@ -131,6 +146,7 @@ def main():
     with tempfile.TemporaryDirectory() as folder:
         check_install(tally, folder)
         check_staged(tally, folder)
+        check_programs(tally, folder)
     return tally.end()
 
 

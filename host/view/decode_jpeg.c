@@ -74,6 +74,22 @@ static void read_row(struct jpeg_decompress_struct *decoder, uint8_t *samples)
     }
 }
 
+/* libjpeg says nothing where scans are missing at the end: each component must have come, in a progressive picture to its last bit. */
+static bool all_came(const struct jpeg_decompress_struct *decoder)
+{
+    for (int c = 0; c < decoder->num_components; c++) {
+        if (decoder->comp_info[c].quant_table == NULL) {
+            return false;
+        }
+        for (int k = 0; decoder->coef_bits != NULL && k < DCTSIZE2; k++) {
+            if (decoder->coef_bits[c][k] != 0) {
+                return false;
+            }
+        }
+    }
+    return true;
+}
+
 static finding read_picture(struct jpeg_decompress_struct *decoder, const coded_layer *layer, uint8_t *samples)
 {
     jpeg_read_header(decoder, TRUE);
@@ -88,8 +104,9 @@ static finding read_picture(struct jpeg_decompress_struct *decoder, const coded_
     while (decoder->output_scanline < decoder->output_height) {
         read_row(decoder, samples + (size_t)3 * layer->width * decoder->output_scanline);
     }
+    bool whole = all_came(decoder);
     jpeg_finish_decompress(decoder);
-    return decoder->src->bytes_in_buffer == 0 ? LAYER_READ : LAYER_DAMAGED;
+    return whole && decoder->src->bytes_in_buffer == 0 ? LAYER_READ : LAYER_DAMAGED;
 }
 
 finding decode_jpeg(const coded_layer *layer, uint8_t *samples, size_t memory)

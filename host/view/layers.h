@@ -6,7 +6,7 @@
 #include "decoders.h"
 
 /* No page keeps the viewer over a minute: a decoder has so long, all of a page's together so long, and lines are composed so long. */
-enum { DECODER_SECONDS = 10, DECODERS_SECONDS = 25, COMPOSING_SECONDS = 50 };
+enum { DECODER_SECONDS = 10, DECODERS_SECONDS = 25, COMPOSING_SECONDS = 45 };
 
 /* What was read of a stripe: samples in memory of their own, and the plane list over them. */
 typedef struct {

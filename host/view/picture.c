@@ -8,7 +8,7 @@
 #include <zlib.h>
 
 /* More effort than this costs time and saves little: pages are paper and text.  A run of fewer rows is not worth the break that it makes. */
-enum { EFFORT = 3, LONG_RUN = 32, ROOM = 1 << 18, FILTER_UP = 2, RAW = -15 };
+enum { EFFORT = 3, LONG_RUN = 8, ROOM = 1 << 18, FILTER_UP = 2, RAW = -15 };
 
 struct picture {
     FILE *file;
@@ -37,7 +37,7 @@ static bool put_chunk(picture *made, const char *name, const uint8_t *octets, si
     memcpy(head + 4, name, 4);
     uLong sum = crc32(crc32(0, NULL, 0), head + 4, 4);
     put4(foot, (uint32_t)(count == 0 ? sum : crc32(sum, octets, (uInt)count)));
-    return fwrite(head, 1, 8, made->file) == 8 && fwrite(octets, 1, count, made->file) == count && fwrite(foot, 1, 4, made->file) == 4;
+    return fwrite(head, 1, 8, made->file) == 8 && (count == 0 || fwrite(octets, 1, count, made->file) == count) && fwrite(foot, 1, 4, made->file) == 4;
 }
 
 static bool empty_room(picture *made)
