@@ -37,6 +37,15 @@ static void watch_signals(void)
     }
 }
 
+void hold_standard_files(void)
+{
+    for (int number = 0; number <= STDERR_FILENO; number++) {
+        if (fcntl(number, F_GETFD) < 0 && open("/dev/null", O_RDONLY) < 0) {
+            _exit(EXIT_FAILURE);
+        }
+    }
+}
+
 const char *read_file(const char *name, size_t most, whole_file *file)
 {
     FILE *from = fopen(name, "rb");

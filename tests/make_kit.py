@@ -16,7 +16,27 @@ CODERS = {"mh": 1, "mr": 2, "mmr": 4, "t85": 8}
 SHOWN = {"mh": "MH", "mr": "MR", "mmr": "MMR", "t85": "T.85"}
 ADAM7 = [(0, 0, 8, 8), (4, 0, 8, 8), (0, 4, 4, 8), (2, 0, 4, 4), (0, 2, 2, 4), (1, 0, 2, 2),
          (0, 1, 1, 2)]
-CHANNELS = {0: 1, 2: 3, 3: 1, 4: 2, 6: 4}
+CODES = r"""#include <stdio.h>
+#include <jpeglib.h>
+int main(void)
+{
+    static JSAMPLE samples[65500 * 3];
+    JSAMPROW row = samples;
+    struct jpeg_decompress_struct jpeg;
+    struct jpeg_error_mgr errors;
+    jpeg.err = jpeg_std_error(&errors);
+    jpeg_create_decompress(&jpeg);
+    jpeg_stdio_src(&jpeg, stdin);
+    jpeg_read_header(&jpeg, TRUE);
+    jpeg.jpeg_color_space = jpeg.out_color_space = JCS_YCbCr;
+    jpeg_start_decompress(&jpeg);
+    while (jpeg.output_scanline < jpeg.output_height) {
+        jpeg_read_scanlines(&jpeg, &row, 1);
+        fwrite(samples, 3, jpeg.output_width, stdout);
+    }
+    return errors.num_warnings != 0;
+}
+"""
 
 
 def write(path, octets):
@@ -114,14 +134,18 @@ def make(folder, plan, *words, name="p.plan", **kept):
 
 # ---- outside decoders
 
-def outside(words):
-    return subprocess.run(words, check=True, stdout=subprocess.PIPE,
-                          stderr=subprocess.DEVNULL).stdout
+def outside(words, octets=b""):
+    """What a program writes; nothing where it fails."""
+    done = subprocess.run(words, check=False, input=octets, stdout=subprocess.PIPE,
+                          stderr=subprocess.DEVNULL)
+    return done.stdout if done.returncode == 0 else b""
 
 
 def rows_of_pbm(octets, height):
-    """The octets of the first rows of a P4."""
+    """The octets of the first rows of a P4; none of anything else."""
     head = re.match(rb"P4\s+(\d+)\s+\d+\s", octets)
+    if head is None:
+        return b""
     room = (int(head[1]) + 7) // 8
     return octets[head.end():head.end() + room * height]
 
@@ -143,8 +167,17 @@ def decoded_image(folder, octets):
     write(names[0], octets)
     outside(["jpgicc", "-q100", *names])
     octets = outside(["djpeg", "-ppm", names[1]])
-    width, height = map(int, octets.split(None, 3)[1:3])
-    return octets[len(octets) - 3 * width * height:]
+    head = re.match(rb"P6\s+\d+\s+\d+\s+255\s", octets)
+    return octets[head.end():] if head else b""
+
+
+def codes(folder, octets):
+    """The samples of a JPEG as they stand, by libjpeg."""
+    program = os.path.join(folder, "codes")
+    if not os.path.exists(program):
+        subprocess.run(["cc", "-x", "c", "-", "-o", program, "-ljpeg"], check=True,
+                       input=CODES.encode())
+    return outside([program], octets)
 
 
 def error(one, other):

@@ -134,6 +134,19 @@ OPTIONS = [
 ]
 
 
+# a file named "fails" cannot take its place
+NO_RENAME = r"""#include <errno.h>
+#include <fcntl.h>
+#include <stdio.h>
+#include <string.h>
+int rename(const char *from, const char *to)
+{
+    errno = EIO;
+    return strstr(to, "fails") != NULL ? -1 : renameat(AT_FDCWD, from, AT_FDCWD, to);
+}
+"""
+
+
 def pictures(folder, rng):
     write(os.path.join(folder, "m.pbm"), make_kit.pbm(make_kit.strokes(40, 9)))
     write(os.path.join(folder, "n.pbm"), make_kit.pbm(make_kit.strokes(39, 9)))
@@ -260,6 +273,16 @@ def check_outputs(tally, folder):
     with open("/dev/full", "wb") as full:
         ran = run(folder, "o.plan", "-o", "x", "--pencil", "s", "f", stdout=full)
     check_refusal(tally, folder, "a full standard output", ran, 1, "standard output cannot be written")
+    shim = os.path.join(folder, "no_rename.so")
+    subprocess.run(["cc", "-shared", "-fPIC", "-x", "c", "-", "-o", shim], check=True,
+                   input=NO_RENAME.encode())
+    for names in (("fails", "s", "f"), ("x", "fails", "f"), ("x", "s", "fails")):
+        ran = run(folder, "o.plan", "-o", names[0], "--pencil", *names[1:],
+                  env=dict(os.environ, LD_PRELOAD=shim))
+        tally.check(ran[0] == 1 and ran[2] == "spirerook-make: fails: Input/output error\n",
+                    "%s: %s" % (names, ran))
+        left = [name for name in os.listdir(folder) if name[0] in "xsf"]
+        tally.check(left == [], "%s leave %s" % (names, left))
     ran = run(folder, "o.plan", "-o", "old", "--pencil", "s", "f")
     tally.check(ran[0] == 0 and len(read(os.path.join(folder, "old"))) > 100, "over an old file")
     for name in ("s", "f", "old"):

@@ -1,7 +1,8 @@
 """spirerook-make: what it codes is decoded by outside programs, its pages and sheets are read by the
 reference, and each mistake has its message and status.
 
-make_kit.py has the pictures and decoders, make_mistakes.py the mistakes and the damaged files.
+make_kit.py has the pictures and decoders, make_kinds.py the kinds of files, make_mistakes.py the
+mistakes and the damaged files.
 SEED makes a run again.
 """
 
@@ -15,10 +16,11 @@ import tempfile
 import make_kit
 import make_mistakes
 import reference_run
-from make_kit import CODERS, SHOWN, make, png, read, write
+from make_kinds import kinds
+from make_kit import CODERS, SHOWN, make, read, write
 
 WHITE, BLACK = (255, 128, 96), (0, 128, 96)
-SIZES = [(1, 1), (7, 3), (8, 2), (33, 130), (208, 60), (1728, 40), (2336, 17)]
+SIZES = [(1, 1), (7, 3), (33, 130), (208, 60), (1728, 40)]
 
 
 def listing(reader, page):
@@ -125,6 +127,35 @@ def check_images(tally, reader, folder):
                     "JPEG %s begins %s" % (words, jpeg[:20].hex()))
 
 
+def lab_of(srgb):
+    """Codes in T.42's default range, not rounded: sRGB to CIELAB under D50 (Bradford)."""
+    light = [v / 255 / 12.92 if v <= 10 else ((v / 255 + 0.055) / 1.055) ** 2.4 for v in srgb]
+    rows = ((0.4360747, 0.3850649, 0.1430804, 0.96422), (0.2225045, 0.7168786, 0.0606169, 1.0),
+            (0.0139322, 0.0971045, 0.7141733, 0.82521))
+    ratios = [sum(a * b for a, b in zip(row, light)) / row[3] for row in rows]
+    x, y, z = (t ** (1 / 3) if t > 216 / 24389 else t * 841 / 108 + 4 / 29 for t in ratios)
+    exact = ((116 * y - 16) * 2.55, 128 + 500 * (x - y) * 1.5, 96 + 200 * (y - z) * 1.275)
+    return [min(max(value, 0), 255) for value in exact]
+
+
+def check_colours(tally, folder, rng):
+    """Blocks of one colour each come back as the nearest codes: at quality 100 JPEG keeps them."""
+    colours = [(255, 255, 255), (0, 0, 0), (255, 0, 0), (0, 255, 0), (0, 0, 255), (10, 11, 12)]
+    colours += [tuple(rng.randbytes(3)) for _ in range(58)]
+    write(os.path.join(folder, "blocks.ppm"), make_kit.ppm(
+        64, 64, lambda x, y: colours[y // 8 * 8 + x // 8]))
+    status, _, wrong = make(folder, "resolution 200\nwidth 64\nstripe\nheight 64\n"
+                            "background blocks.ppm quality 100\n")
+    tally.check(status == 0, "blocks of colours: %s" % wrong)
+    got = make_kit.codes(folder, read(os.path.join(folder, "p.page"))[61:-4])
+    tally.check(len(got) == 64 * 64 * 3, "blocks of colours: %d octets" % len(got))
+    for k, colour in enumerate(colours if len(got) == 64 * 64 * 3 else []):
+        at = (k // 8 * 8 * 64 + k % 8 * 8) * 3
+        due = lab_of(colour)
+        tally.check(all(abs(a - b) < 0.501 for a, b in zip(got[at:at + 3], due)),
+                    "colour %s: codes %s, not %s" % (colour, list(got[at:at + 3]), due))
+
+
 def check_time(tally, folder, rng):
     """Eight million samples of some 200,000 colours take about a second of a processor."""
     rows = [rng.randbytes(12000) for _ in range(50)]
@@ -137,86 +168,6 @@ def check_time(tally, folder, rng):
     tally.check(status == 0 and spent < 4, "a big image: status %d, %s, %.1f s" % (
         status, wrong, spent))
     os.remove(os.path.join(folder, "big.ppm"))
-
-
-def flat(colour, alpha):
-    """On white, to the nearest."""
-    return tuple((value * alpha + 255 * (255 - alpha) + 127) // 255 for value in colour)
-
-
-def to_octet(value, most):
-    return (2 * value * 255 + most) // (2 * most)
-
-
-def kinds():
-    """(name, a picture, the same as a function to three octets) of all kinds of files, 19 by 11."""
-    size = (19, 11)
-    colours = [((k * 37) % 256, (k * 91) % 256, (k * 13) % 256) for k in range(256)]
-    table = make_kit.chunk(b"PLTE", bytes(sum(colours, ())))
-    holes = make_kit.chunk(b"tRNS", bytes((k * 50) % 256 for k in range(10)))
-    for depth in (1, 2, 4, 8, 16):
-        most = 2 ** depth - 1
-        grey = lambda x, y, most=most: ((x * 7919 + y * 104729) * 31 % (most + 1),)
-        due = lambda x, y, most=most, grey=grey: (to_octet(grey(x, y)[0], most),) * 3
-        for inter in (False, True):
-            yield "grey %d %s" % (depth, inter), png(*size, 0, depth, grey, b"", inter), due
-        if depth < 16:
-            yield ("palette %d" % depth, png(*size, 3, depth, grey, make_kit.chunk(
-                b"PLTE", bytes(sum(colours[:2 ** depth], ())))),
-                   lambda x, y, grey=grey: colours[grey(x, y)[0]])
-    yield ("palette with holes", png(*size, 3, 8, lambda x, y: ((x + y) % 30,), table + holes),
-           lambda x, y: flat(colours[(x + y) % 30],
-                             (x + y) % 30 * 50 % 256 if (x + y) % 30 < 10 else 255))
-    for depth in (2, 8, 16):     # one value stands for a hole
-        hole, most = (1 << depth - 1) + 1, 2 ** depth - 1
-        shade = lambda x, y, hole=hole: (hole if (x + y) % 3 else x % 2,)
-        clear = lambda x, y, shade=shade, most=most: (
-            (255,) * 3 if (x + y) % 3 else (to_octet(shade(x, y)[0], most),) * 3)
-        yield ("grey %d with a hole" % depth, png(*size, 0, depth, shade, make_kit.chunk(
-            b"tRNS", hole.to_bytes(2, "big"))), clear)
-        if depth > 2:
-            yield ("RGB %d with a hole" % depth, png(
-                *size, 2, depth, lambda x, y, shade=shade: shade(x, y) * 3,
-                make_kit.chunk(b"tRNS", hole.to_bytes(2, "big") * 3)), clear)
-    for depth in (8, 16):
-        most = 2 ** depth - 1
-        full = lambda x, y, most=most: tuple((x * 977 + y * 7001 + k * 4099) * 17 % (most + 1)
-                                             for k in range(4))
-        octets = lambda x, y, most=most, full=full: [to_octet(v, most) for v in full(x, y)]
-        yield ("RGB %d" % depth, png(*size, 2, depth, lambda x, y, full=full: full(x, y)[:3]),
-               lambda x, y, octets=octets: octets(x, y)[:3])
-        for inter in (False, True):
-            yield ("RGBA %d %s" % (depth, inter), png(*size, 6, depth, full, b"", inter),
-                   lambda x, y, octets=octets: flat(octets(x, y)[:3], octets(x, y)[3]))
-        yield ("grey and alpha %d" % depth,
-               png(*size, 4, depth, lambda x, y, full=full: full(x, y)[:2]),
-               lambda x, y, octets=octets: flat([octets(x, y)[0]] * 3, octets(x, y)[1]))
-    yield from pnm_kinds(size)
-
-
-def pnm_kinds(size):
-    """P1 to P5, and P6 with other highest values."""
-    width, height = size
-    places = [(x, y) for y in range(height) for x in range(width)]
-    bit = lambda x, y: (x * 3 + y * 5) % 7 < 3
-    plain = "".join("%d" % bit(*at) + ("\n" if at[0] == width - 1 else "") for at in places)
-    due = lambda x, y: (0,) * 3 if bit(x, y) else (255,) * 3
-    yield "P1", b"P1 # a comment\n# 9 9\n19\n11 " + plain.encode(), due
-    yield "P4", make_kit.pbm([[int(bit(x, y)) for x in range(width)] for y in range(height)]), due
-    for most in (1, 10, 255, 256, 1000, 65535):
-        value = lambda x, y, k=0, most=most: (x * 7919 + y * 104729 + k * 41) * 31 % (most + 1)
-        text = " ".join(str(value(*at)) for at in places)
-        yield ("P2 %d" % most, b"P2 19 11 #\r\n%d\n%s" % (most, text.encode()),
-               lambda x, y, value=value, most=most: (to_octet(value(x, y), most),) * 3)
-        octets = b"".join(value(*at).to_bytes(1 + (most > 255), "big") for at in places)
-        yield ("P5 %d" % most, b"P5 19 #\n#\n11\n%d\n%s" % (most, octets),
-               lambda x, y, value=value, most=most: (to_octet(value(x, y), most),) * 3)
-        triple = lambda x, y, value=value: [value(x, y, k) for k in range(3)]
-        colour = lambda x, y, triple=triple, most=most: [to_octet(v, most) for v in triple(x, y)]
-        text = "\n".join(str(v) for at in places for v in triple(*at))
-        yield "P3 %d" % most, b"P3\t19 11 %d\r%s\n" % (most, text.encode()), colour
-        octets = b"".join(v.to_bytes(1 + (most > 255), "big") for at in places for v in triple(*at))
-        yield "P6 %d" % most, b"P6 19 11 %d\n%s" % (most, octets), colour
 
 
 def check_kinds(tally, folder):
@@ -295,7 +246,33 @@ def pencil_plan(folder, pairs):
     return plan, masks
 
 
-def check_pencil(tally, folder, finder):
+def pencil_record(masks, place, start, length):
+    """The record due of a pencil layer of pencil_plan."""
+    stripe, layer = place
+    if place in masks:
+        coder, rows = masks[place]
+        box = (CODERS[coder], layer // 2 - 2, stripe, len(rows[0]), len(rows), 200, 0, 0, 0)
+    else:
+        box = (1, 0, 0, 12, 9, 100, *WHITE) if length else (*uncoded(400, WHITE)[:6], *WHITE)
+    return [stripe, layer, *box, start if length else 0, length]
+
+
+def check_pencil_records(tally, masks, sheet, page_records, sizes):
+    """Layers 1 to 3 are the page's own records, the others those of the plan."""
+    lister = reference_run.build("reference_list", parts=reference_run.LIST)
+    rows = [list(map(int, line.split()))
+            for line in reference_run.run(lister, sheet)[0].splitlines()]
+    tally.check([row for row in rows if row[1] <= 3] == page_records,
+                "pencil: the page's own records differ")
+    at = 0
+    for row in (row for row in rows if row[1] > 3):
+        place = (row[0], row[1])
+        due = pencil_record(masks, place, at, sizes[place])
+        tally.check(row == due, "pencil: record %s, not %s" % (row, due))
+        at += sizes[place]
+
+
+def check_pencil(tally, folder, reader, finder):
     """Sheets of 3 to 15 layers, their data found by the reference and decoded outside."""
     write(os.path.join(folder, "m.pbm"), make_kit.pbm(make_kit.strokes(50, 8)))
     write(os.path.join(folder, "i.ppm"), make_kit.ppm(12, 9, make_kit.gradient(12, 9)))
@@ -313,6 +290,7 @@ def check_pencil(tally, folder, finder):
     tally.check(len(sheet) == 28 * len(places), "pencil: a sheet of %d octets" % len(sheet))
     answers = reference_run.data_many(finder, [(sheet, page, pencil, *at) for at in places])
     sizes, at = layer_sizes(told), 0
+    check_pencil_records(tally, masks, sheet, listing(reader, page), sizes)
     for place, (line, part) in zip(places, answers):
         source, start = ("1", at) if place[1] > 3 and sizes[place] else ("0", line.split()[-1])
         tally.check(line == "done %d %s %s" % (sizes[place], source, start),
@@ -353,10 +331,11 @@ def main():
         with tempfile.TemporaryDirectory() as folder:
             check_masks(tally, reader, folder, random.Random(seed))
             check_images(tally, reader, folder)
+            check_colours(tally, folder, random.Random(seed))
             check_time(tally, folder, random.Random(seed))
             check_kinds(tally, folder)
             check_stripes(tally, reader, folder)
-            check_pencil(tally, folder, finder)
+            check_pencil(tally, folder, reader, finder)
         make_mistakes.check_all(tally, random.Random(seed))
     return tally.end()
 

@@ -187,6 +187,7 @@ int main(int count, char **words)
 {
     options given = {NULL, NULL, NULL, NULL};
     trouble what;
+    hold_standard_files();
     if (count == 2 && strcmp(words[1], "--help") == 0) {
         return fputs(help, stdout) == EOF || fflush(stdout) != 0;
     }

@@ -295,6 +295,7 @@ int main(int count, char **words)
 {
     static options asked;
     static book opened;
+    hold_standard_files();
     options_answer answer = read_options(count, words, &asked);
     int status = answer == OPTIONS_GOOD ? view(&asked, &opened) : answer == OPTIONS_BAD ? STATUS_BAD_OPTION : STATUS_WHOLE;
     if (fflush(stdout) != 0) {
