@@ -1,7 +1,6 @@
 """The viewer's options and limits, as docs/VIEWER.md promises them: bad words, little memory, large
 pages, slow decoders, places that cannot be written, signals."""
 
-import concurrent.futures
 import os
 import random
 import re
@@ -10,7 +9,6 @@ import shutil
 import signal
 import subprocess
 import sys
-import tempfile
 import time
 
 import page_making
@@ -20,25 +18,10 @@ import test_view
 import view_crafted
 import view_making
 import view_reference
-from view_making import END, VIEW, Coders, Shown, write
+from view_crafted import jpeg_page, mask_page
+from view_making import END, VIEW, Coders, Shown, bounded, children, is_alive, used_by, write
 
 MIB = 1 << 20
-
-
-def jpeg_page(*jpegs, main=1200, width=60, height=40):
-    """A stripe of background for each."""
-    page = page_making.start(main=main, width=width)
-    for jpeg in jpegs:
-        page += page_making.stripe(type=1, x1=0, y1=0, height=height) + jpeg
-    return page + END
-
-
-def mask_page(coder, *masks, width, height):
-    """A stripe with only a mask for each."""
-    page = page_making.start(mask=coder, width=width)
-    for mask in masks:
-        page += page_making.stripe(type=2, height=height, mask=len(mask)) + mask
-    return page + END
 
 
 class Folder:
@@ -46,7 +29,7 @@ class Folder:
 
     def __init__(self):
         self.coders = Coders()
-        rng = random.Random(1)
+        rng = random.Random(7)
         self.model = view_making.Page(60, 400, 4)
         for kind in (3, 2):
             self.model.add(view_making.random_stripe(rng, self.coders, self.model, 30, kind, 5), 30)
@@ -177,7 +160,7 @@ def check_pencil(tally, folder):
     tally.check(shown.status == 1 and shown.wrong.startswith(
         "%s: refused: BadSheet (14) at record %d" % (words[2], len(sheet) // 28 - 1)), shown.wrong)
     write(words[2], sheet)
-    last = folder.model.coded()[-1]
+    last = [place for place in folder.model.coded() if place[1].number > 3][-1]
     write(words[3], pencil[:-1])
     shown = Shown(words)
     tally.check("stripe %d, layer %d" % (last[0], last[1].number) in shown.told and re.search(
@@ -189,14 +172,14 @@ def check_pencil(tally, folder):
 # Memory
 
 def check_memory(tally, folder):
-    """A mask of 6,000 samples fits, the image of over 60,000 octets does not."""
+    """A mask of 6,000 samples fits, the image of 72,000 octets does not."""
     layers = view_making.three(400)
     rng = random.Random(2)
     folder.coders.code(layers[1], 4, view_making.random_mask(rng, 100, 60))
     folder.coders.code(layers[0], 1, view_making.random_image(rng, 200, 120, [(9, 9, 9)]))
     page = view_making.Page(100, 400, 4).add(layers, 60)
     write(folder.page, page.octets())
-    for memory, fits in (("6000", False), ("10K", False), ("77999", False), ("78000", True)):
+    for memory, fits in (("6000", False), ("10K", False), ("71999", False), ("78000", True)):
         layers[0].unread = not fits
         shown = Shown([folder.page, "-o", folder.out, "--memory", memory], folder.out)
         found = view_reference.compared(test_view.due_lines(page), view_reference.Png(shown.out))
@@ -204,41 +187,25 @@ def check_memory(tally, folder):
                     and shown.status == (0 if fits else 3),
                     "--memory %s: %s %s" % (memory, found.first, shown.told))
         tally.check(fits or re.search("layer 1: .*UNREAD: .*--memory", shown.told), shown.told)
+    # lower layers come first: the image fits, and then the mask does not
+    layers[0].unread, layers[1].unread = False, True
+    shown = Shown([folder.page, "-o", folder.out, "--memory", "77999"], folder.out)
+    found = view_reference.compared(test_view.due_lines(page), view_reference.Png(shown.out))
+    tally.check(found.wrong == 0 and re.search("layer 2: .*UNREAD: .*--memory", shown.told),
+                "--memory 77999: %s %s" % (found.first, shown.told))
     write(folder.page, folder.octets)
-
-
-def bounded(kind, bound):
-    return lambda: resource.setrlimit(kind, (bound, bound))
 
 
 def check_address_space(tally, folder):
     mask = view_crafted.white_mmr(30000)
     page = folder.new("large.page", mask_page(4, mask, width=32768, height=30000))
-    for megabytes in (200, 40, 12):
+    for megabytes in (200, 12):
         shown = Shown([page], preexec_fn=bounded(resource.RLIMIT_AS, megabytes * MIB))
         unread = re.search(r"layer 2: .*UNREAD: there is no memory for", shown.told)
         refused = re.fullmatch(r"[^\n]*memory[^\n]*\n", shown.wrong)
         tally.check((shown.status == 3 and unread) or (shown.status in (1, 127) and shown.wrong
-                                                       and (refused or megabytes < 40)),
+                                                       and (refused or megabytes == 12)),
                     "with %d MB: status %s, %s %s" % (megabytes, shown.status, shown.told, shown.wrong))
-
-
-def peak(words, seconds=70):
-    """(status, seconds, peak of resident memory in octets, words) of a run."""
-    with tempfile.TemporaryFile() as told:
-        began = time.monotonic()
-        run = subprocess.Popen([VIEW, *words], stdout=told, stderr=subprocess.STDOUT)
-        watch = concurrent.futures.ThreadPoolExecutor(1)
-        ended = watch.submit(os.wait4, run.pid, 0)
-        try:
-            _, status, used = ended.result(seconds)
-        except concurrent.futures.TimeoutError:
-            run.kill()
-            _, status, used = ended.result()
-        spent = time.monotonic() - began
-        run.returncode = os.waitstatus_to_exitcode(status)
-        told.seek(0)
-        return run.returncode, spent, used.ru_maxrss * 1024, told.read().decode("utf-8", "replace")
 
 
 def check_largest(tally, folder):
@@ -251,7 +218,8 @@ def check_largest(tally, folder):
     one = mask_page(4, view_crafted.white_mmr(65535), width=32768, height=65535)
     for name, octets, memory in (("64 stripes", parts + END, 40), ("one stripe", one, 1024)):
         page = folder.new("largest.page", octets)
-        status, seconds, octets, told = peak([page, "-o", folder.out, "--memory", "%dM" % memory])
+        status, told, seconds, used = used_by([page, "-o", folder.out, "--memory", "%dM" % memory])
+        octets = used.ru_maxrss * 1024
         print("%s: %.1f s, %d MB" % (name, seconds, octets / MIB))
         tally.check(status in (0, 3) and "32768 by 65535 pixels" in told,
                     "%s: status %s, %s" % (name, status, told[-300:]))
@@ -276,16 +244,20 @@ def check_scans(tally, folder):
                     "%d scans: %s" % (scans, picture.pixel(59, 39)))
 
 
-def slow_jpeg():
-    """200 scans over four million blocks: twenty seconds and more, told by a smaller one's time."""
-    return view_crafted.grey_jpeg(200, 16000, 16000, 1200)
+def slow_jpeg(folder):
+    """200 scans over so many blocks that they take this machine twenty seconds or more; at most
+    1 GB of them."""
+    small = folder.new("small.page", jpeg_page(view_crafted.grey_jpeg(200, 2000, 2000, 1200)))
+    spent = used_by([small])[3].ru_utime
+    side = int(min(2000 * (25 / spent) ** 0.5, 22000))
+    return view_crafted.grey_jpeg(200, side, side, 1200)
 
 
 def check_time(tally, folder):
     """Two decoders end after ten seconds, the third when 25 are over, the fourth has none left."""
-    slow, quick = slow_jpeg(), view_crafted.grey_jpeg(64, 60, 40, 1200)
+    slow, quick = slow_jpeg(folder), view_crafted.grey_jpeg(64, 60, 40, 1200)
     page = folder.new("slow.page", jpeg_page(quick, slow, slow, slow, quick))
-    shown = Shown([page, "-o", folder.out], folder.out)
+    shown = Shown([page, "-o", folder.out, "--memory", "2G"], folder.out)
     reasons = [re.search("stripe %d, layer 1: [^:]*: ([^;\n]*)" % n, shown.told) for n in range(5)]
     reasons = [found and found[1] for found in reasons]
     over = ["UNREAD: its decoder took over 10 seconds"] * 2
@@ -337,27 +309,12 @@ def check_mounted(tally, folder, mounted):
                 only, shown.status, shown.wrong, os.listdir(mounted)))
 
 
-def children(pid):
-    try:
-        with open("/proc/%d/task/%d/children" % (pid, pid), encoding="ascii") as file:
-            return [int(word) for word in file.read().split()]
-    except OSError:
-        return []
-
-
-def is_alive(pid):
-    try:
-        with open("/proc/%d/stat" % pid, encoding="ascii") as file:
-            return file.read().rpartition(")")[2].split()[0] != "Z"
-    except OSError:
-        return False
-
-
 def check_signals(tally, folder):
-    page = folder.new("slow.page", jpeg_page(slow_jpeg()))
+    page = folder.new("slow.page", jpeg_page(slow_jpeg(folder)))
     for number in (signal.SIGTERM, signal.SIGINT, signal.SIGHUP, signal.SIGKILL):
         write(folder.out, b"an old picture")
-        run = subprocess.Popen([VIEW, page, "-o", folder.out], stdout=subprocess.DEVNULL)
+        run = subprocess.Popen([VIEW, page, "-o", folder.out, "--memory", "2G"],
+                               stdout=subprocess.DEVNULL)
         until = time.monotonic() + 8
         while not (decoders := children(run.pid)) and time.monotonic() < until:
             time.sleep(0.01)

@@ -63,3 +63,21 @@ def grey_jpeg(scans, width, height, resolution):
         for bit in range(deep, -1, -1):
             octets += scan(coefficient, 0 if bit == deep else bit + 1, bit, data)
     return octets + b"\xff\xd9"
+
+
+# Pages of them
+
+def jpeg_page(*jpegs, main=1200, width=60, height=40):
+    """A stripe of background for each."""
+    page = page_making.start(main=main, width=width)
+    for jpeg in jpegs:
+        page += page_making.stripe(type=1, x1=0, y1=0, height=height) + jpeg
+    return page + b"\xff\xd9\xff\xd9"
+
+
+def mask_page(coder, *masks, width, height):
+    """A stripe with only a mask for each."""
+    page = page_making.start(mask=coder, width=width)
+    for mask in masks:
+        page += page_making.stripe(type=2, height=height, mask=len(mask)) + mask
+    return page + b"\xff\xd9\xff\xd9"

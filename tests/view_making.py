@@ -1,12 +1,15 @@
 """Pages and pencil sheets for the tests of the viewer, their layers coded by outside programs from
 samples that are kept: so what a decoder must find is known without one."""
 
+import concurrent.futures
 import os
 import re
+import resource
 import struct
 import subprocess
 import sys
 import tempfile
+import time
 
 import page_making
 import reference_run
@@ -283,6 +286,44 @@ class Shown:
         """Whether a layer's line ends with `read`; None if there is not one line for it."""
         lines = re.findall(r"^\S+: stripe %d, layer %d: (.*)$" % (stripe, layer), self.told, re.M)
         return lines[0].endswith(": read") if len(lines) == 1 else None
+
+
+def bounded(kind, bound):
+    return lambda: resource.setrlimit(kind, (bound, bound))
+
+
+def used_by(words, seconds=70):
+    """(status, what was told, seconds by the clock, what the system counted) of a run."""
+    with tempfile.TemporaryFile() as told:
+        began = time.monotonic()
+        run = subprocess.Popen([VIEW, *words], stdout=told, stderr=subprocess.STDOUT)
+        watch = concurrent.futures.ThreadPoolExecutor(1)
+        ended = watch.submit(os.wait4, run.pid, 0)
+        try:
+            _, status, used = ended.result(seconds)
+        except concurrent.futures.TimeoutError:
+            run.kill()
+            _, status, used = ended.result()
+        spent = time.monotonic() - began
+        run.returncode = os.waitstatus_to_exitcode(status)
+        told.seek(0)
+        return run.returncode, told.read().decode("utf-8", "replace"), spent, used
+
+
+def children(pid):
+    try:
+        with open("/proc/%d/task/%d/children" % (pid, pid), encoding="ascii") as file:
+            return [int(word) for word in file.read().split()]
+    except OSError:
+        return []
+
+
+def is_alive(pid):
+    try:
+        with open("/proc/%d/stat" % pid, encoding="ascii") as file:
+            return file.read().rpartition(")")[2].split()[0] != "Z"
+    except OSError:
+        return False
 
 
 def seed_of_run():
