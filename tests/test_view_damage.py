@@ -116,6 +116,23 @@ def check_cuts_of_layers(kind, seed):
             ("unread" in found, "%s: no cut layer is unread" % kind)]
 
 
+def check_other_sizes():
+    """Data of a column or row more or less than the record's, or with an octet behind its end."""
+    place, coders, checks = Place(), view_making.Coders(), []
+    rows = [[int((x + 2 * y) % 23 < 3) for x in range(209)] for y in range(61)]
+    for kind, (coder, _) in MASKS.items():
+        sizes = [(207, 60), (209, 60), (208, 59), (208, 61), (208, 60)]
+        # T.6 data tells no width: where no run ends at the right edge it decodes with any
+        for width, height in sizes[2:] if coder == 4 else sizes:
+            data = coders.mask(coder, [row[:width] for row in rows[:height]])
+            found = place.masks(coder, [data], 208, 60)[0]
+            checks.append(((found is None) == ((width, height) != (208, 60)),
+                           "%s of %d by %d for 208 by 60" % (kind, width, height)))
+    behind = place.masks(8, [layer_of("T.85") + b"\0"], 208, 60)[0]
+    checks.append((behind is None, "T.85 with an octet behind it is read"))
+    return checks
+
+
 # (b) changed octets
 
 def with_changed_octet(rng, octets):
@@ -299,7 +316,8 @@ def main():
         program = build_sanitized(folder)
         found = [pool.submit(check_sanitized, program, seed + n, DAMAGED // 4) for n in range(4)]
         counted = {kind: pool.submit(shares, kind, seed, CHANGED) for kind in kinds}
-        found += [pool.submit(check_planted, program), pool.submit(check_cut_pages, seed)]
+        found += [pool.submit(check_planted, program), pool.submit(check_cut_pages, seed),
+                  pool.submit(check_other_sizes)]
         found += [pool.submit(check_cuts_of_layers, kind, seed) for kind in kinds]
         for one in found:
             for holds, told in one.result():

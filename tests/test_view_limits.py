@@ -199,13 +199,22 @@ def check_memory(tally, folder):
 def check_address_space(tally, folder):
     mask = view_crafted.white_mmr(30000)
     page = folder.new("large.page", mask_page(4, mask, width=32768, height=30000))
-    for megabytes in (200, 12):
-        shown = Shown([page], preexec_fn=bounded(resource.RLIMIT_AS, megabytes * MIB))
-        unread = re.search(r"layer 2: .*UNREAD: there is no memory for", shown.told)
-        refused = re.fullmatch(r"[^\n]*memory[^\n]*\n", shown.wrong)
-        tally.check((shown.status == 3 and unread) or (shown.status in (1, 127) and shown.wrong
-                                                       and (refused or megabytes == 12)),
+    shown = Shown([page], preexec_fn=bounded(resource.RLIMIT_AS, 200 * MIB))
+    tally.check(shown.status == 3 and re.search(
+        "layer 2: .*UNREAD: there is no memory for its 983040000 octets", shown.told),
+                "with 200 MB: status %s, %s %s" % (shown.status, shown.told, shown.wrong))
+    # from too little for the C library on to enough for all: always a picture or a reason
+    page = folder.new("wide.page", mask_page(4, view_crafted.white_mmr(300), width=32768, height=300))
+    statuses = set()
+    for megabytes in range(8, 41):
+        shown = Shown([page, "-o", folder.out], preexec_fn=bounded(resource.RLIMIT_AS,
+                                                                   megabytes * MIB))
+        told = "memory" in (shown.told if shown.status == 3 else shown.wrong) or shown.status == 127
+        tally.check(shown.status == 0 or (shown.status in (1, 3, 127) and told and (
+            shown.wrong.count("\n") == (shown.status != 3))),
                     "with %d MB: status %s, %s %s" % (megabytes, shown.status, shown.told, shown.wrong))
+        statuses.add(shown.status)
+    tally.check({0, 3} <= statuses, "the statuses are %s" % statuses)
 
 
 def check_largest(tally, folder):
