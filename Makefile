@@ -14,7 +14,9 @@ PROGRAMS = spirerook-view spirerook-make
 VIEW = $(addprefix view/,view options book layers decode decode_fax decode_t85 decode_jpeg picture screen) colour file
 MAKE_PAGE = $(addprefix make/,make plan plan_layer plan_words picture_in picture_png picture_pnm to_lab code_fax code_t85 code_jpeg layers sheets outputs octets trouble) \
 	colour file
-HOST_C = cc -std=c11 -D_DEFAULT_SOURCE -Wall -Wextra -Werror -O2 -Iinclude -Ihost
+# they open what strangers send
+HARDENED = -D_FORTIFY_SOURCE=2 -fstack-protector-strong
+HOST_C = cc -std=c11 -D_DEFAULT_SOURCE -Wall -Wextra -Werror -O2 $(HARDENED) -Iinclude -Ihost
 
 # the library for C, both ways
 all: build/libspirerook.a build/libspirerook.so
@@ -79,10 +81,10 @@ view-objects:
 	@echo $(VIEW)
 
 build/spirerook-view: $(VIEW:%=build/host/%.o) build/libspirerook.a
-	cc -o $@ $^ -ltiff -ljbig -ljpeg -lz -lm
+	cc -Wl,-z,relro,-z,now -o $@ $^ -ltiff -ljbig -ljpeg -lz -lm
 
 build/spirerook-make: $(MAKE_PAGE:%=build/host/%.o) build/libspirerook.a
-	cc -o $@ $^ -ltiff -ljbig -ljpeg -lpng -lm
+	cc -Wl,-z,relro,-z,now -o $@ $^ -ltiff -ljbig -ljpeg -lpng -lm
 
 install: all
 	@case "$(LIBDIR):$(INCLUDEDIR)" in /*:/*) ;; *) echo "install: PREFIX must be an absolute path, not '$(PREFIX)'" >&2; exit 1 ;; esac

@@ -29,13 +29,18 @@ DATA = CALLS + ("sheet.c",) + DATA_DRIVER
 
 
 def build(name="reference_list", sources=SOURCES, flags=("-O2",), parts=LIST):
-    """Builds a program of the reference into build/ and answers its path."""
+    """Builds a program of the reference into build/ and answers its path.
+
+    It is renamed when it is whole: another test may build or run the same one.
+    """
     folder = os.path.join(ROOT, "build")
     os.makedirs(folder, exist_ok=True)
     program = os.path.join(folder, name)
+    made = "%s.%d" % (program, os.getpid())
     files = [os.path.join(sources, file) for file in parts]
     folders = ["-I", sources, "-I", DRIVER, "-I", HEADERS]
-    subprocess.run(["cc", *WARNINGS, *flags, *folders, *files, "-o", program], check=True)
+    subprocess.run(["cc", *WARNINGS, *flags, *folders, *files, "-o", made], check=True)
+    os.replace(made, program)
     return program
 
 
