@@ -87,7 +87,8 @@ def show_all(place, kind, datas):
         layer = stored[JPEGS[kind]]
         whole = place.jpeg(layer.octets, layer)
         found = [place.jpeg(data, layer) for data in datas]
-    assert isinstance(whole, list), "%s is not shown: %s" % (kind, whole)
+    if not isinstance(whole, list):
+        return ["not shown even when whole"] * len(datas)
     return [outcome(one, whole) for one in found]
 
 
@@ -104,16 +105,16 @@ def scans_of(jpeg):
 
 def check_cuts_of_layers(kind, seed):
     rng, place, whole = random.Random(seed), Place(), layer_of(kind)
-    sizes = sorted(rng.sample(range(1, len(whole)), min(len(whole) - 1, 150)))
-    close = b""
+    sizes, close = range(1, len(whole)), b""
     if kind in JPEGS:
-        sizes, close = sorted(set(sizes + scans_of(whole))), b"\xff\xd9"
-        sizes = [size for size in sizes if size < len(whole) - 2]
+        sizes, close = rng.sample(range(1, len(whole) - 2), 150) + scans_of(whole), b"\xff\xd9"
+        sizes = sorted(set(sizes))
     found = show_all(place, kind, [whole[:size] + close for size in sizes])
     wrong = [size for size, one in zip(sizes, found) if one == "unnoticed"]
     return [(not wrong, "%s of %d octets: cut to %s it is shown as read, with another picture"
              % (kind, len(whole), wrong[:20])),
-            ("unread" in found, "%s: no cut layer is unread" % kind)]
+            ("unread" in found and set(found) <= set(OUTCOMES),
+             "%s: no cut layer is unread, but %s" % (kind, set(found)))]
 
 
 def check_other_sizes():
