@@ -239,7 +239,7 @@ def random_stripe(rng, coders, page, height, kind, most_layers):
 
 
 def random_page(rng, coders, pencil, stripes=None):
-    page = Page(rng.randrange(40, 200), rng.choice(RESOLUTIONS), rng.choice(list(MASK_CODERS)))
+    page = Page(rng.randrange(40, 301), rng.choice(RESOLUTIONS), rng.choice(list(MASK_CODERS)))
     for _ in range(stripes or rng.randrange(1, 7)):
         height = rng.randrange(1, 40 if stripes is None else 6)
         most = rng.choice((3, 5, 7, 9, 15)) if pencil else 3
