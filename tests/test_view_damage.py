@@ -1,4 +1,4 @@
-"""Damaged layers and pages: nothing that is not read for certain is shown, and nothing breaks the viewer.
+"""Damaged layers and pages: nothing that is not read for certain is shown, nothing breaks the viewer.
 
 Cut layers, layers with one changed octet (the shares of docs/VIEWER.md, "Unnoticed damage"), cut
 pages; and damaged pages under a viewer with sanitizers. SEED repeats a run.

@@ -25,7 +25,7 @@ MIB = 1 << 20
 
 
 class Folder:
-    """A folder with a page of two stripes, whose layers 1 and 2, and 2, are coded, and a pencil sheet."""
+    """A folder with a page of two stripes, layers 1 and 2 coded, then only 2; and a pencil sheet."""
 
     def __init__(self):
         self.coders = Coders()
@@ -218,25 +218,24 @@ def check_address_space(tally, folder):
 
 
 def check_largest(tally, folder):
-    """32768 by 65535: in one stripe and in 64, each within a minute and the memory allowed."""
-    whole = [view_crafted.white_mmr(1023)] * 63
-    parts = page_making.start(mask=4, width=32768)
-    for mask in whole + [view_crafted.white_mmr(65535 - 63 * 1023)]:
-        height = 1023 if mask is whole[0] else 65535 - 63 * 1023
-        parts += page_making.stripe(type=2, height=height, mask=len(mask)) + mask
-    one = mask_page(4, view_crafted.white_mmr(65535), width=32768, height=65535)
-    for name, octets, memory in (("64 stripes", parts + END, 40), ("one stripe", one, 1024)):
-        page = folder.new("largest.page", octets)
-        status, told, seconds, used = used_by([page, "-o", folder.out, "--memory", "%dM" % memory])
-        octets = used.ru_maxrss * 1024
-        print("%s: %.1f s, %d MB" % (name, seconds, octets / MIB))
-        tally.check(status in (0, 3) and "32768 by 65535 pixels" in told,
-                    "%s: status %s, %s" % (name, status, told[-300:]))
-        tally.check(seconds < 60, "%s took %.1f s" % (name, seconds))
-        tally.check(octets < (64 + memory) * MIB, "%s: %d MB" % (name, octets / MIB))
-        tally.check(os.path.exists(folder.out) and view_making.read(folder.out).endswith(
-            b"IEND\xae\x42\x60\x82"), "%s: no whole picture" % name)
-        os.remove(folder.out)
+    """32768 by 65535 in 64 stripes: within a minute and the memory allowed."""
+    heights = [1023] * 63 + [65535 - 63 * 1023]
+    octets = page_making.start(mask=4, width=32768)
+    for height in heights:
+        mask = view_crafted.white_mmr(height)
+        octets += page_making.stripe(type=2, height=height, mask=len(mask)) + mask
+    page, memory = folder.new("largest.page", octets + END), 40
+    status, told, seconds, used = used_by([page, "-o", folder.out, "--memory", "%dM" % memory])
+    megabytes = used.ru_maxrss / 1024
+    print("the largest page: %.1f s, %d MB" % (seconds, megabytes))
+    tally.check(status in (0, 3) and "32768 by 65535 pixels" in told and told.count(": read\n") >= 40,
+                "the largest page: status %s, %s" % (status, told[-300:]))
+    tally.check(seconds < 60, "the largest page took %.1f s" % seconds)
+    tally.check(megabytes < 64 + memory, "the largest page took %d MB" % megabytes)
+    # lines that were not composed in time are unseen, and told of
+    tally.check((status == 3) == ("were not composed within" in told), told[-300:])
+    tally.check(os.path.exists(folder.out) and view_making.read(folder.out).endswith(
+        b"IEND\xae\x42\x60\x82"), "no whole picture of the largest page")
 
 
 # Scans and time
