@@ -1,6 +1,6 @@
-use Rattle.pixel.proofs.Laws.{fetching}
-use Rattle.pixel.proofs.image_at.Statement.{statement}
-use Rattle.pixel.proofs.image_at.Tie as tie
+use Rattle.fetch.proofs.Laws.{fetching}
+use Rattle.fetch.proofs.image_at.Statement.{statement}
+use Rattle.fetch.proofs.image_at.Tie as tie
 
 colour-at-requires : tie.Need-colour-at-requires
 colour-at-requires c κs = search fetching

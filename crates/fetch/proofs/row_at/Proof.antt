@@ -1,6 +1,6 @@
-use Rattle.pixel.proofs.Laws.{rows}
-use Rattle.pixel.proofs.row_at.Statement.{statement}
-use Rattle.pixel.proofs.row_at.Tie as tie
+use Rattle.fetch.proofs.Laws.{rows}
+use Rattle.fetch.proofs.row_at.Statement.{statement}
+use Rattle.fetch.proofs.row_at.Tie as tie
 
 mul-b : tie.Need-mul-b
 mul-b c = search rows

@@ -1,6 +1,6 @@
-use Rattle.pixel.proofs.Laws.{fetching}
-use Rattle.pixel.proofs.mask_at.Statement.{statement}
-use Rattle.pixel.proofs.mask_at.Tie as tie
+use Rattle.fetch.proofs.Laws.{fetching}
+use Rattle.fetch.proofs.mask_at.Statement.{statement}
+use Rattle.fetch.proofs.mask_at.Tie as tie
 
 other-bit-requires : tie.Need-other-bit-requires
 other-bit-requires c κs = search fetching

@@ -1,6 +1,6 @@
-use Rattle.pixel.proofs.Laws.{scaling}
-use Rattle.pixel.proofs.scale_pos.Statement.{statement}
-use Rattle.pixel.proofs.scale_pos.Tie as tie
+use Rattle.samples.proofs.Laws.{scaling}
+use Rattle.samples.proofs.scale_pos.Statement.{statement}
+use Rattle.samples.proofs.scale_pos.Tie as tie
 
 sub-d : tie.Need-sub-d
 sub-d c = search scaling

@@ -1,6 +1,6 @@
-use Rattle.pixel.proofs.Laws.{pairing}
-use Rattle.pixel.proofs.agreed.Statement.{statement}
-use Rattle.pixel.proofs.agreed.Tie as tie
+use Rattle.pair.proofs.Laws.{pairing}
+use Rattle.pair.proofs.agreed.Statement.{statement}
+use Rattle.pair.proofs.agreed.Tie as tie
 
 enum-known-low : tie.Need-enum-known-low
 enum-known-low c = search pairing

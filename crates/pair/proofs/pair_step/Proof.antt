@@ -1,6 +1,6 @@
-use Rattle.pixel.proofs.Laws.{pairing}
-use Rattle.pixel.proofs.pair_step.Statement.{statement}
-use Rattle.pixel.proofs.pair_step.Tie as tie
+use Rattle.pair.proofs.Laws.{pairing}
+use Rattle.pair.proofs.pair_step.Statement.{statement}
+use Rattle.pair.proofs.pair_step.Tie as tie
 
 enum-told : tie.Need-enum-told
 enum-told c = search pairing
