@@ -1,7 +1,7 @@
-use Rattle.data.proofs.Laws.{reporting}
+use Rattle.data_report.proofs.Laws.{reporting}
 use borrow.Author.Needs.{needs}
-use Rattle.data.proofs.source_number.Statement.{statement}
-use Rattle.data.proofs.source_number.Tie as tie
+use Rattle.data_report.proofs.source_number.Statement.{statement}
+use Rattle.data_report.proofs.source_number.Tie as tie
 
 enum-told : tie.Need-enum-told
 enum-told c = search needs

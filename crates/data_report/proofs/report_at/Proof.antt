@@ -1,7 +1,7 @@
-use Rattle.data.proofs.Laws.{reporting}
+use Rattle.data_report.proofs.Laws.{reporting}
 use borrow.Author.Needs.{needs}
-use Rattle.data.proofs.report_at.Statement.{statement}
-use Rattle.data.proofs.report_at.Tie as tie
+use Rattle.data_report.proofs.report_at.Statement.{statement}
+use Rattle.data_report.proofs.report_at.Tie as tie
 
 reported-requires : tie.Need-reported-requires
 reported-requires c κs = search needs

@@ -1,7 +1,7 @@
-use Rattle.data.proofs.Laws.{naming}
+use Rattle.coded_part.proofs.Laws.{naming}
 use borrow.Author.Needs.{needs}
-use Rattle.data.proofs.find_record.Statement.{statement}
-use Rattle.data.proofs.find_record.Tie as tie
+use Rattle.coded_part.proofs.find_record.Statement.{statement}
+use Rattle.coded_part.proofs.find_record.Tie as tie
 
 cast-place : tie.Need-cast-place
 cast-place c = search needs

@@ -1,7 +1,7 @@
-use Rattle.data.proofs.Laws.{reporting}
+use Rattle.data_report.proofs.Laws.{reporting}
 use borrow.Author.Needs.{needs}
-use Rattle.data.proofs.report_found.Statement.{statement}
-use Rattle.data.proofs.report_found.Tie as tie
+use Rattle.data_report.proofs.report_found.Statement.{statement}
+use Rattle.data_report.proofs.report_found.Tie as tie
 
 enum-known-f : tie.Need-enum-known-f
 enum-known-f c = search needs

@@ -1,7 +1,7 @@
-use Rattle.data.proofs.Laws.{naming}
+use Rattle.coded_part.proofs.Laws.{naming}
 use borrow.Author.Needs.{needs}
-use Rattle.data.proofs.part_in.Statement.{statement}
-use Rattle.data.proofs.part_in.Tie as tie
+use Rattle.coded_part.proofs.part_in.Statement.{statement}
+use Rattle.coded_part.proofs.part_in.Tie as tie
 
 returns : tie.Need-returns
 returns c = search naming

@@ -1,7 +1,7 @@
-use Rattle.data.proofs.Laws.{naming}
+use Rattle.coded_part.proofs.Laws.{naming}
 use borrow.Author.Needs.{needs}
-use Rattle.data.proofs.data_passes.Statement.{statement}
-use Rattle.data.proofs.data_passes.Tie as tie
+use Rattle.coded_part.proofs.data_passes.Statement.{statement}
+use Rattle.coded_part.proofs.data_passes.Tie as tie
 
 source-len-requires : tie.Need-source-len-requires
 source-len-requires c κs = search needs
