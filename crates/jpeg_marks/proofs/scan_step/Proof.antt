@@ -1,7 +1,7 @@
-use Rattle.jpeg.proofs.Laws.{scan-laws}
+use Rattle.jpeg_marks.proofs.Laws.{scan-laws}
 use borrow.Author.Needs.{needs}
-use Rattle.jpeg.proofs.scan_step.Statement.{statement}
-use Rattle.jpeg.proofs.scan_step.Tie as tie
+use Rattle.jpeg_marks.proofs.scan_step.Statement.{statement}
+use Rattle.jpeg_marks.proofs.scan_step.Tie as tie
 
 seg-at-requires : tie.Need-seg-at-requires
 seg-at-requires c κs = search needs

@@ -1,6 +1,6 @@
 use borrow.Author.Needs.{needs}
-use Rattle.jpeg.proofs.resolution_fits.Statement.{statement}
-use Rattle.jpeg.proofs.resolution_fits.Tie as tie
+use Rattle.jpeg_segment.proofs.resolution_fits.Statement.{statement}
+use Rattle.jpeg_segment.proofs.resolution_fits.Tie as tie
 
 is-listed-requires : tie.Need-is-listed-requires
 is-listed-requires c κs = search needs

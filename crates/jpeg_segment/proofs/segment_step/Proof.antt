@@ -1,7 +1,7 @@
-use Rattle.jpeg.proofs.Laws.{segment-laws}
+use Rattle.jpeg_segment.proofs.Laws.{segment-laws}
 use borrow.Author.Needs.{needs}
-use Rattle.jpeg.proofs.segment_step.Statement.{statement}
-use Rattle.jpeg.proofs.segment_step.Tie as tie
+use Rattle.jpeg_segment.proofs.segment_step.Statement.{statement}
+use Rattle.jpeg_segment.proofs.segment_step.Tie as tie
 
 seg-at-requires : tie.Need-seg-at-requires
 seg-at-requires c κs = search needs

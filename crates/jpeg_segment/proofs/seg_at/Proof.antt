@@ -1,7 +1,7 @@
-use Rattle.jpeg.proofs.Laws.{seg-laws}
+use Rattle.jpeg_segment.proofs.Laws.{seg-laws}
 use borrow.Author.Needs.{needs}
-use Rattle.jpeg.proofs.seg_at.Statement.{statement}
-use Rattle.jpeg.proofs.seg_at.Tie as tie
+use Rattle.jpeg_segment.proofs.seg_at.Statement.{statement}
+use Rattle.jpeg_segment.proofs.seg_at.Tie as tie
 
 sub-if1 : tie.Need-sub-if1
 sub-if1 c = search needs

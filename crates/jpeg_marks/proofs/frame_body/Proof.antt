@@ -1,7 +1,7 @@
-use Rattle.jpeg.proofs.Laws.{frame-body-laws}
+use Rattle.jpeg_marks.proofs.Laws.{frame-body-laws}
 use borrow.Author.Needs.{needs}
-use Rattle.jpeg.proofs.frame_body.Statement.{statement}
-use Rattle.jpeg.proofs.frame_body.Tie as tie
+use Rattle.jpeg_marks.proofs.frame_body.Statement.{statement}
+use Rattle.jpeg_marks.proofs.frame_body.Tie as tie
 
 add-be16 : tie.Need-add-be16
 add-be16 c = search needs

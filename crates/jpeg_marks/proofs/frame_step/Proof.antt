@@ -1,7 +1,7 @@
-use Rattle.jpeg.proofs.Laws.{frame-laws}
+use Rattle.jpeg_marks.proofs.Laws.{frame-laws}
 use borrow.Author.Needs.{needs}
-use Rattle.jpeg.proofs.frame_step.Statement.{statement}
-use Rattle.jpeg.proofs.frame_step.Tie as tie
+use Rattle.jpeg_marks.proofs.frame_step.Statement.{statement}
+use Rattle.jpeg_marks.proofs.frame_step.Tie as tie
 
 returns : tie.Need-returns
 returns c = search frame-laws

@@ -1,6 +1,6 @@
-use Rattle.jpeg.proofs.Laws.{end-laws}
-use Rattle.jpeg.proofs.end_step.Statement.{statement}
-use Rattle.jpeg.proofs.end_step.Tie as tie
+use Rattle.jpeg_marks.proofs.Laws.{end-laws}
+use Rattle.jpeg_marks.proofs.end_step.Statement.{statement}
+use Rattle.jpeg_marks.proofs.end_step.Tie as tie
 
 returns : tie.Need-returns
 returns c = search end-laws

@@ -1,7 +1,7 @@
-use Rattle.jpeg.proofs.Laws.{tag-laws}
+use Rattle.jpeg_segment.proofs.Laws.{tag-laws}
 use borrow.Author.Needs.{needs}
-use Rattle.jpeg.proofs.tag_of.Statement.{statement}
-use Rattle.jpeg.proofs.tag_of.Tie as tie
+use Rattle.jpeg_segment.proofs.tag_of.Statement.{statement}
+use Rattle.jpeg_segment.proofs.tag_of.Tie as tie
 
 returns : tie.Need-returns
 returns c = search tag-laws
