@@ -21,7 +21,7 @@ use Rattle.page_rules.specs.Grammar.{GoodHead, GoodFields, recordsOf}
 use Rattle.page_rules.specs.Reading.{startRows, headFrom, stripeRows, fieldsFrom, walked}
 use Rattle.page_rules.proofs.Apart.{start-apart, stripe-apart}
 use Rattle.stripe_records.specs.Places.{colourAt, fieldsAt}
-use Rattle.segment.specs.Judged.{headAt}
+use Rattle.start_fields.specs.Start.{headAt}
 
 -- ---- the start of page
 

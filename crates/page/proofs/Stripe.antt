@@ -27,9 +27,9 @@ use Rattle.layers.specs.declared.Layers.{Layers}
 use Rattle.layers.specs.declared.Layers.the-variants.{Read, Broken}
 use Rattle.layers.specs.Layers.{onLayer, foreOf, layersIn}
 use Rattle.layers.proofs.Laws.{walked-between}
-use Rattle.segment.specs.declared.Judged.{Judged}
-use Rattle.segment.specs.declared.Judged.the-variants.{Fine, Refused}
-use Rattle.segment.specs.Judged.{judgedOf}
+use Rattle.fields.specs.declared.Judged.{Judged}
+use Rattle.fields.specs.declared.Judged.the-variants.{Fine, Refused}
+use Rattle.fields.specs.Judged.{judgedOf}
 use Rattle.stripe_records.specs.Places.{fieldsAt}
 use Rattle.page.specs.declared.Step.{Step}
 use Rattle.page.specs.declared.Step.the-variants.{Next, Fault}

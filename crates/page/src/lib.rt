@@ -4,12 +4,12 @@ ghost use mathlib.Core.Path.{_≡_};
 ghost use Prim.Native.Nat.{_*_, _≤_};
 ghost use lib.ListN.{length};
 ghost use Rattle.page_rules.specs.Reading.{pageOf, Reads};
-ghost use Rattle.segment.specs.Judged.{headAt};
+ghost use Rattle.start_fields.specs.Start.{headAt};
 ghost use Rattle.page.specs.Steps.{Laying, layersAt, stepOf, laidOf, Ready, Striped, endedOf, StripeTurned, Standing, Turned, Opened, Bodied, restOf, Judges, Lent, Emits};
 use answers::Answer;
+use fields::Judged;
 use layers::Layers;
 use page_rules::Head;
-use segment::Judged;
 use segment::Segment;
 
 // What a page comes to: how many stripes its sheet has, or why it is refused.
@@ -49,9 +49,9 @@ fn stripe_layers(out: &mut [u8], s: &[u8], hd: Head, k: u16, at: u32) -> Step
     ensures step { λ r. ⌜ r ≡ stepOf (now (s .entry)) at (layersAt hd (now (s .entry)) at) ⌝ }
     ensures laid { λ _. ⌜ now (out .exit) ≡ laidOf (now (out .entry)) (now (s .entry)) hd k at (layersAt hd (now (s .entry)) at) ⌝ }
 {
-    let t = segment::octet(s, at);
-    let mask = segment::four(s, at + 27);
-    let height = segment::four(s, at + 23);
+    let t = fields::octet(s, at);
+    let mask = fields::four(s, at + 27);
+    let height = fields::four(s, at + 23);
     match layers::read_layers(s, hd.main, t, mask, at + 31) {
         Layers::Broken(a) => Step::Fault(a),
         Layers::Read { back, fore, next } => {
@@ -72,7 +72,7 @@ fn stripe_step(out: &mut [u8], s: &[u8], hd: Head, k: u16, left: u32, at: u32, s
     if size != 37 {
         return Step::Fault(Answer::BadLength(at + 2));
     }
-    match segment::judge_stripe(s, hd, left, at + 8) {
+    match stripe_fields::judge_stripe(s, hd, left, at + 8) {
         Judged::Refused(a) => Step::Fault(a),
         Judged::Fine => stripe_layers(out, s, hd, k, at + 8),
     }
@@ -150,7 +150,7 @@ fn judge_rest(out: &mut [u8], s: &[u8]) -> Verdict
     requires { ⌜ Opened (now out) (now s) ⌝ }
     ensures { λ r. ⌜ Judges (restOf (headAt (now (s .entry))) (now (s .entry))) (now (out .entry)) r (now (out .exit)) ⌝ }
 {
-    let hd = segment::head_at(s);
+    let hd = start_fields::head_at(s);
     match read_body(out, s, hd) {
         Body::Stopped(a) => Verdict::Bad(a),
         Body::Stripes { count, next } => match segment::judge_end(s, next) {
@@ -164,7 +164,7 @@ fn judge_page(out: &mut [u8], s: &[u8]) -> Verdict
     requires { ⌜ Lent (now out) (now s) ⌝ }
     ensures { λ r. ⌜ Judges (pageOf (now (s .entry))) (now (out .entry)) r (now (out .exit)) ⌝ }
 {
-    match segment::judge_start(s) {
+    match start_fields::judge_start(s) {
         Judged::Refused(a) => Verdict::Bad(a),
         Judged::Fine => judge_rest(out, s),
     }
