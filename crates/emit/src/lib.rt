@@ -24,10 +24,10 @@ fn put_start_mark(out: &mut [u8])
     requires { ⌜ 22 ≤ length (now out) ⌝ }
     ensures { λ _. ⌜ now (out .exit) ≡ putAt (now (out .entry)) 0 startMark ⌝ }
 {
-    octets::put_octets(out, 0, &SOI);
-    octets::put_octets(out, 2, &APP13);
-    octets::put16(out, 4, 16);
-    octets::put_octets(out, 6, &START);
+    put::put_octets(out, 0, &SOI);
+    put::put_octets(out, 2, &APP13);
+    put::put16(out, 4, 16);
+    put::put_octets(out, 6, &START);
 }
 
 fn put_start_fields(out: &mut [u8], hd: Head)
@@ -35,10 +35,10 @@ fn put_start_fields(out: &mut [u8], hd: Head)
     ensures { λ _. ⌜ now (out .exit) ≡ putAt (now (out .entry)) 10 (startFields hd) ⌝ }
 {
     let coders = [0, 1, hd.mask, hd.image];
-    octets::put_octets(out, 10, &coders);
-    octets::put16(out, 14, hd.main);
-    octets::put32(out, 16, hd.width as u32);
-    octets::put_octets(out, 20, &EOI);
+    put::put_octets(out, 10, &coders);
+    put::put16(out, 14, hd.main);
+    put::put32(out, 16, hd.width as u32);
+    put::put_octets(out, 20, &EOI);
 }
 
 pub fn put_start(out: &mut [u8], hd: Head)
@@ -72,25 +72,25 @@ fn put_stripe_mark(out: &mut [u8], at: usize)
     requires { ⌜ at + 8 ≤ length (now out) ⌝ }
     ensures { λ _. ⌜ now (out .exit) ≡ putAt (now (out .entry)) at stripeMark ⌝ }
 {
-    octets::put_octets(out, at, &APP13);
-    octets::put16(out, at + 2, 37);
-    octets::put_octets(out, at + 4, &STRIPE);
+    put::put_octets(out, at, &APP13);
+    put::put16(out, at + 2, 37);
+    put::put_octets(out, at + 4, &STRIPE);
 }
 
 fn put_offset(out: &mut [u8], at: usize, x: u16, y: u16)
     requires { ⌜ at + 8 ≤ length (now out) ⌝ }
     ensures { λ _. ⌜ now (out .exit) ≡ putAt (now (out .entry)) at (octets32 x ++ octets32 y) ⌝ }
 {
-    octets::put32(out, at, x as u32);
-    octets::put32(out, at + 4, y as u32);
+    put::put32(out, at, x as u32);
+    put::put32(out, at + 4, y as u32);
 }
 
 fn put_sizes(out: &mut [u8], at: usize, height: u16, mask: u32)
     requires { ⌜ at + 8 ≤ length (now out) ⌝ }
     ensures { λ _. ⌜ now (out .exit) ≡ putAt (now (out .entry)) at (octets32 height ++ octets32 mask) ⌝ }
 {
-    octets::put32(out, at, height as u32);
-    octets::put32(out, at + 4, mask);
+    put::put32(out, at, height as u32);
+    put::put32(out, at + 4, mask);
 }
 
 // The fields of 9.3 in its order: type, base colours, offsets, height, mask length.
@@ -100,7 +100,7 @@ fn put_fields(out: &mut [u8], at: usize, a: Record, b: Record, c: Record)
 {
     let t = type_of(a, b, c);
     let first = [t, a.base0, a.base1, a.base2, c.base0, c.base1, c.base2];
-    octets::put_octets(out, at, &first);
+    put::put_octets(out, at, &first);
     put_offset(out, at + 7, a.x, a.y);
     put_offset(out, at + 15, c.x, c.y);
     put_sizes(out, at + 23, b.height, b.len);
@@ -118,7 +118,7 @@ fn put_layer(out: &mut [u8], at: usize, d: &[u8], r: Record)
     requires { ⌜ Copied (now out) at (now d) r ⌝ }
     ensures { λ _. ⌜ now (out .exit) ≡ putAt (now (out .entry)) at (dataOf (now (d .entry)) r) ⌝ }
 {
-    octets::copy_range(out, at, d, r.start as usize, r.len as usize);
+    put::copy_range(out, at, d, r.start as usize, r.len as usize);
 }
 
 // 01: the coded layers present stand in the order mask, background, foreground; of an absent one there are no octets. Answers the place behind them.

@@ -179,7 +179,7 @@ fn emit(sheet: &mut [u8], laid: &[u8], stripes: u16) -> Answer
     if sheet.len() < size {
         return Answer::NoRoom;
     }
-    octets::copy_range(sheet, 0, laid, 0, size);
+    put::copy_range(sheet, 0, laid, 0, size);
     Answer::Done(stripes as u64 * 3)
 }
 

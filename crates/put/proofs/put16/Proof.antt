@@ -1,10 +1,10 @@
 -- `put16` meets its contract: two stores are one put of two octets. Assumes nothing.
 use native.Mathlib.Omega.{arith}
 use lib.ListN.{length-set}
-use Rattle.octets.proofs.Turns.{turns}
+use Rattle.put.proofs.Turns.{turns}
 use borrow.Author.Needs.{needs}
-use Rattle.octets.proofs.put16.Statement.{statement}
-use Rattle.octets.proofs.put16.Tie as tie
+use Rattle.put.proofs.put16.Statement.{statement}
+use Rattle.put.proofs.put16.Tie as tie
 
 cast-d : tie.Need-cast-d
 cast-d c = search needs

@@ -1,8 +1,8 @@
 -- `put32` meets its contract: two puts one after the other are one. Assumes nothing.
-use Rattle.octets.proofs.Turns.{turns}
+use Rattle.put.proofs.Turns.{turns}
 use borrow.Author.Needs.{needs}
-use Rattle.octets.proofs.put32.Statement.{statement}
-use Rattle.octets.proofs.put32.Tie as tie
+use Rattle.put.proofs.put32.Statement.{statement}
+use Rattle.put.proofs.put32.Tie as tie
 
 cast-put16 : tie.Need-cast-put16
 cast-put16 c = search needs

@@ -1,8 +1,8 @@
 -- `copy_range` meets its contract: the part that is lent has the length asked for. Assumes nothing.
-use Rattle.octets.proofs.Turns.{turns}
+use Rattle.put.proofs.Turns.{turns}
 use borrow.Author.Needs.{needs}
-use Rattle.octets.proofs.copy_range.Statement.{statement}
-use Rattle.octets.proofs.copy_range.Tie as tie
+use Rattle.put.proofs.copy_range.Statement.{statement}
+use Rattle.put.proofs.copy_range.Tie as tie
 
 add-end : tie.Need-add-end
 add-end c = search needs

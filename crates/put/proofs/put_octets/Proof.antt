@@ -4,9 +4,9 @@ use mathlib.Core.Path.{_≡_}
 use Prim.Native.Nat.{_-_, _≤_}
 use lib.ListN.{length}
 use lib.Seq.{paste}
-use Rattle.octets.proofs.Turns.{turns}
-use Rattle.octets.proofs.put_octets.Statement.{statement}
-use Rattle.octets.proofs.put_octets.Tie as tie
+use Rattle.put.proofs.Turns.{turns}
+use Rattle.put.proofs.put_octets.Statement.{statement}
+use Rattle.put.proofs.put_octets.Tie as tie
 
 abbrev Inv-loop : tie.InvT-loop
 Inv-loop d₀ at v k₀ d k = (k ≤ length v) × (d ≡ paste d₀ at v k) × (length d ≡ length d₀)
