@@ -1,7 +1,7 @@
-use Rattle.page.proofs.Laws.{laying}
+use Rattle.page_body.proofs.Laws.{laying}
 use borrow.Author.Needs.{needs}
-use Rattle.page.proofs.stripe_layers.Statement.{statement}
-use Rattle.page.proofs.stripe_layers.Tie as tie
+use Rattle.page_body.proofs.stripe_layers.Statement.{statement}
+use Rattle.page_body.proofs.stripe_layers.Tie as tie
 
 octet-requires : tie.Need-octet-requires
 octet-requires c κs = search needs

@@ -15,12 +15,12 @@ use Rattle.sheet_rules.specs.Record.{sheetOf}
 use Rattle.sheet_rules.proofs.Cut.{sheet-append, sheet-length}
 use Rattle.page_rules.specs.declared.Head.{Head}
 use Rattle.page_rules.specs.Reading.{bodyFrom}
-use Rattle.page.specs.declared.Place.{Place}
-use Rattle.page.specs.declared.Body.{Body}
-use Rattle.page.specs.declared.Body.the-variants.{Stripes, Stopped}
-use Rattle.page.specs.declared.Turn.{Turn}
-use Rattle.page.specs.declared.Turn.the-variants.{Go, Stop}
-use Rattle.page.specs.Steps.{Onward, Standing, bodyAt, Passed, Over, Refuses, Turned, Opened, BodyRead, Bodied}
+use Rattle.page_body.specs.declared.Place.{Place}
+use Rattle.page_body.specs.declared.Body.{Body}
+use Rattle.page_body.specs.declared.Body.the-variants.{Stripes, Stopped}
+use Rattle.page_body.specs.declared.Turn.{Turn}
+use Rattle.page_body.specs.declared.Turn.the-variants.{Go, Stop}
+use Rattle.page_body.specs.Steps.{Onward, Standing, bodyAt, Passed, Over, Refuses, Turned, Opened, BodyRead, Bodied}
 
 -- ---- the invariant
 

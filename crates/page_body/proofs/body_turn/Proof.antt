@@ -1,7 +1,7 @@
-use Rattle.page.proofs.Segments.{segments}
+use Rattle.page_body.proofs.Segments.{segments}
 use borrow.Author.Needs.{needs}
-use Rattle.page.proofs.body_turn.Statement.{statement}
-use Rattle.page.proofs.body_turn.Tie as tie
+use Rattle.page_body.proofs.body_turn.Statement.{statement}
+use Rattle.page_body.proofs.body_turn.Tie as tie
 
 cast-segment-at : tie.Need-cast-segment-at
 cast-segment-at c = search needs

@@ -1,7 +1,7 @@
-use Rattle.page.proofs.Stripe.{stripe-layered, stripe-laws}
+use Rattle.page_body.proofs.Stripe.{stripe-layered, stripe-laws}
 use borrow.Author.Needs.{needs}
-use Rattle.page.proofs.stripe_step.Statement.{statement}
-use Rattle.page.proofs.stripe_step.Tie as tie
+use Rattle.page_body.proofs.stripe_step.Statement.{statement}
+use Rattle.page_body.proofs.stripe_step.Tie as tie
 
 add-t10 : tie.Need-add-t10
 add-t10 c = search needs

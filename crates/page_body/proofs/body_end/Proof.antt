@@ -1,7 +1,7 @@
-use Rattle.page.proofs.Turns.{ending}
+use Rattle.page_body.proofs.Turns.{ending}
 use borrow.Author.Needs.{needs}
-use Rattle.page.proofs.body_end.Statement.{statement}
-use Rattle.page.proofs.body_end.Tie as tie
+use Rattle.page_body.proofs.body_end.Statement.{statement}
+use Rattle.page_body.proofs.body_end.Tie as tie
 
 returns : tie.Need-returns
 returns c = search ending

@@ -17,14 +17,14 @@ use Rattle.field_rules.specs.Field.{Res, ok, no}
 use Rattle.sheet_rules.specs.declared.Record.{Record}
 use Rattle.page_rules.specs.declared.Head.{Head}
 use Rattle.page_rules.specs.Reading.{stripeFrom, bodyFrom}
-use Rattle.page.specs.declared.Place.{Place}
-use Rattle.page.specs.declared.Body.{Body}
-use Rattle.page.specs.declared.Body.the-variants.{Stripes, Stopped}
-use Rattle.page.specs.declared.Step.{Step}
-use Rattle.page.specs.declared.Step.the-variants.{Next, Fault}
-use Rattle.page.specs.declared.Turn.{Turn}
-use Rattle.page.specs.declared.Turn.the-variants.{Go, Stop}
-use Rattle.page.specs.Steps.{Ready, StripeRead, StripeRefused, Striped, endedOf, Onward, StripePassed, StripeTurned}
+use Rattle.page_body.specs.declared.Place.{Place}
+use Rattle.page_body.specs.declared.Body.{Body}
+use Rattle.page_body.specs.declared.Body.the-variants.{Stripes, Stopped}
+use Rattle.page_body.specs.declared.Step.{Step}
+use Rattle.page_body.specs.declared.Step.the-variants.{Next, Fault}
+use Rattle.page_body.specs.declared.Turn.{Turn}
+use Rattle.page_body.specs.declared.Turn.the-variants.{Go, Stop}
+use Rattle.page_body.specs.Steps.{Ready, StripeRead, StripeRefused, Striped, endedOf, Onward, StripePassed, StripeTurned}
 
 -- ---- body_end
 pub end-none : (p : Place) → p .stripe ≡ 0 → Stopped (BadStripe (p .at)) ≡ endedOf p

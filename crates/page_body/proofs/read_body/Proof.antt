@@ -1,8 +1,8 @@
-use Rattle.page.proofs.Loop.{Going, looping}
+use Rattle.page_body.proofs.Loop.{Going, looping}
 use Prim.Native.Nat.{_-_}
 use lib.ListN.{length}
-use Rattle.page.proofs.read_body.Statement.{statement}
-use Rattle.page.proofs.read_body.Tie as tie
+use Rattle.page_body.proofs.read_body.Statement.{statement}
+use Rattle.page_body.proofs.read_body.Tie as tie
 
 abbrev Inv-loop : tie.InvT-loop
 Inv-loop out₀ s hd p₀ out p = Going hd s out₀ p out

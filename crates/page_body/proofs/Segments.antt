@@ -26,12 +26,12 @@ use Rattle.page_rules.proofs.Refused.{segment-size}
 use Rattle.segment.specs.declared.Segment.{Segment}
 use Rattle.segment.specs.declared.Segment.the-variants.{End, Stripe, Optional, Wrong}
 use Rattle.segment.specs.Segments.{onSpan, onRead, segmentOf}
-use Rattle.page.specs.declared.Place.{Place}
-use Rattle.page.specs.declared.Body.{Body}
-use Rattle.page.specs.declared.Body.the-variants.{Stripes, Stopped}
-use Rattle.page.specs.declared.Turn.{Turn}
-use Rattle.page.specs.declared.Turn.the-variants.{Go, Stop}
-use Rattle.page.specs.Steps.{Ready, StripeRefused, endedOf, Onward, StripePassed, StripeTurned, Standing, bodyAt, Passed, Over, Refuses, Turned}
+use Rattle.page_body.specs.declared.Place.{Place}
+use Rattle.page_body.specs.declared.Body.{Body}
+use Rattle.page_body.specs.declared.Body.the-variants.{Stripes, Stopped}
+use Rattle.page_body.specs.declared.Turn.{Turn}
+use Rattle.page_body.specs.declared.Turn.the-variants.{Go, Stop}
+use Rattle.page_body.specs.Steps.{Ready, StripeRefused, endedOf, Onward, StripePassed, StripeTurned, Standing, bodyAt, Passed, Over, Refuses, Turned}
 
 module _ (fuel : ℕ) (hd : Head) (k left : ℕ) (acc : List Record) (s : List ℕ) (at : ℕ) where
   abbrev pub onSegment : Segment → Res (List Record)

@@ -31,10 +31,10 @@ use Rattle.fields.specs.declared.Judged.{Judged}
 use Rattle.fields.specs.declared.Judged.the-variants.{Fine, Refused}
 use Rattle.fields.specs.Judged.{judgedOf}
 use Rattle.stripe_records.specs.Places.{fieldsAt}
-use Rattle.page.specs.declared.Step.{Step}
-use Rattle.page.specs.declared.Step.the-variants.{Next, Fault}
-use Rattle.page.specs.Steps.{Laying, layersAt, stepOf, laidOf, Ready, StripeRead, StripeRefused, Striped}
-use Rattle.page.proofs.Kept.{uncut, fields-uncut, records-kept, height-kept, stripe-good}
+use Rattle.page_body.specs.declared.Step.{Step}
+use Rattle.page_body.specs.declared.Step.the-variants.{Next, Fault}
+use Rattle.page_body.specs.Steps.{Laying, layersAt, stepOf, laidOf, Ready, StripeRead, StripeRefused, Striped}
+use Rattle.page_body.proofs.Kept.{uncut, fields-uncut, records-kept, height-kept, stripe-good}
 
 -- ---- the layers
 

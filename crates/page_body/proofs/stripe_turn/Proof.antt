@@ -1,7 +1,7 @@
-use Rattle.page.proofs.Turns.{turning}
+use Rattle.page_body.proofs.Turns.{turning}
 use borrow.Author.Needs.{needs}
-use Rattle.page.proofs.stripe_turn.Statement.{statement}
-use Rattle.page.proofs.stripe_turn.Tie as tie
+use Rattle.page_body.proofs.stripe_turn.Statement.{statement}
+use Rattle.page_body.proofs.stripe_turn.Tie as tie
 
 stripe-step-requires : tie.Need-stripe-step-requires
 stripe-step-requires c κs = search needs

@@ -18,9 +18,9 @@ use Rattle.layers.specs.declared.Layers.{Layers}
 use Rattle.layers.specs.declared.Layers.the-variants.{Read, Broken}
 use Rattle.layers.specs.Layers.{Inside, layersIn}
 use Rattle.stripe_records.specs.Places.{Room, fieldsAt}
-use Rattle.page.specs.declared.Step.{Step}
-use Rattle.page.specs.declared.Step.the-variants.{Next, Fault}
-use Rattle.page.specs.Steps.{Laying, layersAt, stepOf, laidOf}
+use Rattle.page_body.specs.declared.Step.{Step}
+use Rattle.page_body.specs.declared.Step.the-variants.{Next, Fault}
+use Rattle.page_body.specs.Steps.{Laying, layersAt, stepOf, laidOf}
 
 -- ---- stripe_layers
 module _ (out s : List ℕ) (k at : ℕ) (l : Laying out s k at) where
