@@ -69,7 +69,7 @@ fn emit_page(out: &mut [u8], s: &[u8], d: &[u8], t: Tally)
 {
     let n = s.len() / RECORD_SIZE;
     let hd = head_of(s, t);
-    emit::put_start(out, hd);
+    emit_start::put_start(out, hd);
     let at = put_stripes(out, s, d, n);
     put_end(out, at);
 }

@@ -1,7 +1,7 @@
-use Rattle.emit.proofs.Laws.{fields-put}
+use Rattle.emit_head.proofs.Laws.{fields-put}
 use borrow.Author.Needs.{needs}
-use Rattle.emit.proofs.put_fields.Statement.{statement}
-use Rattle.emit.proofs.put_fields.Tie as tie
+use Rattle.emit_head.proofs.put_fields.Statement.{statement}
+use Rattle.emit_head.proofs.put_fields.Tie as tie
 
 type-of-requires : tie.Need-type-of-requires
 type-of-requires c κs = search needs

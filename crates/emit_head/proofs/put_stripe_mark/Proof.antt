@@ -1,7 +1,7 @@
-use Rattle.emit.proofs.Laws.{stripe-marked}
+use Rattle.emit_head.proofs.Laws.{stripe-marked}
 use borrow.Author.Needs.{needs}
-use Rattle.emit.proofs.put_stripe_mark.Statement.{statement}
-use Rattle.emit.proofs.put_stripe_mark.Tie as tie
+use Rattle.emit_head.proofs.put_stripe_mark.Statement.{statement}
+use Rattle.emit_head.proofs.put_stripe_mark.Tie as tie
 
 slice-aggregate-put-octets : tie.Need-slice-aggregate-put-octets
 slice-aggregate-put-octets c = search needs

@@ -1,7 +1,7 @@
-use Rattle.emit.proofs.Laws.{type-made}
+use Rattle.emit_head.proofs.Laws.{type-made}
 use borrow.Author.Needs.{needs}
-use Rattle.emit.proofs.type_of.Statement.{statement}
-use Rattle.emit.proofs.type_of.Tie as tie
+use Rattle.emit_head.proofs.type_of.Statement.{statement}
+use Rattle.emit_head.proofs.type_of.Tie as tie
 
 is-coded-requires : tie.Need-is-coded-requires
 is-coded-requires c κs = search needs

@@ -1,7 +1,7 @@
-use Rattle.emit.proofs.Laws.{starting}
+use Rattle.emit_start.proofs.Laws.{starting}
 use borrow.Author.Needs.{needs}
-use Rattle.emit.proofs.put_start.Statement.{statement}
-use Rattle.emit.proofs.put_start.Tie as tie
+use Rattle.emit_start.proofs.put_start.Statement.{statement}
+use Rattle.emit_start.proofs.put_start.Tie as tie
 
 put-start-mark-requires : tie.Need-put-start-mark-requires
 put-start-mark-requires c κs = search needs

@@ -1,7 +1,7 @@
-use Rattle.emit.proofs.Laws.{head-put}
+use Rattle.emit_head.proofs.Laws.{head-put}
 use borrow.Author.Needs.{needs}
-use Rattle.emit.proofs.put_head.Statement.{statement}
-use Rattle.emit.proofs.put_head.Tie as tie
+use Rattle.emit_head.proofs.put_head.Statement.{statement}
+use Rattle.emit_head.proofs.put_head.Tie as tie
 
 put-stripe-mark-requires : tie.Need-put-stripe-mark-requires
 put-stripe-mark-requires c κs = search needs

@@ -1,7 +1,7 @@
-use Rattle.emit.proofs.Laws.{start-filled}
+use Rattle.emit_start.proofs.Laws.{start-filled}
 use borrow.Author.Needs.{needs}
-use Rattle.emit.proofs.put_start_fields.Statement.{statement}
-use Rattle.emit.proofs.put_start_fields.Tie as tie
+use Rattle.emit_start.proofs.put_start_fields.Statement.{statement}
+use Rattle.emit_start.proofs.put_start_fields.Tie as tie
 
 slice-aggregate-put-octets : tie.Need-slice-aggregate-put-octets
 slice-aggregate-put-octets c = search needs
