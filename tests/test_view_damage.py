@@ -1,0 +1,331 @@
+"""Damaged layers and pages: nothing that is not read for certain is shown, and nothing breaks the viewer.
+
+Cut layers, layers with one changed octet (the shares of docs/VIEWER.md, "Unnoticed damage"), cut
+pages; and damaged pages under a viewer with sanitizers. SEED repeats a run.
+"""
+
+import collections
+import concurrent.futures
+import os
+import random
+import re
+import subprocess
+import sys
+import tempfile
+
+import page_making
+import reference_run
+import test_outside
+import view_making
+import view_reference
+from view_making import END, Shown
+
+ROOT = reference_run.ROOT
+MANUAL = os.path.join(ROOT, "docs", "VIEWER.md")
+CHANGED = 1000            # layers of each kind with one changed octet
+CUTS = 250                # places at which pages are cut
+DAMAGED = 500             # pages for the sanitized viewer
+NEAR = 6                  # points of a hundred by which a measured share may differ from the manual's
+STRIPES = 64
+MASKS = {"MH": (1, "mask.mh"), "MR": (2, "mask.mr"), "MMR": (4, "mask.mmr"), "T.85": (8, "mask.t85")}
+JPEGS = {"JPEG, one scan": "baseline.jpg", "JPEG, ten scans": "progressive.jpg",
+         "JPEG, restarts": "restart.jpg"}
+OUTCOMES = ("unread", "refused", "the same", "unnoticed")
+
+
+class Place:
+    """A folder of one process, and what is shown there."""
+
+    def __init__(self):
+        self.kept = tempfile.TemporaryDirectory(prefix="damage.")
+        self.page, self.out = (os.path.join(self.kept.name, name) for name in ("d.page", "d.png"))
+
+    def show(self, octets, *words, **settings):
+        view_making.write(self.page, octets)
+        if os.path.exists(self.out):
+            os.remove(self.out)
+        return Shown([self.page, "-o", self.out, *words], self.out, **settings)
+
+    def masks(self, coder, layers, width, height):
+        """What becomes of masks, up to 64 of them as the stripes of one page: rows, or None."""
+        page = page_making.start(mask=coder, main=200, width=width)
+        for data in layers:
+            page += page_making.stripe(type=2, height=height, mask=len(data)) + data
+        shown = self.show(page + END)
+        if shown.out is None:
+            return ["refused: %s" % shown.wrong] * len(layers)
+        rows = view_reference.Png(shown.out).rows
+        return [rows[n * height:(n + 1) * height] if shown.is_read(n, 2) else None
+                for n in range(len(layers))]
+
+    def jpeg(self, data, layer):
+        """What becomes of a JPEG layer that covers a page: rows, None, or a refusal's words."""
+        page = page_making.start(main=layer.resolution, width=layer.width)
+        page += page_making.stripe(type=1, x1=0, y1=0, height=layer.height) + data + END
+        shown = self.show(page)
+        if shown.out is None:
+            return "refused: %s" % shown.wrong
+        return view_reference.Png(shown.out).rows if shown.is_read(0, 1) else None
+
+
+def outcome(found, whole):
+    if isinstance(found, str):
+        return "refused"
+    return "unread" if found is None else "the same" if found == whole else "unnoticed"
+
+
+def show_all(place, kind, datas):
+    """The outcome of each damaged layer of a kind."""
+    stored = test_outside.stored()
+    if kind in MASKS:
+        coder, name = MASKS[kind]
+        whole = place.masks(coder, [stored[name].octets], 208, 60)[0]
+        found = []
+        for at in range(0, len(datas), STRIPES):
+            found += place.masks(coder, datas[at:at + STRIPES], 208, 60)
+    else:
+        layer = stored[JPEGS[kind]]
+        whole = place.jpeg(layer.octets, layer)
+        found = [place.jpeg(data, layer) for data in datas]
+    if not isinstance(whole, list):
+        return ["not shown even when whole"] * len(datas)
+    return [outcome(one, whole) for one in found]
+
+
+def layer_of(kind):
+    return test_outside.stored()[MASKS[kind][1] if kind in MASKS else JPEGS[kind]].octets
+
+
+# (a) cut layers
+
+def scans_of(jpeg):
+    """The places of scan headers behind the first: where a cut leaves whole scans."""
+    return [found.start() for found in re.finditer(rb"\xff[\xda\xc4]", jpeg)][1:]
+
+
+def check_cuts_of_layers(kind, seed):
+    rng, place, whole = random.Random(seed), Place(), layer_of(kind)
+    sizes, close = range(1, len(whole)), b""
+    if kind in JPEGS:
+        sizes, close = rng.sample(range(1, len(whole) - 2), 150) + scans_of(whole), b"\xff\xd9"
+        sizes = sorted(set(sizes))
+    found = show_all(place, kind, [whole[:size] + close for size in sizes])
+    wrong = [size for size, one in zip(sizes, found) if one == "unnoticed"]
+    return [(not wrong, "%s of %d octets: cut to %s it is shown as read, with another picture"
+             % (kind, len(whole), wrong[:20])),
+            ("unread" in found and set(found) <= set(OUTCOMES),
+             "%s: no cut layer is unread, but %s" % (kind, set(found)))]
+
+
+def check_other_sizes():
+    """Data of a column or row more or less than the record's, or with an octet behind its end."""
+    place, coders, checks = Place(), view_making.Coders(), []
+    rows = [[int((x + 2 * y) % 23 < 3) for x in range(209)] for y in range(61)]
+    for kind, (coder, _) in MASKS.items():
+        sizes = [(207, 60), (209, 60), (208, 59), (208, 61), (208, 60)]
+        # T.6 data tells no width: where no run ends at the right edge it decodes with any
+        for width, height in sizes[2:] if coder == 4 else sizes:
+            data = coders.mask(coder, [row[:width] for row in rows[:height]])
+            found = place.masks(coder, [data], 208, 60)[0]
+            checks.append(((found is None) == ((width, height) != (208, 60)),
+                           "%s of %d by %d for 208 by 60" % (kind, width, height)))
+    behind = place.masks(8, [layer_of("T.85") + b"\0"], 208, 60)[0]
+    checks.append((behind is None, "T.85 with an octet behind it is read"))
+    return checks
+
+
+# (b) changed octets
+
+def with_changed_octet(rng, octets):
+    at = rng.randrange(len(octets))
+    return octets[:at] + bytes([octets[at] ^ rng.randrange(1, 256)]) + octets[at + 1:]
+
+
+def shares(kind, seed, count):
+    rng, place, whole = random.Random(seed), Place(), layer_of(kind)
+    datas = [with_changed_octet(rng, whole) for _ in range(count)]
+    return collections.Counter(show_all(place, kind, datas))
+
+
+def manual_shares():
+    """The manual's table: the kind, and shares of a hundred in the order of OUTCOMES."""
+    with open(MANUAL, encoding="utf-8") as file:
+        text = file.read().partition("### Unnoticed damage")[2]
+    rows = re.findall(r"^\| ([^|]+?) \|" + r" (\d+) \|" * len(OUTCOMES) + "$", text, re.M)
+    return {row[0]: [int(cell) for cell in row[1:]] for row in rows}
+
+
+def check_shares(tally, counted):
+    told = manual_shares()
+    print("| one octet changed in | %s |" % " | ".join(OUTCOMES))
+    for kind, counts in counted.items():
+        total = sum(counts.values())
+        measured = [100 * counts[one] / total for one in OUTCOMES]
+        print("| %s | %s |" % (kind, " | ".join("%d" % round(share) for share in measured)))
+        due = told.get(kind)
+        tally.check(due is not None and all(abs(a - b) <= NEAR for a, b in zip(measured, due)),
+                    "%s: %s measured, %s in docs/VIEWER.md" % (kind, measured, due))
+        tally.check(total == CHANGED, "%s: %d tried" % (kind, total))
+
+
+# (c) cut pages
+
+def whole_pages():
+    """All of the stored layers that fit together, in pages of several stripes."""
+    layers = test_outside.stored()
+    for coder, mask in MASKS.values():
+        yield (test_outside.Page(layers, 400, coder, width=208)
+               .stripe(mask, "baseline.jpg", "progressive.jpg", height=60)
+               .stripe(back="dense.jpg", height=40).stripe(mask, height=60)
+               .stripe(mask, fore="grey.jpg", height=60).end(zeros=3)[0])
+
+
+def check_cut_pages(seed):
+    rng, place, checks = random.Random(seed), Place(), []
+    pages = [page.rstrip(b"\0") for page in whole_pages()]
+    for number in range(CUTS):
+        page = pages[number % len(pages)]
+        size = rng.choice((rng.randrange(len(page)), rng.randrange(120), len(page) - 1 - number % 5))
+        shown = place.show(page[:size])
+        due = r"%s: refused: Short \(1\) at octet (\d+)\b[^\n]*\n" % re.escape(place.page)
+        told = re.fullmatch(due, shown.wrong)
+        checks.append((shown.status == 1 and told and int(told[1]) <= size,
+                       "cut to %d: status %s, %s" % (size, shown.status, shown.wrong)))
+        left = set(os.listdir(place.kept.name))
+        checks.append((left == {"d.page"} and not shown.told,
+                       "cut to %d: %s are left, told: %s" % (size, left, shown.told)))
+    return checks
+
+
+# (d) a viewer with sanitizers
+
+def sources_of_viewer():
+    """The files of the Makefile's VIEW, as it names them itself."""
+    told = subprocess.run(["make", "-C", ROOT, "-pnq", "build/spirerook-view"], check=False,
+                          stdout=subprocess.PIPE, stderr=subprocess.DEVNULL).stdout.decode()
+    objects = re.search(r"^build/spirerook-view: (.*)$", told, re.M)[1].split()
+    return [os.path.join(ROOT, name.replace("build/", "", 1)[:-2] + ".c")
+            for name in objects if name.endswith(".o")]
+
+
+def build_sanitized(folder):
+    program = os.path.join(folder, "sanitized-view")
+    subprocess.run(
+        ["cc", "-std=c11", "-D_DEFAULT_SOURCE", "-g", "-O1", "-fsanitize=address,undefined",
+         "-fno-sanitize-recover", *os.environ.get("CFLAGS", "").split(),
+         "-Wl,--wrap=setrlimit,--wrap=dup2", "-I", reference_run.HEADERS,
+         "-I", os.path.join(ROOT, "host"), "-o", program, *sources_of_viewer(),
+         os.path.join(reference_run.DRIVER, "no_limits.c"), reference_run.archive(),
+         "-ltiff", "-ljbig", "-ljpeg", "-lz", "-lm"], check=True)
+    return program
+
+
+EXTREMES = [0, 1, 2, 5, 6, 0x7F, 0x80, 0xFF, 0x100, 0x7FFF, 0x8000, 0xFFFF, 0x10000, 0x7FFFFFFF,
+            0x80000000, 0xFFFFFFFF]
+
+
+def damaged(rng, octets):
+    """Changed, put in, taken out, doubled; or a number set to an extreme, first of all in headers."""
+    octets = bytearray(octets)
+    for _ in range(rng.choice((1, 1, 2, 5))):
+        heads = [found.start() for found in re.finditer(rb"MRC|G3FAX|\xff[\xc0-\xdf]", octets)]
+        near = rng.choice(heads or [0]) + rng.randrange(-2, 40)
+        at = min(max(near if rng.random() < 0.7 else rng.randrange(len(octets)), 0), len(octets) - 1)
+        size = rng.choice((1, 1, 2, 4, 30))
+        kind = rng.randrange(5)
+        if kind == 0:
+            octets[at] = rng.randrange(256)
+        elif kind == 1:
+            octets[at:at] = bytes(rng.randrange(256) for _ in range(size))
+        elif kind == 2 and len(octets) > 40:
+            del octets[at:at + size]
+        elif kind == 3:
+            octets[at:at] = octets[at:at + 10 * size]
+        else:
+            width = rng.choice((1, 2, 4))
+            octets[at:at + width] = (rng.choice(EXTREMES) % 256 ** width).to_bytes(width, "big")
+    return bytes(octets)
+
+
+def pencil_page(rng):
+    coders = view_making.Coders()
+    page = view_making.random_page(rng, coders, True)
+    return (page.octets(), *page.sheet_and_pencil())
+
+
+def sanitizer_settings(folder, **others):
+    log = "log_path=%s:exitcode=99" % os.path.join(folder, "report")
+    return {**os.environ, "ASAN_OPTIONS": log, "UBSAN_OPTIONS": log + ":print_stacktrace=1",
+            "LSAN_OPTIONS": "exitcode=99", **others}
+
+
+def reports(folder):
+    """What sanitizers wrote, in this process or a decoder's."""
+    names = [name for name in os.listdir(folder) if name.startswith("report")]
+    return "\n".join(view_making.read(os.path.join(folder, name)).decode("utf-8", "replace")
+                     or "an empty report" for name in sorted(names))
+
+
+def check_planted(program):
+    """Faults planted in a decoder's process are caught, so that silence means something."""
+    checks = []
+    for plant, due in (("address", "heap-buffer-overflow"), ("undefined", "signed integer overflow")):
+        place = Place()
+        settings = sanitizer_settings(place.kept.name, PLANT=plant)
+        shown = place.show(next(whole_pages()), view=program, env=settings)
+        told = reports(place.kept.name) + shown.wrong
+        checks.append((due in told and "its decoder broke off" in shown.told,
+                       "a planted fault (%s) is not caught: %s %s" % (plant, shown.told, told)))
+    return checks
+
+
+def check_sanitized(program, seed, count):
+    rng, place, checks = random.Random(seed), Place(), []
+    pages, folder = list(whole_pages()), place.kept.name
+    settings = sanitizer_settings(folder)
+    for number in range(count):
+        words, page = [], rng.choice(pages)
+        if number % 25 == 0:
+            page, sheet, pencil = pencil_page(rng)
+        if number % 25 < 10:
+            words = ["--pencil", place.page + ".sheet", place.page + ".pencil"]
+            view_making.write(words[1], damaged(rng, sheet) if number % 2 else sheet)
+            view_making.write(words[2], damaged(rng, pencil) if number % 3 else pencil)
+        is_good = words and number % 2
+        page = page if is_good else damaged(rng, page)
+        shown = place.show(page, *words, view=program, env=settings)
+        good = (shown.status in (0, 1, 3) and not reports(folder)
+                and "runtime error" not in shown.wrong and shown.wrong.count("\n") <= 1
+                and "its decoder broke off" not in shown.told)
+        if not good and os.environ.get("KEEP"):
+            view_making.write(os.path.join(os.environ["KEEP"], "%d-%d.page" % (seed, number)), page)
+        checks.append((good, "damaged page %d of %d: status %s\n%s\n%s" % (
+            number, seed, shown.status, shown.wrong[:2000], reports(folder)[:3000])))
+        for name in os.listdir(folder):
+            if name.startswith("report"):
+                os.remove(os.path.join(folder, name))
+    return checks
+
+
+def main():
+    tally = reference_run.Tally()
+    seed = view_making.seed_of_run()
+    if not view_making.prepare(tally):
+        return tally.end()
+    kinds = list(MASKS) + list(JPEGS)
+    with tempfile.TemporaryDirectory() as folder, concurrent.futures.ProcessPoolExecutor(2) as pool:
+        program = build_sanitized(folder)
+        found = [pool.submit(check_sanitized, program, seed + n, DAMAGED // 4) for n in range(4)]
+        counted = {kind: pool.submit(shares, kind, seed, CHANGED) for kind in kinds}
+        found += [pool.submit(check_planted, program), pool.submit(check_cut_pages, seed),
+                  pool.submit(check_other_sizes)]
+        found += [pool.submit(check_cuts_of_layers, kind, seed) for kind in kinds]
+        for one in found:
+            for holds, told in one.result():
+                tally.check(holds, told)
+        check_shares(tally, {kind: one.result() for kind, one in counted.items()})
+    return tally.end()
+
+
+if __name__ == "__main__":
+    sys.exit(main())
