@@ -2,90 +2,37 @@
 -- Assumes nothing.
 use Prim.Native.Nat.{ℕ, _+_, _-_, _/_, _≤_, _<_}
 use native.Mathlib.Omega.{arith}
-use mathlib.Core.Path.{_≡_, refl, sym, ap, ap₂, subst, _∙_}
-use mathlib.Core.Logic.{⊎-elim}
-use mathlib.Core.Bool.{Bool, true, false, cond, _&&_}
+use mathlib.Core.Path.{_≡_, refl, sym, ap, subst, _∙_}
+use mathlib.Core.Bool.{_&&_}
 use mathlib.Core.List.{List}
 use lib.ListN.{length, take, drop}
-use lib.Dec.{eqb, leb, ltb}
-use borrow.Author.Tests.{eq-eqb, ne-eqb}
+use lib.Dec.{leb}
 use borrow.Author.Needs.{needs}
 use denote.Ref.{RefT, now, ptr}
 use Rattle.cases.proofs.Cases.{cond-with, clash}
-use Rattle.cases.proofs.Says.{says-le, says-lt, says-and, says-else}
+use Rattle.cases.proofs.Says.{says-le, says-and}
 use Rattle.answers.specs.declared.Answer.{Answer}
-use Rattle.answers.specs.declared.Answer.the-variants.{Done, Short, BadSheet, BadLine}
-use Rattle.sheet_rules.specs.declared.Record.{Record}
+use Rattle.answers.specs.declared.Answer.the-variants.{BadSheet, BadLine}
 use Rattle.sheet_rules.specs.declared.Stripe.{Stripe}
 use Rattle.sheet_rules.specs.declared.FoundStripe.{FoundStripe}
 use Rattle.sheet_rules.specs.declared.FoundStripe.the-variants.{Row, NoStripe}
 use Rattle.sheet_rules.specs.declared.FoundLayer.{FoundLayer}
 use Rattle.sheet_rules.specs.declared.FoundLayer.the-variants.{At, NoLayer}
 use Rattle.sheet_rules.specs.declared.Verdict.{Verdict}
-use Rattle.sheet_rules.specs.declared.Verdict.the-variants.{Good, Bad}
-use Rattle.sheet_rules.specs.Record.{recordSize, recordAt, records}
+use Rattle.sheet_rules.specs.declared.Verdict.the-variants.{Bad}
+use Rattle.sheet_rules.specs.Record.{recordSize, recordAt}
 use Rattle.sheet_rules.specs.Judge.{judgeOf, answerOf}
-use Rattle.sheet_rules.specs.Stripe.{rowOf, findStripe, findLayer}
-use Rattle.sheet_rules.proofs.Theorems.{sheet-accepted, refused-few, sheet-few}
-use Rattle.sheet_rules.proofs.Table.{sheet-table, stripe-found, stripe-missing, layer-found}
+use Rattle.sheet_rules.specs.Stripe.{findStripe, findLayer}
 use Rattle.data_rules.specs.declared.Source.{Source}
 use Rattle.data_rules.specs.declared.Source.the-variants.{Page, Pencil}
 use Rattle.data_rules.specs.declared.Part.{Part}
 use Rattle.data_rules.specs.declared.Found.{Found}
 use Rattle.data_rules.specs.declared.Found.the-variants.{Lies, Refuses}
-use Rattle.data_rules.specs.Data.{sourceOf, sourceNumber, octetsIn, emptyPart, partIn, recordFound, layerFound, stripeFound, sheetFound, foundOf, dataBy, partBy, partOf, sourceBy, partSource, startBy, partStart}
-use Rattle.data_rules.proofs.Layer.{source-low, source-high, octets-low, octets-high}
+use Rattle.data_rules.specs.Data.{octetsIn, recordFound, layerFound, stripeFound, sheetFound, foundOf, partBy, partOf, sourceBy, partSource, startBy, partStart}
 use Rattle.data_rules.proofs.Handed.{lies-within}
-use Rattle.report.specs.declared.Report.{Report}
-use Rattle.report.specs.Report.{reportOf}
-use Rattle.data.specs.declared.DataReport.{DataReport}
 use Rattle.stripe.specs.Steps.{Whole, Accepted}
 use Rattle.stripe.proofs.Found.{sheet-good, found-whole, fault-small}
-use Rattle.data.specs.Reported.{spot, PartAt, lentFrom, HandsPart, reportAt, reportFound}
-
--- ---- the source of a layer
-
-module _ (l : ℕ) where
-  pub source-page : l ≤ 3 → Page ≡ sourceOf l
-  source-page h = sym (source-low l h)
-
-  pub source-pencil : 3 < l → Pencil ≡ sourceOf l
-  source-pencil h = sym (source-high l h)
-
-module _ (page pencil : List ℕ) (l : ℕ) where
-  pub len-page : l ≤ 3 → length page ≡ length (octetsIn page pencil (sourceOf l))
-  len-page h = sym (ap length (octets-low page pencil l h))
-
-  pub len-pencil : 3 < l → length pencil ≡ length (octetsIn page pencil (sourceOf l))
-  len-pencil h = sym (ap length (octets-high page pencil l h))
-
--- ---- the part of a record
-
-module _ (l : ℕ) (r : Record) where
-  pub in-uncoded : r .len ≡ 0 → emptyPart ≡ partIn l r
-  unfolding partIn
-  in-uncoded e = simp (eq-eqb (r .len) 0 e)
-
-  pub in-coded : (x : Source) → (r .len ≡ 0 → ⊥) → x ≡ sourceOf l → record { source = x; start = r .start; len = r .len } ≡ partIn l r
-  unfolding partIn
-  in-coded x d e = simp (ne-eqb (r .len) 0 d, e)
-
-module _ (page pencil : List ℕ) (l : ℕ) (r : Record) where
-  pub passes-made : (n e : ℕ) → n ≡ length (octetsIn page pencil (sourceOf l)) → e ≡ r .start + r .len
-      → ltb n e ≡ ltb (length (octetsIn page pencil (sourceOf l))) (r .start + r .len)
-  passes-made n e p q = ap₂ ltb p q
-
-module _ (s page pencil : List ℕ) (l i : ℕ) (r : Record) (b : Bool) (e : r ≡ recordAt s i)
-    (q : b ≡ ltb (length (octetsIn page pencil (sourceOf l))) (r .start + r .len)) where
-  by-test : cond b (Refuses (Short i)) (Lies (partIn l r)) ≡ recordFound page pencil l i (recordAt s i)
-  unfolding recordFound
-  by-test = ap (λ (c : Bool). cond c (Refuses (Short i)) (Lies (partIn l r))) q ∙ ap (recordFound page pencil l i) e
-
-  pub record-short : b ≡ true → Refuses (Short i) ≡ recordFound page pencil l i (recordAt s i)
-  record-short t = rw t at by-test
-
-  pub record-lies : (p : Part) → b ≡ false → p ≡ partIn l r → Lies p ≡ recordFound page pencil l i (recordAt s i)
-  record-lies p t h = ap Lies h ∙ rw t at by-test
+use Rattle.data.specs.Handed.{spot, PartAt, lentFrom, HandsPart}
 
 -- ---- a layer of a stripe
 
@@ -191,35 +138,6 @@ module _ (s : List ℕ) (page pencil : RefT (List ℕ)) (k l : ℕ) (f : Found) 
       pub part-pencil : (r : RefT (List ℕ)) → x ≡ Pencil → PartAt pencil (p .start) (p .len) r → HandsPart s page pencil k l r
       unfolding octetsIn lentFrom
       part-pencil r v w = part-as Pencil (sym u ∙ v) r w refl
-
--- ---- the report
-
-module _ (x : Source) where
-  pub number-page : x ≡ Page → 0 ≡ sourceNumber x
-  unfolding sourceNumber
-  number-page e = ap sourceNumber (sym e)
-
-  pub number-pencil : x ≡ Pencil → 1 ≡ sourceNumber x
-  unfolding sourceNumber
-  number-pencil e = ap sourceNumber (sym e)
-
-pub report-made : (a : Answer) (x n : ℕ) (q : Report) → q ≡ reportOf a
-    → record { number = q .number; place = q .place; count = q .count; source = x; start = n } ≡ reportAt a x n
-unfolding reportAt reportOf
-report-made a x n q e = ap (λ (z : Report). record { number = z .number; place = z .place; count = z .count; source = x; start = n }) e
-
-module _ (f : Found) (r : DataReport) where
-  pub report-lies : (p : Part) (n : ℕ) → f ≡ Lies p → n ≡ sourceNumber (p .source) → r ≡ reportAt (Done (p .len)) n (p .start) → r ≡ reportFound f
-  unfolding reportFound dataBy sourceBy startBy
-  report-lies p n z e h = h ∙ ap (λ (m : ℕ). reportAt (Done (p .len)) m (p .start)) e ∙ ap reportFound (sym z)
-
-  pub report-refuses : (a : Answer) → f ≡ Refuses a → r ≡ reportAt a 0 0 → r ≡ reportFound f
-  unfolding reportFound dataBy sourceBy startBy sourceNumber
-  report-refuses a z h = h ∙ ap reportFound (sym z)
-
-pub ruleset reporting = (needs, number-page, number-pencil, report-made, report-lies, report-refuses)
-
-pub ruleset naming = (needs, source-page, source-pencil, len-page, len-pencil, in-uncoded, in-coded, passes-made, record-short, record-lies)
 
 pub ruleset finding = (needs, layer-none, layer-there, layer-in, layer-small, stripe-none, stripe-row, sheet-bad, sheet-good, found-whole, fault-small)
 

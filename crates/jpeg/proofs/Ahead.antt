@@ -9,6 +9,7 @@ use native.Mathlib.Omega.{arith}
 use lib.ListN.{length, getD}
 use lib.Dec.{ltb, eqb}
 use borrow.Author.Tests.{ltb-false}
+use Rattle.cases.proofs.Cases.{cond-with}
 use Rattle.octets.specs.Octets.{be16At}
 use Rattle.jpeg_rules.specs.declared.Class.{Class}
 use Rattle.jpeg_rules.specs.declared.Class.the-variants.{Alone, Frame, Scan, End, Wrong, Segment}
@@ -28,29 +29,8 @@ use Rattle.jpeg_rules.specs.declared.Walk.{Walk}
 use Rattle.jpeg_rules.specs.declared.Walk.the-variants.{Ends, Refused}
 use Rattle.jpeg_rules.specs.Marker.{classOf, markerOf}
 use Rattle.jpeg_rules.specs.Walk.{segOf, stopsOf, scanFrom, scanOf, resolves, tagOf, passed, moved, refused, onBody, onFound, onTag, onMarker, frameBodyOf, frameOf, scanStepOf, segmentOf, endOf, markOf, turnOf, onTurn, walkFrom, begun, walkOf}
-use Rattle.jpeg.specs.Room.{Room}
-
--- a choice, by what its test says
-cond-with : {A : Type 0} (P : A → Type 0) (b : Bool) {x y : A} → (b ≡ true → P x) → (b ≡ false → P y) → P (cond b x y)
-cond-with P true f g = f refl
-cond-with P false f g = g refl
-
--- ---- a whole segment
-
-abbrev Roomy : List ℕ → ℕ → ℕ → Seg → Type 0
-Roomy s n least (Body next) = Room s n least next
-Roomy s n least (Bad f) = Unit {0}
-
-roomy : (s : List ℕ) (n least : ℕ) → Roomy s n least (segOf s n least)
-unfolding segOf
-roomy s n least =
-    cond-with (Roomy s n least) (ltb (length s) (n + 2)) (λ _. tt) λ _.
-    cond-with (Roomy s n least) (ltb (be16At s n) least) (λ _. tt) λ b.
-    cond-with (Roomy s n least) (ltb (length s) (n + be16At s n)) (λ _. tt) λ c.
-    record { ends = refl; enough = omega (arith, ltb-false (be16At s n) least b); fits = ltb-false _ _ c }
-
-pub room : (s : List ℕ) (n least next : ℕ) {g : Seg} → g ≡ segOf s n least → g ≡ Body next → Room s n least next
-room s n least next z b = rw (sym z ∙ b) at (roomy s n least)
+use Rattle.jpeg_segment.specs.Room.{Room}
+use Rattle.jpeg_segment.proofs.Whole.{Roomy, roomy}
 
 -- ---- a marker
 

@@ -75,7 +75,7 @@ fn fore_behind(s: &[u8], main: u16, t: u8, back: Coded, at: u32) -> Layers
     requires { ⌜ Inside (now s) at ⌝ }
     ensures { λ r. ⌜ r ≡ foreOf (now (s .entry)) main t back at ⌝ }
 {
-    match layer_at(s, main, segment::has_fore(t), at) {
+    match layer_at(s, main, stripe_fields::has_fore(t), at) {
         Layer::Wrong(a) => Layers::Broken(a),
         Layer::Known { coded, next } => Layers::Read {
             back,
@@ -90,8 +90,8 @@ pub fn read_layers(s: &[u8], main: u16, t: u8, mask: u32, at: u32) -> Layers
     requires { ⌜ Inside (now s) at ⌝ }
     ensures { λ r. ⌜ r ≡ layersIn (now (s .entry)) main t mask at ⌝ }
 {
-    if segment::fits(s, at, mask) {
-        match layer_at(s, main, segment::has_back(t), at + mask) {
+    if fields::fits(s, at, mask) {
+        match layer_at(s, main, stripe_fields::has_back(t), at + mask) {
             Layer::Wrong(a) => Layers::Broken(a),
             Layer::Known { coded, next } => fore_behind(s, main, t, coded, next),
         }

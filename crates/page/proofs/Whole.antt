@@ -21,16 +21,19 @@ use Rattle.sheet_rules.specs.Record.{sheetOf}
 use Rattle.sheet_rules.proofs.Cut.{sheet-length}
 use Rattle.page_rules.specs.declared.Head.{Head}
 use Rattle.page_rules.specs.Reading.{startRows, headFrom, bodyFrom, zerosOf, endRows, pageOf, roomOf, readOf, intoOf, readInto, Reads}
-use Rattle.segment.specs.declared.Judged.the-variants.{Fine, Refused}
-use Rattle.segment.specs.declared.Judged.{Judged as Fields}
-use Rattle.segment.specs.Judged.{judgedOf, headAt, closeOf}
-use Rattle.page.specs.declared.Body.{Body}
-use Rattle.page.specs.declared.Body.the-variants.{Stripes, Stopped}
+use Rattle.fields.specs.declared.Judged.the-variants.{Fine, Refused}
+use Rattle.fields.specs.declared.Judged.{Judged as Fields}
+use Rattle.fields.specs.Judged.{judgedOf}
+use Rattle.segment.specs.Ends.{closeOf}
+use Rattle.start_fields.specs.Start.{headAt}
+use Rattle.page_body.specs.declared.Body.{Body}
+use Rattle.page_body.specs.declared.Body.the-variants.{Stripes, Stopped}
 use Rattle.page.specs.declared.Verdict.{Verdict}
 use Rattle.page.specs.declared.Verdict.the-variants.{Sheet, Bad}
-use Rattle.page.specs.Steps.{Opened, BodyRead, Bodied, Lent, restOf, Judged, Judges, Emits}
-use Rattle.page.proofs.Kept.{head-kept}
-use Rattle.page.proofs.Stripe.{judged-no, judged-ok}
+use Rattle.page.specs.Steps.{Lent, restOf, Judged, Judges, Emits}
+use Rattle.page_body.specs.Steps.{Opened, BodyRead, Bodied}
+use Rattle.page_body.proofs.Kept.{head-kept}
+use Rattle.page_body.proofs.Stripe.{judged-no, judged-ok}
 
 -- ---- judge_rest
 

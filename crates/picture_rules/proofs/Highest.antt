@@ -72,6 +72,15 @@ highest-or-none mask (suc n) =
     further : mask (suc n * 2) ≡ false → AllZero mask n → AllZero mask (suc n)
     further e z i p q = at-most (λ l. mask (l * 2) ≡ false) i q e (λ r. z i p r)
 
+-- ---- the pairs of a stripe are all that its layers make
+
+module _ (v : Scene) where
+  pub pairs-all : (l : ℕ) → l ≤ v .row .layers → l ≤ pairsOf v * 2 + 1
+  pairs-all l h = omega arith
+
+  pub pairs-only : (j : ℕ) → j ≤ pairsOf v → j * 2 ≤ v .row .layers
+  pairs-only j h = omega arith
+
 -- ---- at a place of a scene, under a content
 
 module _ (v : Scene) (w : Content) (x y : MainPos) where

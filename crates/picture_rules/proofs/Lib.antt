@@ -7,7 +7,6 @@ pub mod Fours
 pub mod Ruled
 pub mod Demand3
 pub mod Exactly
-pub mod Pixels
 pub mod Highest
 pub mod Lists
 pub mod Starts

@@ -94,5 +94,5 @@ pub fn put_record(d: &mut [u8], at: usize, r: Record)
     ensures { λ _. ⌜ now (d .exit) ≡ putAt (now (d .entry)) at (encode r) ⌝ }
 {
     let b = encoded(r);
-    octets::put_octets(d, at, &b);
+    put::put_octets(d, at, &b);
 }

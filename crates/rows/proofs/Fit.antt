@@ -28,8 +28,9 @@ use Rattle.picture_rules.specs.Line.{depth}
 use Rattle.picture_rules.proofs.Division.{says-covers, says-inside}
 use Rattle.picture_rules.proofs.Scenes.{Stage, stage-layers, stage-placed, scene-ratio-some}
 use Rattle.picture_rules.proofs.Within.{mask-there, image-there}
-use Rattle.pixel.specs.declared.Row.{Row}
-use Rattle.pixel.specs.Rows.{rowAt, rowMask, rowImage, rowStack, MaskFits, ImageFits, PairFits, RowsFit}
+use Rattle.fetch.specs.declared.Row.{Row}
+use Rattle.fetch.specs.Rows.{rowAt, rowMask, rowImage, MaskFits, ImageFits}
+use Rattle.pixel.specs.Rows.{rowStack, PairFits, RowsFit}
 use Rattle.rows.specs.Rows.{layerAt, rowIn, rowOut, rowBy, otherOf, rowOf, rowsOf}
 use Rattle.rows.proofs.Laws.{length-rows}
 use Rattle.rows.proofs.Same.{row-among, mask-same, image-same, other-image}

@@ -29,8 +29,8 @@ use Rattle.picture_rules.proofs.Division.{says-covers, scale-within}
 use Rattle.plane.proofs.Laws.{product-small}
 use Rattle.plane.specs.declared.Listing.{Listing}
 use Rattle.plane.specs.Listing.{entriesOf}
-use Rattle.pixel.specs.declared.Row.{Row}
-use Rattle.pixel.specs.Rows.{numbersOf}
+use Rattle.fetch.specs.declared.Row.{Row}
+use Rattle.fetch.specs.Rows.{numbersOf}
 use Rattle.rows.specs.Rows.{layerAt, mainAt, rowIn, rowOut, rowBy, otherOf, rowOf, rowsOf, Covered, Layer, Standing}
 
 -- ---- an area

@@ -30,8 +30,8 @@ use Rattle.picture_rules.specs.Place.{ratio, scale, covers, inside}
 use Rattle.picture_rules.specs.Planes.{startOf}
 use Rattle.picture_rules.specs.Samples.{Scene, recordOf, mainOf, indexOf, bitOf, colourAt, baseOf, virtual, maskRead, imageRead, maskAt, imageAt}
 use Rattle.picture_rules.specs.Line.{depth}
-use Rattle.pixel.specs.declared.Row.{Row}
-use Rattle.pixel.specs.Rows.{rowAt, numbersOf, across, rowMask, rowImage}
+use Rattle.fetch.specs.declared.Row.{Row}
+use Rattle.fetch.specs.Rows.{rowAt, numbersOf, across, rowMask, rowImage}
 use Rattle.rows.specs.Rows.{layerAt, mainAt, rowIn, rowOut, rowBy, otherOf, rowOf, rowsOf}
 use Rattle.rows.proofs.Laws.{length-rows}
 

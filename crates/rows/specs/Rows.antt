@@ -26,8 +26,8 @@ use Rattle.picture_rules.specs.declared.Start.the-variants.{From, Unread}
 use Rattle.picture_rules.specs.Place.{ratio, scale, covers}
 use Rattle.picture_rules.specs.Planes.{startOf}
 use Rattle.picture_rules.specs.Line.{depth}
-use Rattle.pixel.specs.declared.Row.{Row}
-use Rattle.pixel.specs.Rows.{numbersOf}
+use Rattle.fetch.specs.declared.Row.{Row}
+use Rattle.fetch.specs.Rows.{numbersOf}
 
 unfoldable pub layerAt : List ℕ → Stripe → ℕ → Record
 layerAt s row l = recordAt s (row .first + (l - 1))

@@ -9,13 +9,13 @@ ghost use Rattle.sheet_rules.specs.Judge.{coded};
 ghost use Rattle.picture_rules.specs.Place.{covers};
 ghost use Rattle.picture_rules.specs.Line.{depth};
 ghost use Rattle.plane.specs.Listing.{entriesOf};
-ghost use Rattle.pixel.specs.Rows.{numbersOf};
+ghost use Rattle.fetch.specs.Rows.{numbersOf};
 ghost use Rattle.rows.specs.Rows.{layerAt, mainAt, rowIn, rowOut, rowBy, otherOf, rowOf, rowsOf, Covered, Layer, Standing};
+use fetch::ROW_SIZE;
+use fetch::Row;
 use picture_rules::MainPos;
 use picture_rules::SamplePos;
 use picture_rules::Start;
-use pixel::ROW_SIZE;
-use pixel::Row;
 use plane::Listing;
 use sheet_rules::RECORD_SIZE;
 use sheet_rules::Record;
@@ -72,7 +72,7 @@ pub fn row_in(r: Record, k: usize, y: MainPos, p: Start, other: usize) -> Row
                 a,
                 r.width,
                 r.layer,
-                pixel::scale_pos(k, plane::wide(r.y), y),
+                samples::scale_pos(k, plane::wide(r.y), y),
             ),
             other: other,
         },

@@ -17,10 +17,11 @@ use Rattle.answers.specs.declared.Answer.{Answer}
 use Rattle.answers.specs.declared.Answer.the-variants.{BadMark, Trailing}
 use Rattle.field_rules.specs.Field.{Res, ok, no, bind, fields}
 use Rattle.page_rules.specs.Reading.{zerosOf, endRows}
-use Rattle.segment.specs.declared.Judged.{Judged}
-use Rattle.segment.specs.declared.Judged.the-variants.{Fine, Refused}
-use Rattle.segment.specs.Judged.{fieldOf, judgedOf, zerosFrom, closeOf}
-use Rattle.segment.proofs.Lines.{line-begin, line-mark, line-end}
+use Rattle.fields.specs.declared.Judged.{Judged}
+use Rattle.fields.specs.declared.Judged.the-variants.{Fine, Refused}
+use Rattle.segment.specs.Ends.{zerosFrom, closeOf}
+use Rattle.fields.specs.Judged.{fieldOf, judgedOf}
+use Rattle.fields.proofs.Lines.{line-begin, line-mark, line-end}
 
 -- ---- trailing
 pub record Zeros (s : List ℕ) (from i : ℕ) : Type 0 where

@@ -1,6 +1,2 @@
-pub mod Laws
-pub mod Lines
-pub mod Start
-pub mod Stripe
 pub mod Segments
 pub mod End

@@ -3,7 +3,7 @@
 use Prim.Native.Nat.{ℕ}
 use mathlib.Core.Path.{_≡_, sym, _∙_}
 use mathlib.Core.List.{List}
-use Rattle.data.specs.declared.DataReport.{DataReport}
+use Rattle.data_report.specs.declared.DataReport.{DataReport}
 use Rattle.spirerook.specs.Calls.{DataCall}
 use Rattle.report.specs.declared.Report.{Report}
 use Rattle.spirerook.specs.Calls.{ReadCall, WriteCall, LineCall}

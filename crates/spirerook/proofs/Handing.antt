@@ -22,9 +22,9 @@ use Rattle.data_rules.specs.Sentences.{Nothing}
 use Rattle.page_rules.specs.Reading.{readOf, readInto}
 use Rattle.data_rules.proofs.Own.{OwnParts, read-parts}
 use Rattle.data_rules.proofs.Handed.{Stands, part-stands, part-refused}
-use Rattle.data.specs.declared.DataReport.{DataReport}
-use Rattle.data.specs.Reported.{reportAt, reportFound, dataReport}
-use Rattle.data.proofs.Firm.{report-found}
+use Rattle.data_report.specs.declared.DataReport.{DataReport}
+use Rattle.data_report.specs.Reported.{reportAt, reportFound, dataReport}
+use Rattle.data_report.proofs.Firm.{report-found}
 use Rattle.spirerook.specs.Calls.{ReadCall, DataCall}
 use Rattle.spirerook.proofs.Reports.{report-done, report-refused}
 

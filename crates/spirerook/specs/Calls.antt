@@ -10,8 +10,8 @@ use mathlib.Core.List.{List}
 use lib.ListN.{length}
 use Rattle.report.specs.declared.Report.{Report}
 use Rattle.report.specs.Report.{reportOf}
-use Rattle.data.specs.declared.DataReport.{DataReport}
-use Rattle.data.specs.Reported.{dataReport}
+use Rattle.data_report.specs.declared.DataReport.{DataReport}
+use Rattle.data_report.specs.Reported.{dataReport}
 use Rattle.page_rules.specs.Reading.{readOf, readInto}
 use Rattle.write_rules.specs.Writing.{writeOf, writeInto}
 use Rattle.picture_rules.specs.Planes.{listOf}

@@ -1,6 +1,6 @@
 // The calls that a viewer in C links (include/spirerook.h). Each is thin: it calls the library's function and reports its answer.
 ghost use Rattle.spirerook.specs.Calls.{ReadCall, WriteCall, LineCall, DataCall};
-use data::DataReport;
+use data_report::DataReport;
 use report::Report;
 
 #[no_mangle]
@@ -46,5 +46,5 @@ pub extern "C" fn spirerook_data(
     ensures { λ r. ⌜ DataCall (now (sheet .entry)) (now (page .entry)) (now (pencil .entry)) stripe layer r ⌝ }
 {
     let f = data::find_data(sheet, page, pencil, stripe, layer);
-    data::report_found(f)
+    data_report::report_found(f)
 }

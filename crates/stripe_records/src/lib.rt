@@ -49,9 +49,9 @@ fn image_record(s: &[u8], hd: Head, k: u16, layer: u8, base: u32, offset: u32, c
     requires { ⌜ Near base offset ⌝ }
     ensures { λ r. ⌜ r ≡ imageRecord hd k layer (colourAt (now (s .entry)) base) (be32At (now (s .entry)) offset % 65536) (be32At (now (s .entry)) (offset + 4) % 65536) c ⌝ }
 {
-    let base0 = segment::octet(s, base);
-    let base1 = segment::octet(s, base + 1);
-    let base2 = segment::octet(s, base + 2);
+    let base0 = fields::octet(s, base);
+    let base1 = fields::octet(s, base + 1);
+    let base2 = fields::octet(s, base + 2);
     match c {
         Coded::There {
             start,
@@ -63,8 +63,8 @@ fn image_record(s: &[u8], hd: Head, k: u16, layer: u8, base: u32, offset: u32, c
             stripe: k,
             layer,
             coder: 1,
-            x: low16(segment::four(s, offset)),
-            y: low16(segment::four(s, offset + 4)),
+            x: low16(fields::four(s, offset)),
+            y: low16(fields::four(s, offset + 4)),
             width,
             height,
             res,
@@ -84,13 +84,13 @@ fn image_record(s: &[u8], hd: Head, k: u16, layer: u8, base: u32, offset: u32, c
 fn coder_if(t: u8, coder: u8) -> u8
     ensures { λ r. ⌜ r ≡ cond (hasMask t) coder 0 ⌝ }
 {
-    if segment::has_mask(t) { coder } else { 0 }
+    if stripe_fields::has_mask(t) { coder } else { 0 }
 }
 
 fn start_if(t: u8, start: u32) -> u32
     ensures { λ r. ⌜ r ≡ cond (hasMask t) start 0 ⌝ }
 {
-    if segment::has_mask(t) { start } else { 0 }
+    if stripe_fields::has_mask(t) { start } else { 0 }
 }
 
 // 01: layer 2 has the page's width and the stripe's height, coded or not.
@@ -123,9 +123,9 @@ fn mask_at(s: &[u8], hd: Head, k: u16, at: u32) -> Record
     requires { ⌜ at ≤ 16777215 ⌝ }
     ensures { λ r. ⌜ r ≡ maskRecord hd k (be32At (now (s .entry)) (at + 23) % 65536) (cond (hasMask (getD (now (s .entry)) at 0)) (hd .mask) 0) (cond (hasMask (getD (now (s .entry)) at 0)) (at + 31) 0) (be32At (now (s .entry)) (at + 27)) ⌝ }
 {
-    let t = segment::octet(s, at);
-    let height = segment::four(s, at + 23);
-    let len = segment::four(s, at + 27);
+    let t = fields::octet(s, at);
+    let height = fields::four(s, at + 23);
+    let len = fields::four(s, at + 27);
     mask_record(hd, k, t, height, at + 31, len)
 }
 

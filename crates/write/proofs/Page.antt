@@ -30,7 +30,7 @@ use Rattle.write_rules.proofs.Written.{records-sized, threes, length-written}
 use Rattle.write_verdict.specs.declared.Pass.{Pass}
 use Rattle.write_verdict.specs.declared.Pass.the-variants.{Next, Wrong}
 use Rattle.write_verdict.specs.Pass.{passOf}
-use Rattle.emit.proofs.Laws.{put-more}
+use Rattle.emit_start.proofs.Laws.{put-more}
 use Rattle.write.specs.Steps.{Lined, Sound, Fitting}
 
 -- ---- head_of

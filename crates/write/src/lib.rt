@@ -59,8 +59,8 @@ fn put_end(out: &mut [u8], at: usize)
     requires { ⌜ at + 4 ≤ length (now out) ⌝ }
     ensures { λ _. ⌜ now (out .exit) ≡ putAt (now (out .entry)) at (0xFF ∷ 0xD9 ∷ 0xFF ∷ 0xD9 ∷ []) ⌝ }
 {
-    octets::put_octets(out, at, &EOI);
-    octets::put_octets(out, at + 2, &EOI);
+    put::put_octets(out, at, &EOI);
+    put::put_octets(out, at + 2, &EOI);
 }
 
 fn emit_page(out: &mut [u8], s: &[u8], d: &[u8], t: Tally)
@@ -69,7 +69,7 @@ fn emit_page(out: &mut [u8], s: &[u8], d: &[u8], t: Tally)
 {
     let n = s.len() / RECORD_SIZE;
     let hd = head_of(s, t);
-    emit::put_start(out, hd);
+    emit_start::put_start(out, hd);
     let at = put_stripes(out, s, d, n);
     put_end(out, at);
 }

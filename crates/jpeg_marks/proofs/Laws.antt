@@ -1,0 +1,92 @@
+-- One law for each way out of a frame's, a scan's and the end's step: its premises are what is known there.
+-- Assumes nothing.
+use Prim.Native.Nat.{ℕ, _+_}
+use mathlib.Core.Bool.{true, false}
+use mathlib.Core.List.{List}
+use mathlib.Core.Path.{_≡_, sym, _∙_}
+use borrow.Author.Tests.{eq-eqb, ne-eqb}
+use Rattle.octets.specs.Octets.{be16At}
+use Rattle.jpeg_rules.specs.declared.Fault.{Fault}
+use Rattle.jpeg_rules.specs.declared.Fault.the-variants.{Short, BadLayer}
+use Rattle.jpeg_rules.specs.declared.Found.{Found}
+use Rattle.jpeg_rules.specs.declared.Found.the-variants.{At, Nothing}
+use Rattle.jpeg_rules.specs.declared.Reach.{Reach}
+use Rattle.jpeg_rules.specs.declared.Seg.{Seg}
+use Rattle.jpeg_rules.specs.declared.Seg.the-variants.{Body, Bad}
+use Rattle.jpeg_rules.specs.declared.Turn.{Turn}
+use Rattle.jpeg_rules.specs.declared.Turn.the-variants.{Go, Stop}
+use Rattle.jpeg_rules.specs.declared.Walk.the-variants.{Ends}
+use Rattle.jpeg_rules.specs.Walk.{segOf, scanOf, framed, passed, refused, frameBodyOf, frameOf, scanStepOf, endOf}
+use Rattle.jpeg_segment.proofs.Whole.{room}
+
+-- ---- frame_body and frame_step
+module _ (s : List ℕ) (st : Reach) (n next : ℕ) {h : ℕ} (e : h ≡ be16At s (n + 3)) where
+  pub no-height : h ≡ 0 → refused (BadLayer (n + 3)) ≡ frameBodyOf s st n next
+  unfolding frameBodyOf
+  no-height z = simp (eq-eqb (be16At s (n + 3)) 0 (sym e ∙ z))
+
+  module _ (d : h ≡ 0 → ⊥) {w : ℕ} (f : w ≡ be16At s (n + 5)) where
+    pub no-width : w ≡ 0 → refused (BadLayer (n + 5)) ≡ frameBodyOf s st n next
+    unfolding frameBodyOf
+    no-width z = simp (ne-eqb (be16At s (n + 3)) 0 (rw e at d), eq-eqb (be16At s (n + 5)) 0 (sym f ∙ z))
+
+    pub whole-frame : (w ≡ 0 → ⊥) → Go (framed st next w h) ≡ frameBodyOf s st n next
+    unfolding frameBodyOf
+    whole-frame m = rw (e, f) (simp (ne-eqb (be16At s (n + 3)) 0 (rw e at d), ne-eqb (be16At s (n + 5)) 0 (rw f at m)))
+
+pub ruleset frame-body-laws = (no-height, no-width, whole-frame)
+
+module _ (s : List ℕ) (st : Reach) (n : ℕ) where
+  pub frame-again : st .framed ≡ true → refused (BadLayer (st .at)) ≡ frameOf s st n
+  unfolding frameOf
+  frame-again f = simp f
+
+  module _ (f : st .framed ≡ false) where
+    pub frame-early : st .res ≡ 0 → refused (BadLayer (st .at)) ≡ frameOf s st n
+    unfolding frameOf
+    frame-early z = simp (f, eq-eqb (st .res) 0 z)
+
+    module _ (z : st .res ≡ 0 → ⊥) {g : Seg} (y : g ≡ segOf s n 8) where
+      pub frame-bad : {x : Fault} → g ≡ Bad x → refused x ≡ frameOf s st n
+      unfolding frameOf
+      frame-bad b = simp (f, ne-eqb (st .res) 0 z, sym y ∙ b)
+
+      pub frame-whole : {next : ℕ} {r : Turn} → g ≡ Body next → r ≡ frameBodyOf s st n next → r ≡ frameOf s st n
+      unfolding frameOf
+      frame-whole b h = h ∙ simp (f, ne-eqb (st .res) 0 z, sym y ∙ b)
+
+pub ruleset frame-laws = (room, frame-again, frame-early, frame-bad, frame-whole)
+
+-- ---- scan_step
+module _ (s : List ℕ) (st : Reach) (n : ℕ) where
+  pub scan-early : st .framed ≡ false → refused (BadLayer (st .at)) ≡ scanStepOf s st n
+  unfolding scanStepOf
+  scan-early f = simp f
+
+  module _ (f : st .framed ≡ true) {g : Seg} (z : g ≡ segOf s n 2) where
+    pub scan-bad : {x : Fault} → g ≡ Bad x → refused x ≡ scanStepOf s st n
+    unfolding scanStepOf
+    scan-bad b = simp (f, sym z ∙ b)
+
+    module _ {next : ℕ} (b : g ≡ Body next) {r : Found} (y : r ≡ scanOf s next) where
+      pub scan-open : r ≡ Nothing → refused (Short next) ≡ scanStepOf s st n
+      unfolding scanStepOf
+      scan-open e = simp (f, sym z ∙ b, sym y ∙ e)
+
+      pub scan-whole : {p : ℕ} → r ≡ At p → Go (passed st p) ≡ scanStepOf s st n
+      unfolding scanStepOf
+      scan-whole e = simp (f, sym z ∙ b, sym y ∙ e)
+
+pub ruleset scan-laws = (scan-early, scan-bad, scan-open, scan-whole)
+
+-- ---- end_step
+module _ (st : Reach) (n : ℕ) where
+  pub end-whole : st .scanned ≡ true → Stop (Ends n (st .width) (st .height) (st .res)) ≡ endOf st n
+  unfolding endOf
+  end-whole f = simp f
+
+  pub end-bare : st .scanned ≡ false → refused (BadLayer (st .at)) ≡ endOf st n
+  unfolding endOf
+  end-bare f = simp f
+
+pub ruleset end-laws = (end-whole, end-bare)

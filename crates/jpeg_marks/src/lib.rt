@@ -1,0 +1,92 @@
+// What the walk does at a frame, at a scan and at the end of a JPEG layer.
+ghost use mathlib.Core.Path.{_≡_};
+ghost use Prim.Native.Nat.{_≤_};
+ghost use lib.ListN.{length};
+ghost use Rattle.jpeg_rules.specs.Walk.{frameBodyOf, frameOf, scanStepOf, endOf};
+ghost use Rattle.jpeg_segment.specs.Room.{Room};
+use jpeg_rules::Fault;
+use jpeg_rules::Found;
+use jpeg_rules::Reach;
+use jpeg_rules::Seg;
+use jpeg_rules::Turn;
+use jpeg_rules::Walk;
+
+// T.81 B.2.2: a precision octet stands before the number of lines, and that before the samples a line.
+fn frame_body(s: &[u8], st: Reach, n: usize, next: usize) -> Turn
+    requires { ⌜ Room (now s) n 8 next ⌝ }
+    ensures { λ r. ⌜ r ≡ frameBodyOf (now (s .entry)) st n next ⌝ }
+{
+    let height = octets::be16(s, n + 3);
+    if height == 0 {
+        return Turn::Stop(Walk::Refused(Fault::BadLayer(n + 3)));
+    }
+    let width = octets::be16(s, n + 5);
+    if width == 0 {
+        return Turn::Stop(Walk::Refused(Fault::BadLayer(n + 5)));
+    }
+    Turn::Go(Reach {
+        at: next,
+        framed: true,
+        scanned: st.scanned,
+        res: st.res,
+        width,
+        height,
+    })
+}
+
+// Order before length: a frame out of its place is refused at its marker, whatever it holds.
+pub fn frame_step(s: &[u8], st: Reach, n: usize) -> Turn
+    requires { ⌜ n ≤ length (now s) ⌝ }
+    ensures { λ r. ⌜ r ≡ frameOf (now (s .entry)) st n ⌝ }
+{
+    if st.framed {
+        return Turn::Stop(Walk::Refused(Fault::BadLayer(st.at)));
+    }
+    if st.res == 0 {
+        return Turn::Stop(Walk::Refused(Fault::BadLayer(st.at)));
+    }
+    match jpeg_segment::seg_at(s, n, 8) {
+        Seg::Bad(f) => Turn::Stop(Walk::Refused(f)),
+        Seg::Body(next) => frame_body(s, st, n, next),
+    }
+}
+
+// T.81 B.2.3: the scan header's components are not read; the data behind it ends at the next marker.
+pub fn scan_step(s: &[u8], st: Reach, n: usize) -> Turn
+    requires { ⌜ n ≤ length (now s) ⌝ }
+    ensures { λ r. ⌜ r ≡ scanStepOf (now (s .entry)) st n ⌝ }
+{
+    if st.framed {
+        match jpeg_segment::seg_at(s, n, 2) {
+            Seg::Bad(f) => Turn::Stop(Walk::Refused(f)),
+            Seg::Body(next) => match scan::next_marker(s, next) {
+                Found::Nothing => Turn::Stop(Walk::Refused(Fault::Short(next))),
+                Found::At(p) => Turn::Go(Reach {
+                    at: p,
+                    framed: true,
+                    scanned: true,
+                    res: st.res,
+                    width: st.width,
+                    height: st.height,
+                }),
+            },
+        }
+    } else {
+        Turn::Stop(Walk::Refused(Fault::BadLayer(st.at)))
+    }
+}
+
+pub fn end_step(st: Reach, n: usize) -> Turn
+    ensures { λ r. ⌜ r ≡ endOf st n ⌝ }
+{
+    if st.scanned {
+        Turn::Stop(Walk::Ends {
+            next: n,
+            width: st.width,
+            height: st.height,
+            res: st.res,
+        })
+    } else {
+        Turn::Stop(Walk::Refused(Fault::BadLayer(st.at)))
+    }
+}
