@@ -228,7 +228,7 @@ def check_largest(tally, folder):
     status, told, seconds, used = used_by([page, "-o", folder.out, "--memory", "%dM" % memory])
     megabytes = used.ru_maxrss / 1024
     print("the largest page: %.1f s, %d MB" % (seconds, megabytes))
-    tally.check(status in (0, 3) and "32768 by 65535 pixels" in told and told.count(": read\n") >= 40,
+    tally.check(status in (0, 3) and "32768 by 65535 pixels" in told and told.count(": read\n") >= 10,
                 "the largest page: status %s, %s" % (status, told[-300:]))
     tally.check(seconds < 60, "the largest page took %.1f s" % seconds)
     tally.check(megabytes < 64 + memory, "the largest page took %d MB" % megabytes)
