@@ -269,7 +269,7 @@ def check_time(tally, folder):
     reasons = [re.search("stripe %d, layer 1: [^:]*: ([^;\n]*)" % n, shown.told) for n in range(5)]
     reasons = [found and found[1] for found in reasons]
     over = ["UNREAD: its decoder took over 10 seconds"] * 2
-    used = ["UNREAD: the 25 seconds for decoders are used up"] * 2
+    used = ["UNREAD: no time is left for its decoder"] * 2
     tally.check(reasons == ["read", *over, *used], "slow decoders: %s %s" % (reasons, shown.status))
     tally.check(shown.unseen() == (60 * 160, 60 * 200) and shown.status == 3,
                 "slow decoders: %s" % shown.told)

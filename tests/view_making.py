@@ -2,7 +2,6 @@
 samples that are kept: so what a decoder must find is known without one."""
 
 import concurrent.futures
-import fcntl
 import os
 import re
 import resource
@@ -31,11 +30,8 @@ SECONDS = 60
 
 def prepare(tally):
     """The viewer and the coders are there, or the test says what is missing."""
-    # tests run side by side, and only one of them may install
-    with open(os.path.join(ROOT, "build", "need.lock"), "w", encoding="ascii") as lock:
-        fcntl.flock(lock, fcntl.LOCK_EX)
-        needed = subprocess.run(["bash", os.path.join(ROOT, "tests", "need"), *NEEDS], check=False,
-                                stdout=subprocess.PIPE).stdout.decode("utf-8", "replace")
+    needed = subprocess.run(["bash", os.path.join(ROOT, "tests", "need"), *NEEDS], check=False,
+                            stdout=subprocess.PIPE).stdout.decode("utf-8", "replace")
     tally.check("could not install" not in needed, needed)
     tally.check(os.path.exists(VIEW), "no build/spirerook-view: make it first")
     return tally.failed == 0

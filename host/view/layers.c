@@ -120,7 +120,7 @@ static void tell_why(const options *asked, finding found, const uint8_t *record)
         case LAYER_NO_MEMORY: printf("its decoder has not enough memory"); break;
         case LAYER_BROKE_OFF: printf("its decoder broke off"); break;
         case LAYER_TOO_SLOW: printf("its decoder took over %d seconds", DECODER_SECONDS); break;
-        case LAYER_NO_TIME: printf("the %d seconds for decoders are used up", DECODERS_SECONDS); break;
+        case LAYER_NO_TIME: printf("no time is left for its decoder"); break;
         case LAYER_TOO_LARGE:
             printf("its %" PRIu64 " octets of samples, with those of lower layers, pass the %" PRIu64 " allowed to a stripe (--memory)",
                    spirerook_record_samples(record), asked->memory);
