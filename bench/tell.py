@@ -1,0 +1,92 @@
+"""tell.py <LOG >docs/BENCH.md: the ratios of a run of `make bench` as a page."""
+
+import re
+import sys
+
+HEAD = """# How fast it is
+
+`make bench` builds the proved calls and the same work in plain C, checks that both give the same answers, and times them side by side, in turns, in one
+run. Only ratios are told: the library's time over the other's, so below 1 it is faster. Seconds belong to a machine. `make bench >LOG` and `python3
+bench/tell.py <LOG >docs/BENCH.md` make this page again; all figures are of one run on two shared processors.
+"""
+
+def table(title, said, columns, rows):
+    print("\n## %s\n\n%s\n\n| %s |\n|%s" % (title, said, " | ".join(columns), "---|" * len(columns)))
+    for row in rows:
+        print("| %s |" % " | ".join(row))
+
+
+def block(lines, begin):
+    """The rows behind a heading, up to the next empty line."""
+    at = next(k for k, line in enumerate(lines) if begin in line) + 1
+    rows = []
+    while at < len(lines) and lines[at].strip():
+        rows.append(lines[at])
+        at += 1
+    return rows
+
+
+def name_and_numbers(line):
+    """A row's name, and its numbers; limits, which follow a ratio, are left in."""
+    found = re.match(r"(.*?)  +([-\d.!].*)$", line.strip() if not line.startswith(" ") else line[1:])
+    return found[1].strip(), found[2].replace("!", "").split()
+
+
+def judge(lines):
+    rows = [name_and_numbers(line) for line in block(lines, "Rattle ns       C ns")]
+    table("The judge, and finding a stripe", "A sheet judged, and a stripe found in a sheet that was judged, beside C.", ("what", "beside C"),
+          [(name, numbers[2]) for name, numbers in rows])
+
+
+def pages(lines):
+    rows = []
+    for line in block(lines, "/ octets  limit"):
+        name, numbers = line[:36].strip(), line[36:].replace("!", "")
+        rows.append((name, numbers[33:42].strip(), numbers[49:60].strip()))
+    table("Reading a page", "Beside C that looks at each octet, and C that finds FF by memchr.", ("page", "beside C by octets", "beside C by memchr"), rows)
+
+
+def writes(lines):
+    rows = []
+    for line in block(lines, "copy + read  / octets"):
+        name, numbers = line[:36].strip(), line[36:].split()
+        rows.append((name, *(numbers[4:7] if numbers[3] != "-" else [*numbers[4:6], ""])))
+    table("Writing a page", "Beside the same in C, and beside one memcpy of the page and one proved reading of it.",
+          ("page", "beside C by octets", "beside C by memchr", "beside copy and read"), rows)
+
+
+def lines_of_pixels(lines):
+    groups = {}
+    for line in block(lines, "nanoseconds a pixel"):
+        found = re.match(r" *(\d+) layers, k +(\d+), .*? +([\d.]+) +([\d.]+) +([\d.]+) +([\d.]+) +([\d.]+)", line)
+        groups.setdefault(int(found[1]), []).append((float(found[6]), float(found[7])))
+    rows = [("%d layers, %d rows" % (layers, len(ratios)), *("%.2f to %.2f" % (min(column), max(column)) for column in zip(*ratios)))
+            for layers, ratios in sorted(groups.items())]
+    table("A line of pixels", "Beside the literal C composer, which does the paper's rule for each layer of each pixel, and beside C that finds each layer's row once a "
+          "line.\nRows differ in the resolution, the masks (in runs, at random) and in what is read; the limit is 1.3 of the literal one.",
+          ("stripe", "beside literal C", "beside C by rows"), rows)
+    others = [name_and_numbers(line) for line in block(lines, "microseconds a line")]
+    table("Lines of other kinds", "The same two, a line each.", ("line", "beside literal C", "beside C by rows"),
+          [(name, *numbers[3:5]) for name, numbers in others])
+
+
+def viewer(lines):
+    at = next(k for k, line in enumerate(lines) if line.startswith("the viewer on"))
+    print("\n## The viewer\n\nT%s.\n\n| part | share |\n|---|---|" % lines[at][1:].rstrip())
+    for line in lines[at + 1:at + 6]:
+        part, share = line.rsplit(None, 1)
+        print("| %s | %s |" % (part.strip(), share))
+    ratio = re.search(r"literal C composer: ([\d.]+), limit ([\d.]+)", lines[at + 6])
+    print("\nComposing through the library takes %s of what the same viewer takes with the literal C composer in its place; the limit is %s. The picture is the\n"
+          "same, octet for octet." % ratio.groups())
+
+
+def main():
+    lines = sys.stdin.read().splitlines()
+    print(HEAD, end="")
+    for part in (judge, pages, writes, lines_of_pixels, viewer):
+        part(lines)
+
+
+if __name__ == "__main__":
+    main()
