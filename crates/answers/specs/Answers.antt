@@ -1,8 +1,12 @@
--- The answers of a call, as the three numbers that the viewer is given.
---   numberOf a   its number in the paper's table "Numbers that a call returns"
+-- The answers of a call, as the three numbers that the viewer is given. One more answer is a line in `toldOf`, in `table` and in `every`.
+--
+--   Told         number, place and count
+--   refusal      those of a refusal, which counts nothing
+--   toldOf a     the paper's table "Numbers that a call returns", line by line
+--   numberOf a   its number there
 --   placeOf a    the octet, record or list entry at fault; 0 where the paper gives none
 --   countOf a    the records or octets of the work done; 0 for a refusal
---   table n p    the names of the paper's table in its order, with a count and a place
+--   table n p    the names of the table in its order, with a count and a place
 -- Assumes nothing.
 use mathlib.Core.Path.{_≡_, refl}
 use mathlib.Core.List.{List, [], _∷_, map}
@@ -13,68 +17,46 @@ use lib.ListN.{getD}
 use Rattle.answers.specs.declared.Answer.{Answer}
 use Rattle.answers.specs.declared.Answer.the-variants.{Done, Short, BadMark, BadLength, BadVersion, BadMode, BadCoder, BadRes, BadWidth, BadType, BadStripe, BadLayer, Trailing, NoRoom, BadSheet, BadPlane, Mismatch, BadLine, TooLong}
 
+pub record Told : Type 0 where
+  pub number : ℕ
+  pub place : ℕ
+  pub count : ℕ
+
+abbrev refusal : ℕ → ℕ → Told
+refusal number place = record { number = number; place = place; count = 0 }
+
+unfoldable pub toldOf : Answer → Told
+toldOf (Done n) = record { number = 0; place = 0; count = n }
+toldOf (Short p) = refusal 1 p
+toldOf (BadMark p) = refusal 2 p
+toldOf (BadLength p) = refusal 3 p
+toldOf (BadVersion p) = refusal 4 p
+toldOf (BadMode p) = refusal 5 p
+toldOf (BadCoder p) = refusal 6 p
+toldOf (BadRes p) = refusal 7 p
+toldOf (BadWidth p) = refusal 8 p
+toldOf (BadType p) = refusal 9 p
+toldOf (BadStripe p) = refusal 10 p
+toldOf (BadLayer p) = refusal 11 p
+toldOf (Trailing p) = refusal 12 p
+toldOf NoRoom = refusal 13 0
+toldOf (BadSheet p) = refusal 14 p
+toldOf (BadPlane p) = refusal 15 p
+toldOf (Mismatch p) = refusal 16 p
+toldOf BadLine = refusal 17 0
+toldOf TooLong = refusal 18 0
+
 unfoldable pub numberOf : Answer → ℕ
-numberOf (Done n) = 0
-numberOf (Short p) = 1
-numberOf (BadMark p) = 2
-numberOf (BadLength p) = 3
-numberOf (BadVersion p) = 4
-numberOf (BadMode p) = 5
-numberOf (BadCoder p) = 6
-numberOf (BadRes p) = 7
-numberOf (BadWidth p) = 8
-numberOf (BadType p) = 9
-numberOf (BadStripe p) = 10
-numberOf (BadLayer p) = 11
-numberOf (Trailing p) = 12
-numberOf NoRoom = 13
-numberOf (BadSheet p) = 14
-numberOf (BadPlane p) = 15
-numberOf (Mismatch p) = 16
-numberOf BadLine = 17
-numberOf TooLong = 18
+unfolding toldOf
+numberOf a = toldOf a .number
 
 unfoldable pub placeOf : Answer → ℕ
-placeOf (Done n) = 0
-placeOf (Short p) = p
-placeOf (BadMark p) = p
-placeOf (BadLength p) = p
-placeOf (BadVersion p) = p
-placeOf (BadMode p) = p
-placeOf (BadCoder p) = p
-placeOf (BadRes p) = p
-placeOf (BadWidth p) = p
-placeOf (BadType p) = p
-placeOf (BadStripe p) = p
-placeOf (BadLayer p) = p
-placeOf (Trailing p) = p
-placeOf NoRoom = 0
-placeOf (BadSheet p) = p
-placeOf (BadPlane p) = p
-placeOf (Mismatch p) = p
-placeOf BadLine = 0
-placeOf TooLong = 0
+unfolding toldOf
+placeOf a = toldOf a .place
 
 unfoldable pub countOf : Answer → ℕ
-countOf (Done n) = n
-countOf (Short p) = 0
-countOf (BadMark p) = 0
-countOf (BadLength p) = 0
-countOf (BadVersion p) = 0
-countOf (BadMode p) = 0
-countOf (BadCoder p) = 0
-countOf (BadRes p) = 0
-countOf (BadWidth p) = 0
-countOf (BadType p) = 0
-countOf (BadStripe p) = 0
-countOf (BadLayer p) = 0
-countOf (Trailing p) = 0
-countOf NoRoom = 0
-countOf (BadSheet p) = 0
-countOf (BadPlane p) = 0
-countOf (Mismatch p) = 0
-countOf BadLine = 0
-countOf TooLong = 0
+unfolding toldOf
+countOf a = toldOf a .count
 
 unfoldable pub table : ℕ → ℕ → List Answer
 table n p =
@@ -89,28 +71,35 @@ pub numbers : (n p : ℕ) → map numberOf (table n p) ≡ 0 ∷ 1 ∷ 2 ∷ 3 �
 unfolding numberOf table
 numbers n p = refl
 
+record Every (a : Answer) : Type 0 where
+  pub back : getD (table (countOf a) (placeOf a)) (numberOf a) TooLong ≡ a
+  pub kind : ((numberOf a ≡ 0) × (placeOf a ≡ 0)) ⊎ ((0 < numberOf a) × (numberOf a ≤ 18) × (countOf a ≡ 0))
+
+every : (a : Answer) → Every a
+unfolding numberOf placeOf countOf table
+every (Done n) = record { back = refl; kind = inl (omega arith) }
+every (Short p) = record { back = refl; kind = inr (omega arith) }
+every (BadMark p) = record { back = refl; kind = inr (omega arith) }
+every (BadLength p) = record { back = refl; kind = inr (omega arith) }
+every (BadVersion p) = record { back = refl; kind = inr (omega arith) }
+every (BadMode p) = record { back = refl; kind = inr (omega arith) }
+every (BadCoder p) = record { back = refl; kind = inr (omega arith) }
+every (BadRes p) = record { back = refl; kind = inr (omega arith) }
+every (BadWidth p) = record { back = refl; kind = inr (omega arith) }
+every (BadType p) = record { back = refl; kind = inr (omega arith) }
+every (BadStripe p) = record { back = refl; kind = inr (omega arith) }
+every (BadLayer p) = record { back = refl; kind = inr (omega arith) }
+every (Trailing p) = record { back = refl; kind = inr (omega arith) }
+every NoRoom = record { back = refl; kind = inr (omega arith) }
+every (BadSheet p) = record { back = refl; kind = inr (omega arith) }
+every (BadPlane p) = record { back = refl; kind = inr (omega arith) }
+every (Mismatch p) = record { back = refl; kind = inr (omega arith) }
+every BadLine = record { back = refl; kind = inr (omega arith) }
+every TooLong = record { back = refl; kind = inr (omega arith) }
+
 -- an answer is the one that stands in the table at its number, with its count and its place
 pub answer-back : (a : Answer) → getD (table (countOf a) (placeOf a)) (numberOf a) TooLong ≡ a
-unfolding numberOf placeOf countOf table
-answer-back (Done n) = refl
-answer-back (Short p) = refl
-answer-back (BadMark p) = refl
-answer-back (BadLength p) = refl
-answer-back (BadVersion p) = refl
-answer-back (BadMode p) = refl
-answer-back (BadCoder p) = refl
-answer-back (BadRes p) = refl
-answer-back (BadWidth p) = refl
-answer-back (BadType p) = refl
-answer-back (BadStripe p) = refl
-answer-back (BadLayer p) = refl
-answer-back (Trailing p) = refl
-answer-back NoRoom = refl
-answer-back (BadSheet p) = refl
-answer-back (BadPlane p) = refl
-answer-back (Mismatch p) = refl
-answer-back BadLine = refl
-answer-back TooLong = refl
+answer-back a = every a .back
 
 -- no two answers look the same to the viewer
 pub answer-by-values : (a b : Answer) → numberOf a ≡ numberOf b → placeOf a ≡ placeOf b → countOf a ≡ countOf b → a ≡ b
@@ -118,26 +107,7 @@ answer-by-values a b n p c = cc (answer-back a, answer-back b)
 
 -- an answer is Done and has no place, or a refusal, of number 1 to 18, and has no count
 pub answer-kind : (a : Answer) → ((numberOf a ≡ 0) × (placeOf a ≡ 0)) ⊎ ((0 < numberOf a) × (numberOf a ≤ 18) × (countOf a ≡ 0))
-unfolding numberOf placeOf countOf
-answer-kind (Done n) = inl (omega arith)
-answer-kind (Short p) = inr (omega arith)
-answer-kind (BadMark p) = inr (omega arith)
-answer-kind (BadLength p) = inr (omega arith)
-answer-kind (BadVersion p) = inr (omega arith)
-answer-kind (BadMode p) = inr (omega arith)
-answer-kind (BadCoder p) = inr (omega arith)
-answer-kind (BadRes p) = inr (omega arith)
-answer-kind (BadWidth p) = inr (omega arith)
-answer-kind (BadType p) = inr (omega arith)
-answer-kind (BadStripe p) = inr (omega arith)
-answer-kind (BadLayer p) = inr (omega arith)
-answer-kind (Trailing p) = inr (omega arith)
-answer-kind NoRoom = inr (omega arith)
-answer-kind (BadSheet p) = inr (omega arith)
-answer-kind (BadPlane p) = inr (omega arith)
-answer-kind (Mismatch p) = inr (omega arith)
-answer-kind BadLine = inr (omega arith)
-answer-kind TooLong = inr (omega arith)
+answer-kind a = every a .kind
 
 pub number-most : (a : Answer) → numberOf a ≤ 18
 number-most a = ⊎-elim (λ d. omega arith) (λ r. omega arith) (answer-kind a)

@@ -19,19 +19,19 @@ fn low16(x: u64) -> u64
 // Records and stripes of a good sheet, or the mark and the record at fault.
 #[no_mangle]
 pub extern "C" fn bench_judge(sheet: &[u8]) -> u64 {
-    match sheet::judge(sheet) {
+    match sheet_judge::judge(sheet) {
         Verdict::Good { records, stripes } => low16(records as u64) * 65536 + low16(stripes as u64),
-        Verdict::Bad { record } => REFUSED + low16(record as u64),
+        Verdict::Refused { record } => REFUSED + low16(record as u64),
     }
 }
 
 // First record, layers, top and height of stripe k, or 0 where there is none: a stripe has a layer.
 #[no_mangle]
 pub extern "C" fn bench_find_stripe(sheet: &[u8], k: u32) -> u64 {
-    match stripe::find_stripe(sheet, k as usize) {
-        FoundStripe::Row(row) => {
-            let upper = low16(row.first as u64) * 65536 + low16(row.layers as u64);
-            let lower = low16(row.top as u64) * 65536 + low16(row.height as u64);
+    match sheet_table::find_stripe(sheet, k as usize) {
+        FoundStripe::Has(extent) => {
+            let upper = low16(extent.first as u64) * 65536 + low16(extent.layers as u64);
+            let lower = low16(extent.top as u64) * 65536 + low16(extent.height as u64);
             upper * 4294967296 + lower
         }
         FoundStripe::NoStripe => 0,

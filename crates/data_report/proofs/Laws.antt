@@ -9,10 +9,10 @@ use Rattle.data_rules.specs.declared.Source.{Source}
 use Rattle.data_rules.specs.declared.Source.the-variants.{Page, Pencil}
 use Rattle.data_rules.specs.declared.Part.{Part}
 use Rattle.data_rules.specs.declared.Found.{Found}
-use Rattle.data_rules.specs.declared.Found.the-variants.{Lies, Refuses}
+use Rattle.data_rules.specs.declared.Found.the-variants.{Lies, Refused}
 use Rattle.data_rules.specs.Data.{sourceNumber, dataBy, sourceBy, startBy}
-use Rattle.report.specs.declared.Report.{Report}
-use Rattle.report.specs.Report.{reportOf}
+use Rattle.answers_report.specs.declared.Report.{Report}
+use Rattle.answers_report.specs.Report.{reportOf}
 use Rattle.data_report.specs.declared.DataReport.{DataReport}
 use Rattle.data_report.specs.Reported.{reportAt, reportFound}
 
@@ -35,7 +35,7 @@ module _ (f : Found) (r : DataReport) where
   unfolding reportFound dataBy sourceBy startBy
   report-lies p n z e h = h ∙ ap (λ (m : ℕ). reportAt (Done (p .len)) m (p .start)) e ∙ ap reportFound (sym z)
 
-  pub report-refuses : (a : Answer) → f ≡ Refuses a → r ≡ reportAt a 0 0 → r ≡ reportFound f
+  pub report-refuses : (a : Answer) → f ≡ Refused a → r ≡ reportAt a 0 0 → r ≡ reportFound f
   unfolding reportFound dataBy sourceBy startBy sourceNumber
   report-refuses a z h = h ∙ ap reportFound (sym z)
 

@@ -29,7 +29,7 @@ pub fn source_number(x: Source) -> u32
 fn report_at(a: Answer, source: u32, start: u32) -> DataReport
     ensures { λ r. ⌜ r ≡ reportAt a source start ⌝ }
 {
-    let r = report::reported(a);
+    let r = answers_report::reported(a);
     DataReport {
         number: r.number,
         place: r.place,
@@ -48,6 +48,6 @@ pub fn report_found(f: Found) -> DataReport
             let source = source_number(x);
             report_at(Answer::Done(p.len as u64), source, p.start)
         }
-        Found::Refuses(a) => report_at(a, 0, 0),
+        Found::Refused(a) => report_at(a, 0, 0),
     }
 }

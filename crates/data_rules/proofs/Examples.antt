@@ -11,11 +11,11 @@ use Rattle.sheet_rules.specs.declared.Record.{Record}
 use Rattle.sheet_rules.specs.Record.{recordAt, encode, sheetOf, recordsFrom, records, sumOf}
 use Rattle.sheet_rules.specs.Judge.{keeps, after, after1, after2, after3, stepOf, endOf, onStep, walk, judge, judgeOf, answerOf}
 use Rattle.sheet_rules.proofs.Make.{made}
-use Rattle.sheet_rules.specs.Stripe.{rowOf, few, foundRow, findStripe, findLayer}
+use Rattle.sheet_rules.specs.StripeTable.{extentOf, few, foundExtent, findStripe, findLayer}
 use Rattle.data_rules.specs.declared.Source.{Source}
 use Rattle.data_rules.specs.declared.Source.the-variants.{Page, Pencil}
 use Rattle.data_rules.specs.declared.Found.{Found}
-use Rattle.data_rules.specs.declared.Found.the-variants.{Lies, Refuses}
+use Rattle.data_rules.specs.declared.Found.the-variants.{Lies, Refused}
 use Rattle.data_rules.specs.Data.{foundOf, dataBy, dataOf, partBy, partOf, sourceBy, partSource, startBy, partStart}
 
 -- a record of this sheet: stripe, layer, coder, size, resolution, coded data
@@ -51,29 +51,29 @@ lies x start len = Lies (record { source = x; start = start; len = len })
 
 -- layers 2 and 3 stand in the page, 4 and 5 in the pencil file
 pub in-page : Asked sheet 0 2 (Done 3) (12 ∷ 13 ∷ 14 ∷ []) Page 2 × Asked sheet 1 3 (Done 1) (17 ∷ []) Page 7
-unfolding foundOf dataBy partBy sourceBy startBy judgeOf judge walk onStep stepOf keeps after after1 after2 after3 endOf records recordsFrom recordAt be16At be32At rowOf few foundRow findStripe findLayer sumOf answerOf sheet page pencil lies
+unfolding foundOf dataBy partBy sourceBy startBy judgeOf judge walk onStep stepOf keeps after after1 after2 after3 endOf records recordsFrom recordAt be16At be32At extentOf few foundExtent findStripe findLayer sumOf answerOf sheet page pencil lies
 in-page = (asked sheet 0 2 (lies Page 2 3) refl, asked sheet 1 3 (lies Page 7 1) refl)
 
 pub in-pencil : Asked sheet 0 4 (Done 2) (20 ∷ 21 ∷ []) Pencil 0 × Asked sheet 0 5 (Done 1) (22 ∷ []) Pencil 2
-unfolding foundOf dataBy partBy sourceBy startBy judgeOf judge walk onStep stepOf keeps after after1 after2 after3 endOf records recordsFrom recordAt be16At be32At rowOf few foundRow findStripe findLayer sumOf answerOf sheet page pencil lies
+unfolding foundOf dataBy partBy sourceBy startBy judgeOf judge walk onStep stepOf keeps after after1 after2 after3 endOf records recordsFrom recordAt be16At be32At extentOf few foundExtent findStripe findLayer sumOf answerOf sheet page pencil lies
 in-pencil = (asked sheet 0 4 (lies Pencil 0 2) refl, asked sheet 0 5 (lies Pencil 2 1) refl)
 
 -- an uncoded layer, below and above layer 3
 pub uncoded : Asked sheet 0 3 (Done 0) [] Page 0 × Asked sheet 1 5 (Done 0) [] Page 0
-unfolding foundOf dataBy partBy sourceBy startBy judgeOf judge walk onStep stepOf keeps after after1 after2 after3 endOf records recordsFrom recordAt be16At be32At rowOf few foundRow findStripe findLayer sumOf answerOf sheet page pencil lies
+unfolding foundOf dataBy partBy sourceBy startBy judgeOf judge walk onStep stepOf keeps after after1 after2 after3 endOf records recordsFrom recordAt be16At be32At extentOf few foundExtent findStripe findLayer sumOf answerOf sheet page pencil lies
 uncoded = (asked sheet 0 3 (lies Page 0 0) refl, asked sheet 1 5 (lies Page 0 0) refl)
 
 -- the fifth octet of a pencil file of four: record 8 is at fault, not layer 4
 pub short : Asked sheet 1 4 (Short 8) [] Page 0
-unfolding foundOf dataBy partBy sourceBy startBy judgeOf judge walk onStep stepOf keeps after after1 after2 after3 endOf records recordsFrom recordAt be16At be32At rowOf few foundRow findStripe findLayer sumOf answerOf sheet page pencil
-short = asked sheet 1 4 (Refuses (Short 8)) refl
+unfolding foundOf dataBy partBy sourceBy startBy judgeOf judge walk onStep stepOf keeps after after1 after2 after3 endOf records recordsFrom recordAt be16At be32At extentOf few foundExtent findStripe findLayer sumOf answerOf sheet page pencil
+short = asked sheet 1 4 (Refused (Short 8)) refl
 
 -- no layer 0 and 6, and no stripe 2
 pub no-layer : Asked sheet 0 0 BadLine [] Page 0 × Asked sheet 0 6 BadLine [] Page 0 × Asked sheet 2 1 BadLine [] Page 0
-unfolding foundOf dataBy partBy sourceBy startBy judgeOf judge walk onStep stepOf keeps after after1 after2 after3 endOf records recordsFrom recordAt be16At be32At rowOf few foundRow findStripe findLayer sumOf answerOf sheet page pencil
-no-layer = (asked sheet 0 0 (Refuses BadLine) refl, asked sheet 0 6 (Refuses BadLine) refl, asked sheet 2 1 (Refuses BadLine) refl)
+unfolding foundOf dataBy partBy sourceBy startBy judgeOf judge walk onStep stepOf keeps after after1 after2 after3 endOf records recordsFrom recordAt be16At be32At extentOf few foundExtent findStripe findLayer sumOf answerOf sheet page pencil
+no-layer = (asked sheet 0 0 (Refused BadLine) refl, asked sheet 0 6 (Refused BadLine) refl, asked sheet 2 1 (Refused BadLine) refl)
 
 -- half of a stripe: the record due is at fault
 pub no-sheet : Asked (take 196 sheet) 0 2 (BadSheet 7) [] Page 0
-unfolding foundOf dataBy partBy sourceBy startBy judgeOf judge walk onStep stepOf keeps after after1 after2 after3 endOf records recordsFrom recordAt be16At be32At rowOf few foundRow findStripe findLayer sumOf answerOf sheet page pencil
-no-sheet = asked (take 196 sheet) 0 2 (Refuses (BadSheet 7)) refl
+unfolding foundOf dataBy partBy sourceBy startBy judgeOf judge walk onStep stepOf keeps after after1 after2 after3 endOf records recordsFrom recordAt be16At be32At extentOf few foundExtent findStripe findLayer sumOf answerOf sheet page pencil
+no-sheet = asked (take 196 sheet) 0 2 (Refused (BadSheet 7)) refl

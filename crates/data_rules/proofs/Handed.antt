@@ -1,30 +1,26 @@
 -- The part that is handed out, for every request: which octets it is and where it stands.
 -- Assumes nothing.
-use Prim.Native.Nat.{ℕ, _+_, _-_, _≤_, _<_}
+use Prim.Native.Nat.{ℕ, _+_, _≤_, _<_}
 use native.Mathlib.Omega.{arith}
 use mathlib.Core.Path.{_≡_, refl, sym, ap, subst, _∙_}
-use mathlib.Core.Logic.{_⊎_, ⊎-elim}
+use mathlib.Core.Logic.{⊎-elim}
 use mathlib.Core.List.{List, []}
 use lib.ListN.{length, take, drop, length-drop}
 use lib.Seq.{length-take-le}
 use borrow.Author.Tests.{eq-eqb, ne-eqb}
-use Rattle.cases.proofs.Cases.{clash}
-use Rattle.cases.proofs.Says.{says-eq, says-le, says-else}
-use Rattle.answers.specs.declared.Answer.{Answer}
-use Rattle.answers.specs.declared.Answer.the-variants.{Done, Short, BadSheet, BadLine}
+use Rattle.laws.proofs.Cases.{clash}
+use Rattle.laws.proofs.Says.{says-eq, says-le, says-else}
+use Rattle.answers.specs.declared.Answer.the-variants.{Done}
 use Rattle.sheet_rules.specs.declared.Record.{Record}
 use Rattle.sheet_rules.specs.Record.{records, nth}
 use Rattle.sheet_rules.specs.Sentences.{Coded, Uncoded}
-use Rattle.data_rules.specs.declared.Source.{Source}
-use Rattle.data_rules.specs.declared.Source.the-variants.{Page, Pencil}
+use Rattle.data_rules.specs.declared.Source.the-variants.{Page}
 use Rattle.data_rules.specs.declared.Part.{Part}
-use Rattle.data_rules.specs.declared.Found.{Found}
-use Rattle.data_rules.specs.declared.Found.the-variants.{Lies, Refuses}
+use Rattle.data_rules.specs.declared.Found.the-variants.{Lies}
 use Rattle.data_rules.specs.Data.{sourceOf, octetsIn, emptyPart, partIn, foundOf, dataBy, dataOf, partBy, partOf, sourceBy, partSource, startBy, partStart}
-use Rattle.data_rules.specs.Sentences.{Accepted, LayerAt, Fits, HandsOut, Nothing, Handed}
+use Rattle.data_rules.specs.Sentences.{LayerAt, Fits, Nothing, Handed}
 use Rattle.data_rules.proofs.Layer.{source-low, source-high, octets-low, octets-high}
 use Rattle.data_rules.proofs.Cases.{found-cases}
-use Rattle.data_rules.proofs.Exactly.{part-len}
 
 -- ---- the part of a record
 

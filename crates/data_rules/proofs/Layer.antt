@@ -2,23 +2,21 @@
 -- Assumes nothing.
 use Prim.Native.Nat.{ℕ, zero, suc, _+_, _-_, _/_, _≤_, _<_}
 use native.Mathlib.Omega.{arith}
-use mathlib.Core.Path.{_≡_, refl, sym, ap, subst, _∙_}
-use mathlib.Core.Logic.{_⊎_, inl, inr, ⊎-elim}
+use mathlib.Core.Path.{_≡_, sym, ap, subst, _∙_}
+use mathlib.Core.Logic.{inl, inr, ⊎-elim}
 use mathlib.Core.List.{List}
 use lib.ListN.{length}
 use borrow.Author.Tests.{le-leb, lt-leb}
-use Rattle.cases.proofs.Says.{says-le, says-lt, says-else}
+use Rattle.laws.proofs.Says.{says-le, says-lt, says-else}
 use Rattle.sheet_rules.specs.declared.Record.{Record}
-use Rattle.sheet_rules.specs.declared.State.{State}
 use Rattle.sheet_rules.specs.Record.{recordSize, recordAt, records, nth}
 use Rattle.sheet_rules.specs.Sentences.{Above, Opening, Sheet, stripeCount}
-use Rattle.sheet_rules.specs.Stripe.{rowOf}
+use Rattle.sheet_rules.specs.StripeTable.{extentOf}
 use Rattle.sheet_rules.proofs.Among.{nth-among}
 use Rattle.sheet_rules.proofs.Cut.{length-records, nth-records}
 use Rattle.sheet_rules.proofs.Fold.{begun-holds, unbroken-begun}
-use Rattle.sheet_rules.proofs.Rows.{Rows, rows-begin, rows-more}
+use Rattle.sheet_rules.proofs.Extents.{Rows, extents-begin, extents-more}
 use Rattle.sheet_rules.proofs.Table.{sheet-table}
-use Rattle.data_rules.specs.declared.Source.{Source}
 use Rattle.data_rules.specs.declared.Source.the-variants.{Page, Pencil}
 use Rattle.data_rules.specs.Data.{sourceOf, octetsIn}
 use Rattle.data_rules.specs.Sentences.{LayerAt, Fits, Passes}
@@ -33,21 +31,21 @@ module _ (rs : List Record) (z : Sheet rs) where
       (λ (a : Opening (nth rs i) (nth rs (i + 1))). let b = a .1 in omega arith)
       (z .unbroken .next i (omega arith)))
 
-  layer-most : (i : ℕ) → i < length rs → nth rs i .layer ≤ rowOf (nth rs i .stripe) rs .layers
+  layer-most : (i : ℕ) → i < length rs → nth rs i .layer ≤ extentOf (nth rs i .stripe) rs .layers
   layer-most i h =
       let b = unbroken-begun rs (z .unbroken) in
-      let k = begun-holds (λ ps st. Rows ps (st .stripe) (st .layer)) (λ ps st r g n p. rows-more ps st r g n p) rs (b .0) rows-begin (b .1) in
+      let k = begun-holds (λ ps st. Rows ps (st .stripe) (st .layer)) (λ ps st r g n p. extents-more ps st r g n p) rs (b .0) extents-begin (b .1) in
       k .1 .within (nth rs i) (nth-among rs i h)
 
   module _ (k l i : ℕ) (y : LayerAt rs k l i) where
     pub layer-first : 1 ≤ l
     layer-first = let a = layer-least i (y .within) in let e = y .layer in omega arith
 
-    pub layer-last : l ≤ rowOf k rs .layers
+    pub layer-last : l ≤ extentOf k rs .layers
     layer-last =
         let a = layer-most i (y .within) in
         let e = y .layer in
-        let f : rowOf (nth rs i .stripe) rs .layers ≡ rowOf k rs .layers = ap (λ (j : ℕ). rowOf j rs .layers) (y .stripe) in
+        let f : extentOf (nth rs i .stripe) rs .layers ≡ extentOf k rs .layers = ap (λ (j : ℕ). extentOf j rs .layers) (y .stripe) in
         omega arith
 
     pub layer-stripe : k < stripeCount rs
@@ -58,12 +56,12 @@ module _ (rs : List Record) (z : Sheet rs) where
         (λ (h : k < stripeCount rs → ⊥). let n = sheet-table rs z .none k (omega arith) in absurd (omega arith))
         (says-else (says-lt k (stripeCount rs)))
 
-    pub layer-place : i ≡ rowOf k rs .first + (l - 1)
+    pub layer-place : i ≡ extentOf k rs .first + (l - 1)
     layer-place =
         let a = layer-first in
         let x = sheet-table rs z .index i (y .within) in
         let e = y .layer in
-        let f : rowOf (nth rs i .stripe) rs .first ≡ rowOf k rs .first = ap (λ (j : ℕ). rowOf j rs .first) (y .stripe) in
+        let f : extentOf (nth rs i .stripe) rs .first ≡ extentOf k rs .first = ap (λ (j : ℕ). extentOf j rs .first) (y .stripe) in
         omega arith
 
   -- a layer of a stripe has one record

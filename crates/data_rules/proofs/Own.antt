@@ -1,9 +1,9 @@
 -- A page with its own sheet: the part of each layer is that layer's octets, as the grammar has them.
 -- Assumes nothing.
-use Prim.Native.Nat.{ℕ, suc, _+_, _-_, _*_, _≤_, _<_}
+use Prim.Native.Nat.{ℕ, _+_, _-_, _*_, _≤_}
 use native.Mathlib.Omega.{arith}
 use mathlib.Core.Path.{_≡_, refl, sym, ap, ap₂, subst, _∙_}
-use mathlib.Core.Logic.{_⊎_, inl, inr, ⊎-elim}
+use mathlib.Core.Logic.{⊎-elim}
 use mathlib.Core.Bool.{Bool, true, false, cond}
 use mathlib.Core.List.{List, [], _∷_, _++_, append-assoc, List·Memᴰ·cases-cons, List·Memᴰ·not-nil, List·Memᴰ·append-cases}
 use lib.ListN.{length, take, drop, length-append, length-drop, replicate}
@@ -11,22 +11,24 @@ use lib.Seq.{take-at}
 use borrow.Author.Tests.{eq-eqb, ne-eqb}
 use Rattle.octets.specs.Octets.{Octets}
 use Rattle.octets.proofs.Laws.{drop-next}
-use Rattle.cases.proofs.Says.{says-eq, says-else}
+use Rattle.laws.proofs.Says.{says-eq, says-else}
 use Rattle.answers.specs.declared.Answer.the-variants.{Done}
 use Rattle.sheet_rules.specs.declared.Record.{Record}
 use Rattle.sheet_rules.specs.Record.{recordSize, records, nth}
-use Rattle.sheet_rules.specs.Sentences.{Among, Coded as CodedRecord, Uncoded}
+use Rattle.sheet_rules.specs.Sentences.{Among, Coded, Uncoded}
 use Rattle.sheet_rules.proofs.Among.{nth-among}
 use Rattle.page_rules.specs.declared.Head.{Head}
-use Rattle.page_rules.specs.declared.Coded.{Coded}
-use Rattle.page_rules.specs.Kinds.{hasBack, hasMask, hasFore, Colour, Fields, imageRecord, maskRecord}
+use Rattle.page_rules.specs.declared.LayerData.{LayerData}
+use Rattle.page_rules.specs.Kinds.{hasBack, hasMask, hasFore, imageRecord, maskRecord}
+use Rattle.sheet_rules.specs.declared.Colour.{Colour}
 use Rattle.page_rules.specs.Grammar.{startOf, Image, there, absent, Stripe, Stripes, last, next, Page}
 use Rattle.page_rules.specs.Reading.{readOf, readInto}
 use Rattle.page_rules.proofs.There.{length-start}
 use Rattle.page_rules.proofs.Named.{at-mask, at-back, at-fore, page-named}
 use Rattle.page_rules.proofs.Into.{Front, into-front}
 use Rattle.data_rules.specs.Data.{dataOf, partOf}
-use Rattle.data_rules.specs.Sentences.{Accepted, LayerAt, Gives}
+use Rattle.data_rules.specs.Sentences.{LayerAt, handed}
+use Rattle.sheet_rules.specs.Sentences.{Accepted}
 use Rattle.data_rules.specs.Own.{layerIn, layersIn}
 use Rattle.data_rules.proofs.Exactly.{data-exactly}
 use Rattle.data_rules.proofs.Handed.{part-handed}
@@ -38,7 +40,7 @@ record Names (s : List ℕ) (r : Record) (k l : ℕ) (o : List ℕ) : Type 0 whe
   layer : r .layer ≡ l
   octets : take (r .len) (drop (r .start) s) ≡ o
 
-image-names : (hd : Head) (s : List ℕ) (k l at : ℕ) (base : Colour) (x y : ℕ) (b : Bool) (o rest : List ℕ) (c : Coded) → Image (hd .main) at b o c
+image-names : (hd : Head) (s : List ℕ) (k l at : ℕ) (base : Colour) (x y : ℕ) (b : Bool) (o rest : List ℕ) (c : LayerData) → Image (hd .main) at b o c
     → drop at s ≡ o ++ rest → Names s (imageRecord hd k l base x y c) k l o
 unfolding imageRecord
 image-names hd s k l at base x y b o rest c (there z) e =
@@ -150,15 +152,14 @@ module _ (page : List ℕ) (rs : List Record) (p : Page page rs) (s : List ℕ) 
   inside : rec .start + rec .len ≤ length page
   inside =
       ⊎-elim (λ (e : Uncoded rec). let u = a .0 .unbroken .uncoded rec (nth-among (records s) i (y .within)) e .1 in omega arith)
-      (λ (c : CodedRecord rec). page-named page rs p rec among c .inside)
+      (λ (c : Coded rec). page-named page rs p rec among c .inside)
       (says-else (says-eq (rec .len) 0))
 
   pub page-answers : dataOf s page pencil k l ≡ Done (rec .len)
-  unfolding Gives
   page-answers =
       let q = low in
       data-exactly s page pencil k l (Done (rec .len)) .1
-      (a, record { place = i; layer = y; fits = record { low = λ b. inside; high = λ b. absurd (omega arith) }; count = refl })
+      (handed a (record { place = i; layer = y; fits = record { low = λ b. inside; high = λ b. absurd (omega arith) }; count = refl }))
 
   pub page-part : partOf s page pencil k l ≡ layersIn (p .striped) k l
   page-part =

@@ -22,19 +22,19 @@ use Rattle.answers.specs.declared.Answer.{Answer}
 use Rattle.answers.specs.declared.Answer.the-variants.{Done, Short, BadLine}
 use Rattle.sheet_rules.specs.declared.Record.{Record}
 use Rattle.sheet_rules.specs.declared.FoundStripe.{FoundStripe}
-use Rattle.sheet_rules.specs.declared.FoundStripe.the-variants.{Row, NoStripe}
+use Rattle.sheet_rules.specs.declared.FoundStripe.the-variants.{Has, NoStripe}
 use Rattle.sheet_rules.specs.declared.FoundLayer.{FoundLayer}
 use Rattle.sheet_rules.specs.declared.FoundLayer.the-variants.{At, NoLayer}
 use Rattle.sheet_rules.specs.declared.Verdict.{Verdict}
-use Rattle.sheet_rules.specs.declared.Verdict.the-variants.{Good, Bad}
+use Rattle.sheet_rules.specs.declared.Verdict.the-variants.{Good}
 use Rattle.sheet_rules.specs.Record.{recordAt}
 use Rattle.sheet_rules.specs.Judge.{coded, judgeOf, answerOf}
-use Rattle.sheet_rules.specs.Stripe.{findStripe, findLayer}
+use Rattle.sheet_rules.specs.StripeTable.{findStripe, findLayer}
 use Rattle.data_rules.specs.declared.Source.{Source}
 use Rattle.data_rules.specs.declared.Source.the-variants.{Page, Pencil}
 use Rattle.data_rules.specs.declared.Part.{Part}
 use Rattle.data_rules.specs.declared.Found.{Found}
-use Rattle.data_rules.specs.declared.Found.the-variants.{Lies, Refuses}
+use Rattle.data_rules.specs.declared.Found.the-variants.{Lies}
 
 -- ---- the source
 
@@ -64,23 +64,23 @@ partIn l r = cond (coded r) (record { source = sourceOf l; start = r .start; len
 unfoldable pub recordFound : List ℕ → List ℕ → ℕ → ℕ → Record → Found
 unfolding sourceOf octetsIn partIn
 recordFound page pencil l i r =
-    cond (ltb (length (octetsIn page pencil (sourceOf l))) (r .start + r .len)) (Refuses (Short i)) (Lies (partIn l r))
+    cond (ltb (length (octetsIn page pencil (sourceOf l))) (r .start + r .len)) (Found.Refused (Short i)) (Lies (partIn l r))
 
 -- ---- BadSheet, BadLine, Short
 
 unfoldable pub layerFound : List ℕ → List ℕ → List ℕ → ℕ → FoundLayer → Found
 unfolding recordFound
-layerFound s page pencil l NoLayer = Refuses BadLine
+layerFound s page pencil l NoLayer = Found.Refused BadLine
 layerFound s page pencil l (At i) = recordFound page pencil l i (recordAt s i)
 
 unfoldable pub stripeFound : List ℕ → List ℕ → List ℕ → ℕ → FoundStripe → Found
 unfolding layerFound
-stripeFound s page pencil l NoStripe = Refuses BadLine
-stripeFound s page pencil l (Row row) = layerFound s page pencil l (findLayer row l)
+stripeFound s page pencil l NoStripe = Found.Refused BadLine
+stripeFound s page pencil l (Has extent) = layerFound s page pencil l (findLayer extent l)
 
 unfoldable pub sheetFound : List ℕ → List ℕ → List ℕ → ℕ → ℕ → Verdict → Found
 unfolding stripeFound
-sheetFound s page pencil k l (Bad i) = Refuses (answerOf (Bad i))
+sheetFound s page pencil k l (Verdict.Refused i) = Found.Refused (answerOf (Verdict.Refused i))
 sheetFound s page pencil k l (Good n m) = stripeFound s page pencil l (findStripe s k)
 
 unfoldable pub foundOf : List ℕ → List ℕ → List ℕ → ℕ → ℕ → Found
@@ -92,7 +92,7 @@ foundOf s page pencil k l = sheetFound s page pencil k l (judgeOf s)
 -- Done returns the length of the part handed out
 unfoldable pub dataBy : Found → Answer
 dataBy (Lies p) = Done (p .len)
-dataBy (Refuses a) = a
+dataBy (Found.Refused a) = a
 
 unfoldable pub dataOf : List ℕ → List ℕ → List ℕ → ℕ → ℕ → Answer
 unfolding foundOf dataBy
@@ -102,7 +102,7 @@ dataOf s page pencil k l = dataBy (foundOf s page pencil k l)
 unfoldable pub partBy : List ℕ → List ℕ → Found → List ℕ
 unfolding octetsIn
 partBy page pencil (Lies p) = take (p .len) (drop (p .start) (octetsIn page pencil (p .source)))
-partBy page pencil (Refuses a) = []
+partBy page pencil (Found.Refused a) = []
 
 unfoldable pub partOf : List ℕ → List ℕ → List ℕ → ℕ → ℕ → List ℕ
 unfolding foundOf partBy
@@ -111,11 +111,11 @@ partOf s page pencil k l = partBy page pencil (foundOf s page pencil k l)
 -- an empty part stands in the page, at 0
 unfoldable pub sourceBy : Found → Source
 sourceBy (Lies p) = p .source
-sourceBy (Refuses a) = Page
+sourceBy (Found.Refused a) = Page
 
 unfoldable pub startBy : Found → ℕ
 startBy (Lies p) = p .start
-startBy (Refuses a) = 0
+startBy (Found.Refused a) = 0
 
 unfoldable pub partSource : List ℕ → List ℕ → List ℕ → ℕ → ℕ → Source
 unfolding foundOf sourceBy

@@ -1,7 +1,6 @@
 -- Coded data handed out, as sentences: when each answer is given (01, "Numbers that a call returns": BadSheet, BadLine, Short), which octets the part is
 -- and where it stands, without the steps of Data.antt.
 --
---   Accepted s               the octets s are a sheet
 --   LayerAt rs k l i         the record i is that of layer l of stripe k
 --   Fits page pencil l r     start plus length is within what holds the data: the page for layers 1 to 3, the pencil file for higher ones
 --   Passes page pencil l r   it is not
@@ -15,15 +14,12 @@ use mathlib.Core.Logic.{_⊎_}
 use mathlib.Core.List.{List, []}
 use lib.ListN.{length, take, drop}
 use Rattle.answers.specs.declared.Answer.{Answer}
-use Rattle.answers.specs.declared.Answer.the-variants.{Done, Short, BadMark, BadLength, BadVersion, BadMode, BadCoder, BadRes, BadWidth, BadType, BadStripe, BadLayer, Trailing, NoRoom, BadSheet, BadPlane, Mismatch, BadLine, TooLong}
+use Rattle.answers.specs.declared.Answer.the-variants.{Done, Short, BadSheet, BadLine}
 use Rattle.sheet_rules.specs.declared.Record.{Record}
-use Rattle.sheet_rules.specs.Record.{records, rest, nth}
-use Rattle.sheet_rules.specs.Sentences.{Coded, Uncoded, Sheet, BadSheetAt}
+use Rattle.sheet_rules.specs.Record.{records, nth}
+use Rattle.sheet_rules.specs.Sentences.{Coded, Uncoded, Accepted, BadSheetAt}
 use Rattle.data_rules.specs.declared.Source.{Source}
 use Rattle.data_rules.specs.declared.Source.the-variants.{Page, Pencil}
-
-abbrev pub Accepted : List ℕ → Type 0
-Accepted s = Sheet (records s) × (rest s ≡ 0)
 
 pub record LayerAt (rs : List Record) (k l i : ℕ) : Type 0 where
   pub within : i < length rs
@@ -46,27 +42,12 @@ pub record HandsOut (s page pencil : List ℕ) (k l n : ℕ) : Type 0 where
   pub fits : Fits page pencil l (nth (records s) place)
   pub count : n ≡ nth (records s) place .len
 
-unfoldable pub Gives : List ℕ → List ℕ → List ℕ → ℕ → ℕ → Answer → Type 0
-Gives s page pencil k l (BadSheet i) = BadSheetAt s i
-Gives s page pencil k l BadLine = Accepted s × ((i : ℕ) → LayerAt (records s) k l i → ⊥)
-Gives s page pencil k l (Short i) = Accepted s × LayerAt (records s) k l i × Passes page pencil l (nth (records s) i)
-Gives s page pencil k l (Done n) = Accepted s × HandsOut s page pencil k l n
--- coded data is answered by no other
-Gives s page pencil k l (BadMark i) = ⊥
-Gives s page pencil k l (BadLength i) = ⊥
-Gives s page pencil k l (BadVersion i) = ⊥
-Gives s page pencil k l (BadMode i) = ⊥
-Gives s page pencil k l (BadCoder i) = ⊥
-Gives s page pencil k l (BadRes i) = ⊥
-Gives s page pencil k l (BadWidth i) = ⊥
-Gives s page pencil k l (BadType i) = ⊥
-Gives s page pencil k l (BadStripe i) = ⊥
-Gives s page pencil k l (BadLayer i) = ⊥
-Gives s page pencil k l (Trailing i) = ⊥
-Gives s page pencil k l NoRoom = ⊥
-Gives s page pencil k l (BadPlane i) = ⊥
-Gives s page pencil k l (Mismatch i) = ⊥
-Gives s page pencil k l TooLong = ⊥
+-- one line for each answer that the call gives; it gives no other
+pub data Gives (s page pencil : List ℕ) (k l : ℕ) : Answer → Type 0 where
+  no-sheet : {i : ℕ} → BadSheetAt s i → Gives s page pencil k l (BadSheet i)
+  no-layer : Accepted s → ((i : ℕ) → LayerAt (records s) k l i → ⊥) → Gives s page pencil k l BadLine
+  passing : {i : ℕ} → Accepted s → LayerAt (records s) k l i → Passes page pencil l (nth (records s) i) → Gives s page pencil k l (Short i)
+  handed : {n : ℕ} → Accepted s → HandsOut s page pencil k l n → Gives s page pencil k l (Done n)
 
 -- ---- the part, and where it stands
 

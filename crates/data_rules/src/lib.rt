@@ -17,5 +17,5 @@ pub struct Part {
 // A layer's coded data looked for: where they stand, or the refusal.
 pub enum Found {
     Lies(Part),
-    Refuses(Answer),
+    Refused(Answer),
 }

@@ -10,10 +10,10 @@ use lib.Dec.{ltb}
 use borrow.Author.Tests.{ltb-false}
 use Rattle.answers.specs.declared.Answer.{Answer}
 use Rattle.answers.specs.declared.Answer.the-variants.{Short}
-use Rattle.cases.proofs.Cases.{cond-both}
+use Rattle.laws.proofs.Cases.{cond-both}
 use Rattle.octets.specs.Octets.{standsAt}
 use Rattle.octets.proofs.Agree.{Agree, octet-agree, be16-agree, be32-agree, stands-agree, Hangs, hangs-none, hangs-then, hangs-fits}
-use Rattle.field_rules.specs.Field.{Res, ok, no, Width, one, two, four, octetCount, widths, numberAt, numbers, Row, mark, val, again, fields, reach}
+use Rattle.field_rules.specs.Field.{Res, ok, no, Width, one, two, four, octetCount, widths, numberAt, numbers, Field, mark, val, again, fields, reach}
 
 module _ (e : ℕ) (s t : List ℕ) (a : Agree e s t) where
   number-agree : (w : Width) (at : ℕ) → at + octetCount w ≤ e → numberAt w s at ≡ numberAt w t at
@@ -34,49 +34,49 @@ Whole r = (p : ℕ) → r ≡ no (Short p) → ⊥
 -- ---- a field
 
 -- a test of numbers known already, and then the fields behind it
-module _ (refusal : Answer) (rows : List Row) (before s : List ℕ) (at : ℕ) (h : at ≤ length s)
-    (rest : Whole (fields rows before s at) → Hangs (reach rows before s at) (λ (t : List ℕ). fields rows before t at) s at) where
-  test-hangs : (b : Bool) → Whole (cond b (fields rows before s at) (no refusal))
-      → Hangs (cond b (reach rows before s at) at) (λ (t : List ℕ). cond b (fields rows before t at) (no refusal)) s at
+module _ (refusal : Answer) (table : List Field) (before s : List ℕ) (at : ℕ) (h : at ≤ length s)
+    (rest : Whole (fields table before s at) → Hangs (reach table before s at) (λ (t : List ℕ). fields table before t at) s at) where
+  test-hangs : (b : Bool) → Whole (cond b (fields table before s at) (no refusal))
+      → Hangs (cond b (reach table before s at) at) (λ (t : List ℕ). cond b (fields table before t at) (no refusal)) s at
   test-hangs true w = rest w
   test-hangs false w = hangs-none s (no refusal) at at (omega arith) h
 
 -- a field of n octets, whatever it is: its test, and the numbers known behind it, are of those octets alone
-module _ (n at : ℕ) (test : List ℕ → Bool) (known : List ℕ → List ℕ) (refusal : Answer) (rows : List Row) where
+module _ (n at : ℕ) (test : List ℕ → Bool) (known : List ℕ → List ℕ) (refusal : Answer) (table : List Field) where
   abbrev readField : List ℕ → Res (List ℕ)
-  readField s = cond (ltb (length s) (at + n)) (no (Short at)) (cond (test s) (fields rows (known s) s (at + n)) (no refusal))
+  readField s = cond (ltb (length s) (at + n)) (no (Short at)) (cond (test s) (fields table (known s) s (at + n)) (no refusal))
 
   abbrev lookField : List ℕ → ℕ
-  lookField s = cond (ltb (length s) (at + n)) at (cond (test s) (reach rows (known s) s (at + n)) (at + n))
+  lookField s = cond (ltb (length s) (at + n)) at (cond (test s) (reach table (known s) s (at + n)) (at + n))
 
   field-hangs : (s : List ℕ) → ((t : List ℕ) → Agree (at + n) s t → (test t ≡ test s) × (known t ≡ known s))
-      → (at + n ≤ length s → Whole (fields rows (known s) s (at + n)) → Hangs (reach rows (known s) s (at + n)) (λ (t : List ℕ). fields rows (known s) t (at + n)) s (at + n))
+      → (at + n ≤ length s → Whole (fields table (known s) s (at + n)) → Hangs (reach table (known s) s (at + n)) (λ (t : List ℕ). fields table (known s) t (at + n)) s (at + n))
       → Whole (readField s) → Hangs (lookField s) readField s at
   field-hangs s alone rest =
       cond-both (λ (x : Res (List ℕ)) (l : ℕ). Whole x → Hangs l readField s at) (ltb (length s) (at + n)) (λ l w. absurd (w at refl)) λ l w.
       let g = ltb-false (length s) (at + n) l in
-      let look : ℕ = cond (test s) (reach rows (known s) s (at + n)) (at + n) in
+      let look : ℕ = cond (test s) (reach table (known s) s (at + n)) (at + n) in
       hangs-fits s (no (Short at)) (λ (t : List ℕ). on (test t, known t) t) (at + n) look at (omega arith)
       (hangs-then s (λ (t : List ℕ). (test t, known t)) on (test s, known s) (at + n) look (at + n) refl
       (record { ahead = omega arith; inside = g; same = λ t a. let z = alone t a in ap₂ (λ (b : Bool) (k : List ℕ). (b, k)) (z .0) (z .1) })
-      (test-hangs refusal rows (known s) s (at + n) g (rest g) (test s) w))
+      (test-hangs refusal table (known s) s (at + n) g (rest g) (test s) w))
     where
       on : Bool × List ℕ → List ℕ → Res (List ℕ)
-      on p t = cond (p .0) (fields rows (p .1) t (at + n)) (no refusal)
+      on p t = cond (p .0) (fields table (p .1) t (at + n)) (no refusal)
 
 -- ---- a segment
 
-pub fields-hang : (rows : List Row) (before s : List ℕ) (at : ℕ) → at ≤ length s → Whole (fields rows before s at)
-    → Hangs (reach rows before s at) (λ (t : List ℕ). fields rows before t at) s at
+pub fields-hang : (table : List Field) (before s : List ℕ) (at : ℕ) → at ≤ length s → Whole (fields table before s at)
+    → Hangs (reach table before s at) (λ (t : List ℕ). fields table before t at) s at
 unfolding fields reach
 fields-hang [] before s at h w = hangs-none s (ok before at) at at (omega arith) h
-fields-hang (mark m refusal ∷ rows) before s at h w =
-    field-hangs (length m) at (λ (t : List ℕ). standsAt t at m) (λ (t : List ℕ). before) (refusal at) rows s
+fields-hang (mark m refusal ∷ table) before s at h w =
+    field-hangs (length m) at (λ (t : List ℕ). standsAt t at m) (λ (t : List ℕ). before) (refusal at) table s
     (λ t a. (sym (stands-agree (at + length m) s t a m at (omega arith)), refl))
-    (λ g v. fields-hang rows before s (at + length m) g v) w
-fields-hang (val ws good refusal ∷ rows) before s at h w =
-    field-hangs (widths ws) at (λ (t : List ℕ). good before (numbers ws t at)) (λ (t : List ℕ). before ++ numbers ws t at) (refusal at) rows s
+    (λ g v. fields-hang table before s (at + length m) g v) w
+fields-hang (val ws good refusal ∷ table) before s at h w =
+    field-hangs (widths ws) at (λ (t : List ℕ). good before (numbers ws t at)) (λ (t : List ℕ). before ++ numbers ws t at) (refusal at) table s
     (λ t a. let n = sym (numbers-agree (at + widths ws) s t a ws at (omega arith)) in (ap (good before) n, ap (λ (l : List ℕ). before ++ l) n))
-    (λ g v. fields-hang rows (before ++ numbers ws s at) s (at + widths ws) g v) w
-fields-hang (again back good refusal ∷ rows) before s at h w =
-    test-hangs (refusal (at - back)) rows before s at h (fields-hang rows before s at h) (good before) w
+    (λ g v. fields-hang table (before ++ numbers ws s at) s (at + widths ws) g v) w
+fields-hang (again back good refusal ∷ table) before s at h w =
+    test-hangs (refusal (at - back)) table before s at h (fields-hang table before s at h) (good before) w

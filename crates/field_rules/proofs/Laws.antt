@@ -1,22 +1,19 @@
 -- Reading a segment by its table and what its octets are: each from the other, and what either hangs on.
 -- Assumes nothing.
-use Prim.Native.Nat.{ℕ, zero, suc, _+_, _-_, _*_, _≤_, _<_}
+use Prim.Native.Nat.{ℕ, suc, _+_, _-_, _≤_, _<_}
 use native.Mathlib.Omega.{arith}
-use native.Mathlib.Nat.{add-zero, add-assoc}
+use native.Mathlib.Nat.{add-zero}
 use mathlib.Core.Path.{_≡_, refl, sym, ap, ap₂, subst, _∙_}
-use mathlib.Core.Logic.{_⊎_, inl, inr, ⊎-elim}
-use mathlib.Core.Bool.{Bool, true, false, cond}
+use mathlib.Core.Bool.{Bool, true}
 use mathlib.Core.List.{List, [], _∷_, _++_, append-assoc}
-use lib.ListN.{length, getD, take, drop, length-append, length-drop, length-take}
-use lib.Seq.{getD-take, take-at, length-take-le}
+use lib.ListN.{length, drop, length-append, length-drop}
 use lib.Dec.{ltb}
-use borrow.Author.Tests.{le-ltb, ltb-false, ltb-true, lt-ltb}
+use borrow.Author.Tests.{le-ltb, ltb-false}
 use Rattle.answers.specs.declared.Answer.{Answer}
-use Rattle.answers.specs.declared.Answer.the-variants.{Short}
-use Rattle.cases.proofs.Cases.{cond-with, clash}
-use Rattle.octets.specs.Octets.{Octets, be16At, be32At, octets16, octets32, standsAt}
-use Rattle.octets.proofs.Laws.{be16-there, be32-there, be16-stands, be32-stands, be16-bound, be32-bound, be16-same, be32-same, drop-next, drop-octet, length-octets16, length-octets32, stands-there, stands-split}
-use Rattle.field_rules.specs.Field.{Res, ok, no, Width, one, two, four, octetCount, widths, numberAt, numbers, Row, mark, val, again, fields, octetsOf, bound, put, Sized}
+use Rattle.laws.proofs.Cases.{cond-with, clash}
+use Rattle.octets.specs.Octets.{Octets, standsAt}
+use Rattle.octets.proofs.Laws.{be16-there, be32-there, be16-stands, be32-stands, be16-bound, be32-bound, drop-next, drop-octet, length-octets16, length-octets32, stands-there, stands-split}
+use Rattle.field_rules.specs.Field.{ok, Width, one, two, four, octetCount, widths, numberAt, numbers, Field, mark, val, again, fields, octetsOf, bound, put, Sized}
 use Rattle.field_rules.specs.Stands.{Stands, at-end, marked, valued, held}
 
 -- ---- one number
@@ -73,8 +70,8 @@ numbers-stand (w ∷ ws) s at o h =
 
 -- ---- reading what stands there
 
-pub fields-there : {rows : List Row} {before out l : List ℕ} → Stands rows before out l → (s r : List ℕ) (at : ℕ) → at ≤ length s → drop at s ≡ l ++ r
-    → fields rows before s at ≡ ok out (at + length l)
+pub fields-there : {table : List Field} {before out l : List ℕ} → Stands table before out l → (s r : List ℕ) (at : ℕ) → at ≤ length s → drop at s ≡ l ++ r
+    → fields table before s at ≡ ok out (at + length l)
 unfolding fields
 fields-there {before = before} at-end s r at h e = ap (ok before) (sym (add-zero at))
 fields-there (marked {m = m} {out = out} {l = l} more) s r at h e =
@@ -99,15 +96,15 @@ fields-there (held good more) s r at h e = simp good (fields-there more s r at h
 
 -- ---- what was read stands there
 
-pub record Read (rows : List Row) (before out s : List ℕ) (at n : ℕ) : Type 0 where
+pub record Read (table : List Field) (before out s : List ℕ) (at n : ℕ) : Type 0 where
   pub octets : List ℕ
-  pub stands : Stands rows before out octets
+  pub stands : Stands table before out octets
   pub split : drop at s ≡ octets ++ drop n s
   pub ends : n ≡ at + length octets
   pub inside : n ≤ length s
 
-pub fields-back : (rows : List Row) (before out s : List ℕ) (at n : ℕ) → Octets s → at ≤ length s → fields rows before s at ≡ ok out n
-    → Read rows before out s at n
+pub fields-back : (table : List Field) (before out s : List ℕ) (at n : ℕ) → Octets s → at ≤ length s → fields table before s at ≡ ok out n
+    → Read table before out s at n
 unfolding fields
 fields-back [] before out s at n o h = λ e.
     let a : before ≡ out = cc in
@@ -119,12 +116,12 @@ fields-back [] before out s at n o h = λ e.
       ends = omega arith;
       inside = omega arith;
     }
-fields-back (mark m refusal ∷ rows) before out s at n o h =
-    cond-with (λ x. x ≡ ok out n → Read (mark m refusal ∷ rows) before out s at n) (ltb (length s) (at + length m)) (λ t e. clash cc) λ f.
-    cond-with (λ x. x ≡ ok out n → Read (mark m refusal ∷ rows) before out s at n) (standsAt s at m)
+fields-back (mark m refusal ∷ table) before out s at n o h =
+    cond-with (λ x. x ≡ ok out n → Read (mark m refusal ∷ table) before out s at n) (ltb (length s) (at + length m)) (λ t e. clash cc) λ f.
+    cond-with (λ x. x ≡ ok out n → Read (mark m refusal ∷ table) before out s at n) (standsAt s at m)
     (λ t e.
     let g = ltb-false (length s) (at + length m) f in
-    let k = fields-back rows before out s (at + length m) n o g e in
+    let k = fields-back table before out s (at + length m) n o g e in
     let d = stands-split s at m t .1 in
     let x = length-append m (k .octets) in
     let z = k .ends in
@@ -136,12 +133,12 @@ fields-back (mark m refusal ∷ rows) before out s at n o h =
       inside = k .inside;
     })
     (λ t e. clash cc)
-fields-back (val ws good refusal ∷ rows) before out s at n o h =
-    cond-with (λ x. x ≡ ok out n → Read (val ws good refusal ∷ rows) before out s at n) (ltb (length s) (at + widths ws)) (λ t e. clash cc) λ f.
-    cond-with (λ x. x ≡ ok out n → Read (val ws good refusal ∷ rows) before out s at n) (good before (numbers ws s at))
+fields-back (val ws good refusal ∷ table) before out s at n o h =
+    cond-with (λ x. x ≡ ok out n → Read (val ws good refusal ∷ table) before out s at n) (ltb (length s) (at + widths ws)) (λ t e. clash cc) λ f.
+    cond-with (λ x. x ≡ ok out n → Read (val ws good refusal ∷ table) before out s at n) (good before (numbers ws s at))
     (λ t e.
     let g = ltb-false (length s) (at + widths ws) f in
-    let k = fields-back rows (before ++ numbers ws s at) out s (at + widths ws) n o g e in
+    let k = fields-back table (before ++ numbers ws s at) out s (at + widths ws) n o g e in
     let d = numbers-stand ws s at o g in
     let x = length-append (put ws (numbers ws s at)) (k .octets) in
     let y = length-put ws (numbers ws s at) (d .1) in
@@ -154,10 +151,10 @@ fields-back (val ws good refusal ∷ rows) before out s at n o h =
       inside = k .inside;
     })
     (λ t e. clash cc)
-fields-back (again back good refusal ∷ rows) before out s at n o h =
-    cond-with (λ x. x ≡ ok out n → Read (again back good refusal ∷ rows) before out s at n) (good before)
+fields-back (again back good refusal ∷ table) before out s at n o h =
+    cond-with (λ x. x ≡ ok out n → Read (again back good refusal ∷ table) before out s at n) (good before)
     (λ t e.
-    let k = fields-back rows before out s at n o h e in
+    let k = fields-back table before out s at n o h e in
     record { octets = k .octets; stands = held t (k .stands); split = k .split; ends = k .ends; inside = k .inside })
     (λ t e. clash cc)
 
@@ -166,17 +163,17 @@ fields-back (again back good refusal ∷ rows) before out s at n o h =
 pub end-apart : (P : List ℕ → List ℕ → Type 0) {before out l : List ℕ} → Stands [] before out l → P before [] → P out l
 end-apart P at-end p = p
 
-pub mark-apart : (P : List ℕ → Type 0) {m : List ℕ} {refusal : ℕ → Answer} {rows : List Row} {before out l : List ℕ} → Stands (mark m refusal ∷ rows) before out l
-    → ((more : List ℕ) → Stands rows before out more → P (m ++ more)) → P l
+pub mark-apart : (P : List ℕ → Type 0) {m : List ℕ} {refusal : ℕ → Answer} {table : List Field} {before out l : List ℕ} → Stands (mark m refusal ∷ table) before out l
+    → ((more : List ℕ) → Stands table before out more → P (m ++ more)) → P l
 mark-apart P (marked {l = more} k) go = go more k
 
-pub val-apart : (P : List ℕ → Type 0) {ws : List Width} {good : List ℕ → List ℕ → Bool} {refusal : ℕ → Answer} {rows : List Row} {before out l : List ℕ}
-    → Stands (val ws good refusal ∷ rows) before out l
-    → ((vs more : List ℕ) → Sized ws vs → good before vs ≡ true → Stands rows (before ++ vs) out more → P (put ws vs ++ more)) → P l
+pub val-apart : (P : List ℕ → Type 0) {ws : List Width} {good : List ℕ → List ℕ → Bool} {refusal : ℕ → Answer} {table : List Field} {before out l : List ℕ}
+    → Stands (val ws good refusal ∷ table) before out l
+    → ((vs more : List ℕ) → Sized ws vs → good before vs ≡ true → Stands table (before ++ vs) out more → P (put ws vs ++ more)) → P l
 val-apart P (valued {l = more} vs sized good k) go = go vs more sized good k
 
-pub again-apart : (P : List ℕ → Type 0) {back : ℕ} {good : List ℕ → Bool} {refusal : ℕ → Answer} {rows : List Row} {before out l : List ℕ}
-    → Stands (again back good refusal ∷ rows) before out l → (good before ≡ true → Stands rows before out l → P l) → P l
+pub again-apart : (P : List ℕ → Type 0) {back : ℕ} {good : List ℕ → Bool} {refusal : ℕ → Answer} {table : List Field} {before out l : List ℕ}
+    → Stands (again back good refusal ∷ table) before out l → (good before ≡ true → Stands table before out l → P l) → P l
 again-apart P (held good k) go = go good k
 
 sized-one : (Q : List ℕ → Type 0) (w : Width) (vs : List ℕ) → Sized (w ∷ []) vs → ((v : ℕ) → v < bound w → Q (v ∷ [])) → Q vs
@@ -192,39 +189,39 @@ sized-more Q w ws [] z go = absurd z
 sized-more Q w ws (v ∷ us) z go = go v us (z .0) (z .1)
 
 -- a field of one, two, three or four numbers
-module _ (P : List ℕ → Type 0) {good : List ℕ → List ℕ → Bool} {refusal : ℕ → Answer} {rows : List Row} {before out l : List ℕ} where
-  pub one-apart : {a : Width} → Stands (val (a ∷ []) good refusal ∷ rows) before out l
-      → ((x : ℕ) (more : List ℕ) → x < bound a → good before (x ∷ []) ≡ true → Stands rows (before ++ (x ∷ [])) out more → P (put (a ∷ []) (x ∷ []) ++ more)) → P l
+module _ (P : List ℕ → Type 0) {good : List ℕ → List ℕ → Bool} {refusal : ℕ → Answer} {table : List Field} {before out l : List ℕ} where
+  pub one-apart : {a : Width} → Stands (val (a ∷ []) good refusal ∷ table) before out l
+      → ((x : ℕ) (more : List ℕ) → x < bound a → good before (x ∷ []) ≡ true → Stands table (before ++ (x ∷ [])) out more → P (put (a ∷ []) (x ∷ []) ++ more)) → P l
   one-apart {a} st go =
       val-apart P st λ vs more z.
-      sized-one (λ us. good before us ≡ true → Stands rows (before ++ us) out more → P (put (a ∷ []) us ++ more)) a vs z λ x b. go x more b
+      sized-one (λ us. good before us ≡ true → Stands table (before ++ us) out more → P (put (a ∷ []) us ++ more)) a vs z λ x b. go x more b
 
-  pub two-apart : {a b : Width} → Stands (val (a ∷ b ∷ []) good refusal ∷ rows) before out l
-      → ((x y : ℕ) (more : List ℕ) → x < bound a → y < bound b → good before (x ∷ y ∷ []) ≡ true → Stands rows (before ++ (x ∷ y ∷ [])) out more
+  pub two-apart : {a b : Width} → Stands (val (a ∷ b ∷ []) good refusal ∷ table) before out l
+      → ((x y : ℕ) (more : List ℕ) → x < bound a → y < bound b → good before (x ∷ y ∷ []) ≡ true → Stands table (before ++ (x ∷ y ∷ [])) out more
       → P (put (a ∷ b ∷ []) (x ∷ y ∷ []) ++ more)) → P l
   two-apart {a} {b} st go =
       val-apart P st λ vs more z.
-      sized-more (λ us. good before us ≡ true → Stands rows (before ++ us) out more → P (put (a ∷ b ∷ []) us ++ more)) a (b ∷ []) vs z λ x us bx z1.
-      sized-one (λ us. good before (x ∷ us) ≡ true → Stands rows (before ++ (x ∷ us)) out more → P (put (a ∷ b ∷ []) (x ∷ us) ++ more)) b us z1 λ y by.
+      sized-more (λ us. good before us ≡ true → Stands table (before ++ us) out more → P (put (a ∷ b ∷ []) us ++ more)) a (b ∷ []) vs z λ x us bx z1.
+      sized-one (λ us. good before (x ∷ us) ≡ true → Stands table (before ++ (x ∷ us)) out more → P (put (a ∷ b ∷ []) (x ∷ us) ++ more)) b us z1 λ y by.
       go x y more bx by
 
-  pub three-apart : {a b c : Width} → Stands (val (a ∷ b ∷ c ∷ []) good refusal ∷ rows) before out l
+  pub three-apart : {a b c : Width} → Stands (val (a ∷ b ∷ c ∷ []) good refusal ∷ table) before out l
       → ((x y z : ℕ) (more : List ℕ) → x < bound a → y < bound b → z < bound c → good before (x ∷ y ∷ z ∷ []) ≡ true
-      → Stands rows (before ++ (x ∷ y ∷ z ∷ [])) out more → P (put (a ∷ b ∷ c ∷ []) (x ∷ y ∷ z ∷ []) ++ more)) → P l
+      → Stands table (before ++ (x ∷ y ∷ z ∷ [])) out more → P (put (a ∷ b ∷ c ∷ []) (x ∷ y ∷ z ∷ []) ++ more)) → P l
   three-apart {a} {b} {c} st go =
       val-apart P st λ vs more z.
-      sized-more (λ us. good before us ≡ true → Stands rows (before ++ us) out more → P (put (a ∷ b ∷ c ∷ []) us ++ more)) a (b ∷ c ∷ []) vs z λ x us bx z1.
-      sized-more (λ us. good before (x ∷ us) ≡ true → Stands rows (before ++ (x ∷ us)) out more → P (put (a ∷ b ∷ c ∷ []) (x ∷ us) ++ more)) b (c ∷ []) us z1 λ y vs by z2.
-      sized-one (λ us. good before (x ∷ y ∷ us) ≡ true → Stands rows (before ++ (x ∷ y ∷ us)) out more → P (put (a ∷ b ∷ c ∷ []) (x ∷ y ∷ us) ++ more)) c vs z2 λ w bw.
+      sized-more (λ us. good before us ≡ true → Stands table (before ++ us) out more → P (put (a ∷ b ∷ c ∷ []) us ++ more)) a (b ∷ c ∷ []) vs z λ x us bx z1.
+      sized-more (λ us. good before (x ∷ us) ≡ true → Stands table (before ++ (x ∷ us)) out more → P (put (a ∷ b ∷ c ∷ []) (x ∷ us) ++ more)) b (c ∷ []) us z1 λ y vs by z2.
+      sized-one (λ us. good before (x ∷ y ∷ us) ≡ true → Stands table (before ++ (x ∷ y ∷ us)) out more → P (put (a ∷ b ∷ c ∷ []) (x ∷ y ∷ us) ++ more)) c vs z2 λ w bw.
       go x y w more bx by bw
 
-  pub four-apart : {a b c d : Width} → Stands (val (a ∷ b ∷ c ∷ d ∷ []) good refusal ∷ rows) before out l
+  pub four-apart : {a b c d : Width} → Stands (val (a ∷ b ∷ c ∷ d ∷ []) good refusal ∷ table) before out l
       → ((x y z w : ℕ) (more : List ℕ) → x < bound a → y < bound b → z < bound c → w < bound d → good before (x ∷ y ∷ z ∷ w ∷ []) ≡ true
-      → Stands rows (before ++ (x ∷ y ∷ z ∷ w ∷ [])) out more → P (put (a ∷ b ∷ c ∷ d ∷ []) (x ∷ y ∷ z ∷ w ∷ []) ++ more)) → P l
+      → Stands table (before ++ (x ∷ y ∷ z ∷ w ∷ [])) out more → P (put (a ∷ b ∷ c ∷ d ∷ []) (x ∷ y ∷ z ∷ w ∷ []) ++ more)) → P l
   four-apart {a} {b} {c} {d} st go =
       val-apart P st λ vs more z.
-      sized-more (λ us. good before us ≡ true → Stands rows (before ++ us) out more → P (put (a ∷ b ∷ c ∷ d ∷ []) us ++ more)) a (b ∷ c ∷ d ∷ []) vs z λ x us bx z1.
-      sized-more (λ us. good before (x ∷ us) ≡ true → Stands rows (before ++ (x ∷ us)) out more → P (put (a ∷ b ∷ c ∷ d ∷ []) (x ∷ us) ++ more)) b (c ∷ d ∷ []) us z1 λ y vs by z2.
-      sized-more (λ us. good before (x ∷ y ∷ us) ≡ true → Stands rows (before ++ (x ∷ y ∷ us)) out more → P (put (a ∷ b ∷ c ∷ d ∷ []) (x ∷ y ∷ us) ++ more)) c (d ∷ []) vs z2 λ u ws bu z3.
-      sized-one (λ us. good before (x ∷ y ∷ u ∷ us) ≡ true → Stands rows (before ++ (x ∷ y ∷ u ∷ us)) out more → P (put (a ∷ b ∷ c ∷ d ∷ []) (x ∷ y ∷ u ∷ us) ++ more)) d ws z3 λ v bv.
+      sized-more (λ us. good before us ≡ true → Stands table (before ++ us) out more → P (put (a ∷ b ∷ c ∷ d ∷ []) us ++ more)) a (b ∷ c ∷ d ∷ []) vs z λ x us bx z1.
+      sized-more (λ us. good before (x ∷ us) ≡ true → Stands table (before ++ (x ∷ us)) out more → P (put (a ∷ b ∷ c ∷ d ∷ []) (x ∷ us) ++ more)) b (c ∷ d ∷ []) us z1 λ y vs by z2.
+      sized-more (λ us. good before (x ∷ y ∷ us) ≡ true → Stands table (before ++ (x ∷ y ∷ us)) out more → P (put (a ∷ b ∷ c ∷ d ∷ []) (x ∷ y ∷ us) ++ more)) c (d ∷ []) vs z2 λ u ws bu z3.
+      sized-one (λ us. good before (x ∷ y ∷ u ∷ us) ≡ true → Stands table (before ++ (x ∷ y ∷ u ∷ us)) out more → P (put (a ∷ b ∷ c ∷ d ∷ []) (x ∷ y ∷ u ∷ us) ++ more)) d ws z3 λ v bv.
       go x y u v more bx by bu bv

@@ -3,14 +3,14 @@
 --   Res A            a value and the place behind it, or a refusal
 --   Width            one, two or four octets
 --   numbers ws s at  the numbers of these widths from a place on, most significant octet first
---   Row              a field: `mark`, octets that must stand there; `val`, numbers under a rule that may look at those before; or `again`, a
+--   Field            a field: `mark`, octets that must stand there; `val`, numbers under a rule that may look at those before; or `again`, a
 --                    rule on numbers read before, refused so many octets back
---   fields rows before s at   the numbers read, behind those before; or the refusal of the first field at fault
---   reach rows before s at    how far it looked
+--   fields table before s at   the numbers read, behind those before; or the refusal of the first field at fault
+--   reach table before s at    how far it looked
 --
 -- A field that does not fit whole is Short, whatever its octets say.
-use Prim.Native.Nat.{ℕ, zero, suc, _+_, _-_, _<_}
-use mathlib.Core.Bool.{Bool, true, false, cond}
+use Prim.Native.Nat.{ℕ, _+_, _-_, _<_}
+use mathlib.Core.Bool.{Bool, cond}
 use mathlib.Core.List.{List, [], _∷_, _++_}
 use lib.ListN.{length, getD}
 use lib.Dec.{ltb}
@@ -50,32 +50,32 @@ unfoldable pub numbers : List Width → List ℕ → ℕ → List ℕ
 numbers [] s at = []
 numbers (w ∷ ws) s at = numberAt w s at ∷ numbers ws s (at + octetCount w)
 
-pub data Row : Type 0 where
-  mark : List ℕ → (ℕ → Answer) → Row
-  val : List Width → (List ℕ → List ℕ → Bool) → (ℕ → Answer) → Row
-  again : ℕ → (List ℕ → Bool) → (ℕ → Answer) → Row
+pub data Field : Type 0 where
+  mark : List ℕ → (ℕ → Answer) → Field
+  val : List Width → (List ℕ → List ℕ → Bool) → (ℕ → Answer) → Field
+  again : ℕ → (List ℕ → Bool) → (ℕ → Answer) → Field
 
-unfoldable pub fields : List Row → List ℕ → List ℕ → ℕ → Res (List ℕ)
+unfoldable pub fields : List Field → List ℕ → List ℕ → ℕ → Res (List ℕ)
 unfolding widths numbers
 fields [] before s at = ok before at
-fields (mark m refusal ∷ rows) before s at =
+fields (mark m refusal ∷ table) before s at =
     cond (ltb (length s) (at + length m)) (no (Short at))
-    (cond (standsAt s at m) (fields rows before s (at + length m)) (no (refusal at)))
-fields (val ws good refusal ∷ rows) before s at =
+    (cond (standsAt s at m) (fields table before s (at + length m)) (no (refusal at)))
+fields (val ws good refusal ∷ table) before s at =
     cond (ltb (length s) (at + widths ws)) (no (Short at))
-    (cond (good before (numbers ws s at)) (fields rows (before ++ numbers ws s at) s (at + widths ws)) (no (refusal at)))
-fields (again back good refusal ∷ rows) before s at = cond (good before) (fields rows before s at) (no (refusal (at - back)))
+    (cond (good before (numbers ws s at)) (fields table (before ++ numbers ws s at) s (at + widths ws)) (no (refusal at)))
+fields (again back good refusal ∷ table) before s at = cond (good before) (fields table before s at) (no (refusal (at - back)))
 
 -- how far reading looked: to the end of the last field, or of the field at fault; where a number read before is at fault, up to where that was seen
-unfoldable pub reach : List Row → List ℕ → List ℕ → ℕ → ℕ
+unfoldable pub reach : List Field → List ℕ → List ℕ → ℕ → ℕ
 unfolding widths numbers
 reach [] before s at = at
-reach (mark m refusal ∷ rows) before s at =
-    cond (ltb (length s) (at + length m)) at (cond (standsAt s at m) (reach rows before s (at + length m)) (at + length m))
-reach (val ws good refusal ∷ rows) before s at =
+reach (mark m refusal ∷ table) before s at =
+    cond (ltb (length s) (at + length m)) at (cond (standsAt s at m) (reach table before s (at + length m)) (at + length m))
+reach (val ws good refusal ∷ table) before s at =
     cond (ltb (length s) (at + widths ws)) at
-    (cond (good before (numbers ws s at)) (reach rows (before ++ numbers ws s at) s (at + widths ws)) (at + widths ws))
-reach (again back good refusal ∷ rows) before s at = cond (good before) (reach rows before s at) at
+    (cond (good before (numbers ws s at)) (reach table (before ++ numbers ws s at) s (at + widths ws)) (at + widths ws))
+reach (again back good refusal ∷ table) before s at = cond (good before) (reach table before s at) at
 
 -- ---- what the octets are
 

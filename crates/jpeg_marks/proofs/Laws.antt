@@ -12,7 +12,7 @@ use Rattle.jpeg_rules.specs.declared.Found.{Found}
 use Rattle.jpeg_rules.specs.declared.Found.the-variants.{At, Nothing}
 use Rattle.jpeg_rules.specs.declared.Reach.{Reach}
 use Rattle.jpeg_rules.specs.declared.Seg.{Seg}
-use Rattle.jpeg_rules.specs.declared.Seg.the-variants.{Body, Bad}
+use Rattle.jpeg_rules.specs.declared.Seg.the-variants.{Body, Refused}
 use Rattle.jpeg_rules.specs.declared.Turn.{Turn}
 use Rattle.jpeg_rules.specs.declared.Turn.the-variants.{Go, Stop}
 use Rattle.jpeg_rules.specs.declared.Walk.the-variants.{Ends}
@@ -47,7 +47,7 @@ module _ (s : List ℕ) (st : Reach) (n : ℕ) where
     frame-early z = simp (f, eq-eqb (st .res) 0 z)
 
     module _ (z : st .res ≡ 0 → ⊥) {g : Seg} (y : g ≡ segOf s n 8) where
-      pub frame-bad : {x : Fault} → g ≡ Bad x → refused x ≡ frameOf s st n
+      pub frame-bad : {x : Fault} → g ≡ Refused x → refused x ≡ frameOf s st n
       unfolding frameOf
       frame-bad b = simp (f, ne-eqb (st .res) 0 z, sym y ∙ b)
 
@@ -64,7 +64,7 @@ module _ (s : List ℕ) (st : Reach) (n : ℕ) where
   scan-early f = simp f
 
   module _ (f : st .framed ≡ true) {g : Seg} (z : g ≡ segOf s n 2) where
-    pub scan-bad : {x : Fault} → g ≡ Bad x → refused x ≡ scanStepOf s st n
+    pub scan-bad : {x : Fault} → g ≡ Refused x → refused x ≡ scanStepOf s st n
     unfolding scanStepOf
     scan-bad b = simp (f, sym z ∙ b)
 

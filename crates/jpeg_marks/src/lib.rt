@@ -46,7 +46,7 @@ pub fn frame_step(s: &[u8], st: Reach, n: usize) -> Turn
         return Turn::Stop(Walk::Refused(Fault::BadLayer(st.at)));
     }
     match jpeg_segment::seg_at(s, n, 8) {
-        Seg::Bad(f) => Turn::Stop(Walk::Refused(f)),
+        Seg::Refused(f) => Turn::Stop(Walk::Refused(f)),
         Seg::Body(next) => frame_body(s, st, n, next),
     }
 }
@@ -58,8 +58,8 @@ pub fn scan_step(s: &[u8], st: Reach, n: usize) -> Turn
 {
     if st.framed {
         match jpeg_segment::seg_at(s, n, 2) {
-            Seg::Bad(f) => Turn::Stop(Walk::Refused(f)),
-            Seg::Body(next) => match scan::next_marker(s, next) {
+            Seg::Refused(f) => Turn::Stop(Walk::Refused(f)),
+            Seg::Body(next) => match jpeg_marker::next_marker(s, next) {
                 Found::Nothing => Turn::Stop(Walk::Refused(Fault::Short(next))),
                 Found::At(p) => Turn::Go(Reach {
                     at: p,

@@ -1,41 +1,34 @@
 -- Where the walk ends, the octets that it went over are a layer of the grammar.
 -- Assumes nothing.
-use Prim.Native.Nat.{ℕ, zero, suc, _+_, _-_, _≤_, _<_, _∣_}
+use Prim.Native.Nat.{ℕ, _+_, _-_, _≤_, _<_, _∣_}
 use native.Mathlib.Omega.{arith}
-use mathlib.Core.Path.{_≡_, refl, sym, ap, subst, _∙_}
+use mathlib.Core.Path.{_≡_, refl, sym, ap, _∙_}
 use mathlib.Core.Logic.{_⊎_, inl, inr, _≢_, ⊎-elim, ⊎-map}
 use mathlib.Core.Bool.{Bool, true, false, _&&_, cond, false≢true}
 use mathlib.Core.List.{List, [], _∷_, _++_, append-assoc}
-use lib.ListN.{length, getD, take, drop, length-append, length-drop}
-use lib.Seq.{take-at, length-take-le}
-use lib.Dec.{eqb, leb, ltb}
-use borrow.Author.Tests.{eq-eqb, ne-eqb, eqb-true, ltb-false}
-use Rattle.octets.specs.Octets.{Octets, be16At, octets16, standsAt}
+use lib.ListN.{length, getD, take, drop, length-append}
+use lib.Seq.{take-at}
+use lib.Dec.{eqb, ltb}
+use borrow.Author.Tests.{eq-eqb, ne-eqb, ltb-false}
+use Rattle.octets.specs.Octets.{Octets, be16At}
 use Rattle.sheet_rules.specs.Sentences.{Listed}
-use Rattle.cases.proofs.Says.{Says, says-eq, says-le, says-and, says-true, says-else}
+use Rattle.laws.proofs.Says.{says-eq, says-and, says-true}
 use Rattle.sheet_rules.proofs.New.{says-listed, says-divides}
-use Rattle.sheet_rules.proofs.Backward.{listed-nonzero}
-use Rattle.jpeg_rules.specs.declared.Class.{Class}
-use Rattle.jpeg_rules.specs.declared.Class.the-variants.{Alone, Frame, Scan, End, Wrong, Segment}
+use Rattle.jpeg_rules.specs.declared.Class.the-variants.{Frame, Segment}
 use Rattle.jpeg_rules.specs.declared.Marker.the-variants.{Code}
-use Rattle.jpeg_rules.specs.declared.Seg.{Seg}
-use Rattle.jpeg_rules.specs.declared.Seg.the-variants.{Body, Bad}
-use Rattle.jpeg_rules.specs.declared.Found.the-variants.{At}
-use Rattle.jpeg_rules.specs.declared.Tag.{Tag}
+use Rattle.jpeg_rules.specs.declared.Seg.the-variants.{Body}
 use Rattle.jpeg_rules.specs.declared.Tag.the-variants.{Gives, Plain}
 use Rattle.jpeg_rules.specs.declared.Reach.{Reach}
-use Rattle.jpeg_rules.specs.declared.Turn.{Turn}
-use Rattle.jpeg_rules.specs.declared.Turn.the-variants.{Go, Stop}
+use Rattle.jpeg_rules.specs.declared.Turn.the-variants.{Stop}
 use Rattle.jpeg_rules.specs.declared.Walk.{Walk}
-use Rattle.jpeg_rules.specs.declared.Walk.the-variants.{Ends, Refused}
+use Rattle.jpeg_rules.specs.declared.Walk.the-variants.{Ends}
 use Rattle.jpeg_rules.specs.Marker.{classOf, markerOf}
-use Rattle.jpeg_rules.specs.Grammar.{Data, Piece, alone, segment, scan, lengthed, octetsOf, piecesOf, Fits, Good, isScan, g3fax, tagged, resolution, Each, Scanned, Layer}
-use Rattle.jpeg_rules.specs.Walk.{segOf, scanOf, resolves, tagOf, framed, passed, moved, begun, walkFrom, walkOf}
-use Rattle.cases.proofs.Cases.{cond-with, clash, bool-else}
-use Rattle.jpeg_rules.proofs.Leaves.{alone-code, scan-code, end-code, marker-back, two-stand, Segmented, seg-back}
-use Rattle.jpeg_rules.proofs.Scans.{scan-data, scan-back}
+use Rattle.jpeg_rules.specs.Grammar.{Piece, alone, segment, lengthed, octetsOf, piecesOf, Fits, Good, isScan, tagged, resolution, Each, Scanned, Layer}
+use Rattle.jpeg_rules.specs.Walk.{segOf, resolves, tagOf, framed, moved, begun, walkFrom, walkOf}
+use Rattle.laws.proofs.Cases.{cond-with, clash, bool-else}
+use Rattle.jpeg_rules.proofs.Leaves.{alone-code, marker-back, two-stand}
 use Rattle.jpeg_rules.proofs.Turns.{tag-of, number-is}
-use Rattle.jpeg_rules.proofs.Walks.{Onward, by-alone, by-frame, by-scan, by-plain, by-tag, Ended, turn-told, Walks, stops, goes, walks-from}
+use Rattle.jpeg_rules.proofs.Walks.{Onward, by-alone, by-frame, by-scan, by-plain, by-tag, turn-told, Walks, stops, goes, walks-from}
 use Rattle.jpeg_rules.proofs.Tail.{Stood, stood, Tail, tail-back}
 use Rattle.jpeg_rules.proofs.There.{length-lengthed, res-plain, resolves-nonzero, tagged-long}
 

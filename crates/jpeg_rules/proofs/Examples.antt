@@ -4,11 +4,10 @@ use Prim.Native.Nat.{ℕ}
 use mathlib.Core.Path.{_≡_, refl}
 use mathlib.Core.List.{List, [], _∷_, _++_}
 use Rattle.octets.specs.Octets.{be16At, begins, standsAt}
-use Rattle.jpeg_rules.specs.declared.Fault.the-variants.{Short, BadLength, BadRes, BadLayer}
-use Rattle.jpeg_rules.specs.declared.Walk.{Walk}
+use Rattle.jpeg_rules.specs.declared.Fault.the-variants.{Short, BadRes, BadLayer}
 use Rattle.jpeg_rules.specs.declared.Walk.the-variants.{Ends, Refused}
 use Rattle.jpeg_rules.specs.Marker.{classOf, markerOf}
-use Rattle.jpeg_rules.specs.Walk.{segOf, stopsOf, scanFrom, scanOf, tagOf, frameBodyOf, frameOf, scanStepOf, segmentOf, endOf, markOf, turnOf, walkFrom, walkOf}
+use Rattle.jpeg_rules.specs.Walk.{segOf, scanOf, tagOf, frameBodyOf, frameOf, scanStepOf, segmentOf, endOf, turnOf, walkOf}
 use Rattle.jpeg_rules.specs.Look.{turnLook, walkLook}
 
 -- the parts: the resolution's segment, the frame of 8 by 16, a scan with a stuffed FF and a restart marker, and the ends

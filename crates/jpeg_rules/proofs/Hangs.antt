@@ -1,5 +1,5 @@
 -- The walk hangs on the octets up to where it looked: two lists that agree so far are walked alike, refusals too. Where it ends it looked up to
--- its end, and where it is refused, past the place and not far beyond.
+-- its end, and where it is refused, past the place and not far walkBeyond.
 -- Assumes nothing.
 use Prim.Native.Nat.{ℕ, zero, suc, _+_, _-_, _≤_, _<_}
 use native.Mathlib.Omega.{arith}
@@ -12,7 +12,7 @@ use borrow.Author.Tests.{ltb-false}
 use Rattle.octets.specs.Octets.{Octets, be16At}
 use Rattle.octets.proofs.Laws.{be16-bound}
 use Rattle.octets.proofs.Agree.{octet-agree, Hangs, hangs-none, hangs-as, hangs-from, hangs-then, hangs-fits}
-use Rattle.cases.proofs.Cases.{cond-with, clash}
+use Rattle.laws.proofs.Cases.{cond-with, clash}
 use Rattle.jpeg_rules.specs.declared.Class.{Class}
 use Rattle.jpeg_rules.specs.declared.Class.the-variants.{Alone, Frame, Scan, End, Wrong, Segment}
 use Rattle.jpeg_rules.specs.declared.Marker.{Marker}
@@ -20,19 +20,19 @@ use Rattle.jpeg_rules.specs.declared.Marker.the-variants.{Code, Missing,
 use Rattle.jpeg_rules.specs.declared.Fault.{Fault}
 use Rattle.jpeg_rules.specs.declared.Fault.the-variants.{Short, BadRes, BadLayer}
 use Rattle.jpeg_rules.specs.declared.Seg.{Seg}
-use Rattle.jpeg_rules.specs.declared.Seg.the-variants.{Body, Bad}
+use Rattle.jpeg_rules.specs.declared.Seg.the-variants.{Body}
 use Rattle.jpeg_rules.specs.declared.Found.{Found}
 use Rattle.jpeg_rules.specs.declared.Found.the-variants.{At, Nothing}
 use Rattle.jpeg_rules.specs.declared.Tag.{Tag}
 use Rattle.jpeg_rules.specs.declared.Tag.the-variants.{Gives, Plain}
 use Rattle.jpeg_rules.specs.declared.Reach.{Reach}
 use Rattle.jpeg_rules.specs.declared.Walk.{Walk}
-use Rattle.jpeg_rules.specs.declared.Walk.the-variants.{Ends, Refused}
+use Rattle.jpeg_rules.specs.declared.Walk.the-variants.{Ends}
 use Rattle.jpeg_rules.specs.declared.Turn.{Turn}
 use Rattle.jpeg_rules.specs.declared.Turn.the-variants.{Go, Stop}
 use Rattle.jpeg_rules.specs.Marker.{classOf, markerOf}
 use Rattle.jpeg_rules.specs.Walk.{segOf, scanOf, resolves, tagOf, framed, passed, moved, refused, onBody, onFound, onTag, frameBodyOf, frameOf, scanStepOf, segmentOf, endOf, markOf, onMarker, turnOf, onTurn, walkFrom, begun, walkOf}
-use Rattle.jpeg_rules.specs.Look.{bodyLook, whole, foundLook, markLook, markerLook, turnLook, onwardLook, walkLookFrom, walkLook, beyond}
+use Rattle.jpeg_rules.specs.Look.{bodyLook, whole, foundLook, markLook, markerLook, turnLook, onwardLook, walkLookFrom, walkLook, walkBeyond}
 use Rattle.jpeg_rules.proofs.Leaves.{marker-back}
 use Rattle.jpeg_rules.proofs.Walks.{turn-told, ahead}
 use Rattle.jpeg_rules.proofs.Within.{placeOf, tag-long}
@@ -40,10 +40,10 @@ use Rattle.jpeg_rules.proofs.LeafHangs.{Whole, seg-whole, seg-bad, mark
 
 -- ---- how near the end or the place of a refusal
 
--- where the walk ends it looked up to its end; where it is refused, past the place and not far beyond
+-- where the walk ends it looked up to its end; where it is refused, past the place and not far walkBeyond
 unfoldable pub NearWalk : ℕ → Walk → Type 0
 NearWalk look (Ends e w h r) = look ≡ e
-NearWalk look (Refused f) = (placeOf f < look) × (look ≤ placeOf f + beyond f)
+NearWalk look (Walk.Refused f) = (placeOf f < look) × (look ≤ placeOf f + walkBeyond f)
 
 pub record Looked (look : ℕ) (read : List ℕ → Walk) (s : List ℕ) (at : ℕ) : Type 0 where
   pub hangs : Hangs look read s at
@@ -51,7 +51,7 @@ pub record Looked (look : ℕ) (read : List ℕ → Walk) (s : List ℕ) (at : �
 
 -- not Short
 abbrev pub UncutWalk : Walk → Type 0
-UncutWalk w = (p : ℕ) → w ≡ Refused (Short p) → ⊥
+UncutWalk w = (p : ℕ) → w ≡ Walk.Refused (Short p) → ⊥
 
 abbrev Uncut : Turn → Type 0
 Uncut x = (p : ℕ) → x ≡ refused (Short p) → ⊥
@@ -82,7 +82,7 @@ module _ (s : List ℕ) (o : Octets s) (main : ℕ) where
       → ((next : ℕ) → Whole s n least next → Uncut (go next s) → Turned (look next) (go next) next)
       → Uncut (onBody (segOf s n least) (λ (next : ℕ). go next s))
       → Turned (bodyLook (segOf s n least) n look) (λ (t : List ℕ). onBody (segOf t n least) (λ (next : ℕ). go next t)) n
-  unfolding NearTurn placeOf beyond
+  unfolding NearTurn placeOf walkBeyond
   turned-body n least go look two k = by (segOf s n least) refl
     where
       by : (g : Seg) → segOf s n least ≡ g → Uncut (onBody g (λ (next : ℕ). go next s))
@@ -90,20 +90,20 @@ module _ (s : List ℕ) (o : Octets s) (main : ℕ) where
       by (Body next) e u =
           let w = seg-whole s n least next two e in
           turned-then (λ (t : List ℕ). segOf t n least) (λ (g : Seg) (t : List ℕ). onBody g (λ (m : ℕ). go m t)) (Body next) next (look next) n e (w .hangs) (k next w u)
-      by (Bad f) e u =
+      by (Seg.Refused f) e u =
           let w = seg-bad s n least f e (λ p q. u p (ap refused q)) in
           let i = w .1 .inside in
-          turned-then (λ (t : List ℕ). segOf t n least) (λ (g : Seg) (t : List ℕ). onBody g (λ (m : ℕ). go m t)) (Bad f) (n + 2) (n + 2) n e (w .1)
+          turned-then (λ (t : List ℕ). segOf t n least) (λ (g : Seg) (t : List ℕ). onBody g (λ (m : ℕ). go m t)) (Seg.Refused f) (n + 2) (n + 2) n e (w .1)
           (turned-none (refused f) (n + 2) i (subst (λ (g : Fault). NearTurn (n + 2) (refused g)) (sym (w .0)) (let y : (n < n + 2) × (n + 2 ≤ n + 2) = (omega arith, omega arith) in y)))
 
   module _ (st : Reach) (c n : ℕ) (z : n ≡ st .at + 2) (b : n ≤ length s) where
     -- a marker that may not stand there
     turned-wrong : Turned n (λ (t : List ℕ). refused (BadLayer (st .at))) n
-    unfolding NearTurn placeOf beyond
+    unfolding NearTurn placeOf walkBeyond
     turned-wrong = turned-none (refused (BadLayer (st .at))) n b (omega arith, omega arith)
 
     turned-frame : Uncut (frameOf s st n) → Turned (markLook s st n Frame) (λ (t : List ℕ). frameOf t st n) n
-    unfolding frameOf frameBodyOf markLook NearTurn placeOf beyond
+    unfolding frameOf frameBodyOf markLook NearTurn placeOf walkBeyond
     turned-frame = by (st .framed) (eqb (st .res) 0)
       where
         body : (next : ℕ) → Whole s n 8 next → Uncut (frameBodyOf s st n next) → Turned next (λ (t : List ℕ). frameBodyOf t st n next) next
@@ -154,7 +154,7 @@ module _ (s : List ℕ) (o : Octets s) (main : ℕ) where
     judged next x = onTag x (Go (moved st next (st .res))) (λ (r : ℕ). cond (resolves main r) (Go (moved st next r)) (refused (BadRes (n + 10))))
 
     turned-segment : Uncut (segmentOf s main st c n) → Turned (markLook s st n Segment) (λ (t : List ℕ). segmentOf t main st c n) n
-    unfolding segmentOf markLook NearTurn placeOf beyond
+    unfolding segmentOf markLook NearTurn placeOf walkBeyond
     turned-segment =
         turned-body n 2 (λ (next : ℕ) (t : List ℕ). judged next (tagOf t st c n)) whole (omega arith) λ next w v.
         let e = w .size in
@@ -172,7 +172,7 @@ module _ (s : List ℕ) (o : Octets s) (main : ℕ) where
             (λ g. let y : (n + 10 < next) × (next ≤ n + 10 + 65525) = (omega arith, omega arith) in y)
 
     turned-end : Turned n (λ (t : List ℕ). endOf st n) n
-    unfolding endOf NearTurn placeOf beyond
+    unfolding endOf NearTurn placeOf walkBeyond
     turned-end =
         turned-none (endOf st n) n b (cond-with (NearTurn n) (st .scanned) (λ d. refl) (λ d. let y : (st .at < n) × (n ≤ st .at + 65532) = (omega arith, omega arith) in y))
 
@@ -186,7 +186,7 @@ module _ (s : List ℕ) (o : Octets s) (main : ℕ) where
     turned-mark Segment u = turned-segment u
 
   turn-hangs : (st : Reach) → Uncut (turnOf s main st) → Turned (turnLook s st) (λ (t : List ℕ). turnOf t main st) (st .at + 2)
-  unfolding turnOf turnLook NearTurn placeOf beyond
+  unfolding turnOf turnLook NearTurn placeOf walkBeyond
   turn-hangs st = by (markerOf s (st .at)) refl
     where
       on : Marker → List ℕ → Turn
@@ -261,7 +261,7 @@ module _ (s : List ℕ) (o : Octets s) (main : ℕ) where
 
 -- two lists that agree as far as a walk looked that is not Short are walked alike
 pub walk-hangs : (s : List ℕ) → Octets s → (start main : ℕ) → UncutWalk (walkOf s start main) → Looked (walkLook s start main) (λ (t : List ℕ). walkOf t start main) s start
-unfolding walkOf walkLook NearWalk placeOf beyond
+unfolding walkOf walkLook NearWalk placeOf walkBeyond
 walk-hangs s o start main =
     cond-with (λ x. UncutWalk x → Looked (walkLook s start main) (λ (t : List ℕ). walkOf t start main) s start) (ltb (length s) (start + 2))
     (λ l u. absurd (u start refl)) (λ l. by l (opens s) refl)
@@ -270,14 +270,14 @@ walk-hangs s o start main =
     opens t = eqb (getD t start 0) 0xFF && eqb (getD t (start + 1) 0) 0xD8
 
     on : Bool → List ℕ → Walk
-    on b t = cond b (walkFrom (length t) t main (begun (start + 2))) (Refused (BadLayer start))
+    on b t = cond b (walkFrom (length t) t main (begun (start + 2))) (Walk.Refused (BadLayer start))
 
     made : (b : Bool) (look : ℕ) → opens s ≡ b → ltb (length s) (start + 2) ≡ false → Looked look (on b) s (start + 2) → Looked look (λ (t : List ℕ). walkOf t start main) s start
     made b look e l h =
         let g = ltb-false (length s) (start + 2) l in
         record {
           hangs =
-              hangs-fits s (Refused (Short start)) (λ (t : List ℕ). on (opens t) t) (start + 2) look start (omega arith)
+              hangs-fits s (Walk.Refused (Short start)) (λ (t : List ℕ). on (opens t) t) (start + 2) look start (omega arith)
               (hangs-then s opens on b (start + 2) look (start + 2) e
               (record {
                 ahead = omega arith;
@@ -286,7 +286,7 @@ walk-hangs s o start main =
                     ap₂ (λ (x y : ℕ). eqb x 0xFF && eqb y 0xD8) (sym (octet-agree (start + 2) s t a start (omega arith))) (sym (octet-agree (start + 2) s t a (start + 1) (omega arith)));
               })
               (h .hangs));
-          near = subst (NearWalk look) (sym (ap₂ (λ (c d : Bool). cond c (Refused (Short start)) (on d s)) l e)) (h .near);
+          near = subst (NearWalk look) (sym (ap₂ (λ (c d : Bool). cond c (Walk.Refused (Short start)) (on d s)) l e)) (h .near);
         }
 
     by : ltb (length s) (start + 2) ≡ false → (b : Bool) → opens s ≡ b → UncutWalk (on b s)
@@ -299,6 +299,6 @@ walk-hangs s o start main =
     by l false e u =
         made false (start + 2) e l
         (record {
-          hangs = hangs-none s (Refused (BadLayer start)) (start + 2) (start + 2) (omega arith) (ltb-false (length s) (start + 2) l);
+          hangs = hangs-none s (Walk.Refused (BadLayer start)) (start + 2) (start + 2) (omega arith) (ltb-false (length s) (start + 2) l);
           near = let y : (start < start + 2) × (start + 2 ≤ start + 65532) = (omega arith, omega arith) in y;
         })

@@ -3,7 +3,7 @@
 use Prim.Native.Nat.{ℕ, zero, suc, _+_, _-_, _≤_}
 use native.Mathlib.Omega.{arith}
 use mathlib.Core.Path.{_≡_, refl, sym, ap, ap₂, subst, _∙_}
-use mathlib.Core.Logic.{_⊎_, _≢_, ⊎-elim}
+use mathlib.Core.Logic.{_≢_, ⊎-elim}
 use mathlib.Core.Bool.{Bool, true, false, _&&_}
 use mathlib.Core.List.{List}
 use lib.ListN.{length, getD}
@@ -11,12 +11,12 @@ use lib.Dec.{leb, ltb}
 use borrow.Author.Tests.{le-ltb, ltb-false, leb-true}
 use Rattle.octets.specs.Octets.{be16At, standsAt}
 use Rattle.octets.proofs.Agree.{octet-agree, be16-agree, stands-agree, Hangs}
-use Rattle.cases.proofs.Cases.{cond-with, bool-else, clash}
-use Rattle.cases.proofs.Says.{says-eq, says-else}
+use Rattle.laws.proofs.Cases.{cond-with, bool-else, clash}
+use Rattle.laws.proofs.Says.{says-eq, says-else}
 use Rattle.jpeg_rules.specs.declared.Marker.the-variants.{Cut}
 use Rattle.jpeg_rules.specs.declared.Fault.{Fault}
 use Rattle.jpeg_rules.specs.declared.Fault.the-variants.{Short, BadLength}
-use Rattle.jpeg_rules.specs.declared.Seg.the-variants.{Body, Bad}
+use Rattle.jpeg_rules.specs.declared.Seg.the-variants.{Body, Refused}
 use Rattle.jpeg_rules.specs.declared.Found.the-variants.{At}
 use Rattle.jpeg_rules.specs.declared.Reach.{Reach}
 use Rattle.jpeg_rules.specs.Marker.{markerOf}
@@ -56,13 +56,13 @@ module _ (s : List ℕ) (n : ℕ) where
             };
       })
 
-  pub seg-bad : (least : ℕ) (f : Fault) → segOf s n least ≡ Bad f → ((p : ℕ) → f ≡ Short p → ⊥)
+  pub seg-bad : (least : ℕ) (f : Fault) → segOf s n least ≡ Refused f → ((p : ℕ) → f ≡ Short p → ⊥)
       → (f ≡ BadLength n) × Hangs (n + 2) (λ (t : List ℕ). segOf t n least) s n
   unfolding segOf
   seg-bad least f =
-      cond-with (λ x. x ≡ Bad f → ((p : ℕ) → f ≡ Short p → ⊥) → (f ≡ BadLength n) × Hangs (n + 2) (λ (t : List ℕ). segOf t n least) s n) (ltb (length s) (n + 2))
+      cond-with (λ x. x ≡ Refused f → ((p : ℕ) → f ≡ Short p → ⊥) → (f ≡ BadLength n) × Hangs (n + 2) (λ (t : List ℕ). segOf t n least) s n) (ltb (length s) (n + 2))
       (λ t e u. absurd (u n cc)) λ f1.
-      cond-with (λ x. x ≡ Bad f → ((p : ℕ) → f ≡ Short p → ⊥) → (f ≡ BadLength n) × Hangs (n + 2) (λ (t : List ℕ). segOf t n least) s n) (ltb (be16At s n) least)
+      cond-with (λ x. x ≡ Refused f → ((p : ℕ) → f ≡ Short p → ⊥) → (f ≡ BadLength n) × Hangs (n + 2) (λ (t : List ℕ). segOf t n least) s n) (ltb (be16At s n) least)
       (λ f2 e u. (
         cc,
         record {
@@ -72,7 +72,7 @@ module _ (s : List ℕ) (n : ℕ) where
               let q : be16At t n ≡ be16At s n = sym (be16-agree (n + 2) s t a n (omega arith)) in simp (f1, f2, q, le-ltb (length t) (n + 2) (a .right));
         },
       )) λ f2.
-      cond-with (λ x. x ≡ Bad f → ((p : ℕ) → f ≡ Short p → ⊥) → (f ≡ BadLength n) × Hangs (n + 2) (λ (t : List ℕ). segOf t n least) s n) (ltb (length s) (n + be16At s n))
+      cond-with (λ x. x ≡ Refused f → ((p : ℕ) → f ≡ Short p → ⊥) → (f ≡ BadLength n) × Hangs (n + 2) (λ (t : List ℕ). segOf t n least) s n) (ltb (length s) (n + be16At s n))
       (λ t e u. absurd (u (n + 2) cc)) (λ t e. clash cc)
 
 pub marker-hangs : (s : List ℕ) (at : ℕ) → (markerOf s at ≡ Cut → ⊥) → Hangs (at + 2) (λ (t : List ℕ). markerOf t at) s (at + 2)

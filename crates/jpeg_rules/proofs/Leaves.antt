@@ -1,33 +1,27 @@
 -- The leaves of the walk: a choice by cases, the codes of each class, and what a marker, a segment and scan data say of the octets.
 -- Assumes nothing.
-use Prim.Native.Nat.{ℕ, zero, suc, _+_, _-_, _*_, _≤_, _<_}
+use Prim.Native.Nat.{ℕ, suc, _+_, _-_, _≤_, _<_}
 use native.Mathlib.Omega.{arith}
-use mathlib.Core.Path.{_≡_, refl, sym, ap, subst, _∙_}
+use mathlib.Core.Path.{_≡_, refl, sym, ap, _∙_}
 use mathlib.Core.Logic.{_⊎_, inl, inr, _≢_, ⊎-elim}
-use mathlib.Core.Bool.{Bool, true, false, _&&_, _||_, not, cond, false≢true}
+use mathlib.Core.Bool.{true, false, _||_, false≢true}
 use mathlib.Core.List.{List, [], _∷_, _++_}
-use lib.ListN.{length, getD, take, drop, length-append, length-drop, length-take, take-append-drop}
-use lib.Seq.{drop-cons, getD-drop, drop-drop, take-at, length-take-le}
+use lib.ListN.{length, getD, take, drop, length-append, length-drop, take-append-drop}
+use lib.Seq.{drop-drop, length-take-le}
 use lib.Dec.{eqb, leb, ltb}
-use native.Mathlib.Numerals.{add-one}
-use borrow.Author.Tests.{eq-eqb, ne-eqb, eqb-true, eqb-false, le-leb, lt-leb, leb-true, leb-false, lt-ltb, le-ltb, ltb-true, ltb-false}
-use Rattle.cases.proofs.Cases.{cond-with, clash}
+use borrow.Author.Tests.{eq-eqb, eqb-true, leb-false, le-ltb, ltb-false}
+use Rattle.laws.proofs.Cases.{cond-with, clash}
 use Rattle.octets.specs.Octets.{Octets, be16At, octets16}
 use Rattle.octets.proofs.Laws.{be16-there, be16-stands, be16-bound, drop-next, drop-octet, length-octets16}
-use Rattle.cases.proofs.Says.{Says, says-eq, says-le, says-and, says-or, says-not, says-else, says-false}
+use Rattle.laws.proofs.Says.{Says, says-eq, says-le, says-and, says-or, says-not, says-else, says-false}
 use Rattle.jpeg_rules.specs.declared.Class.{Class}
 use Rattle.jpeg_rules.specs.declared.Class.the-variants.{Alone, Frame, Scan, End, Wrong, Segment}
-use Rattle.jpeg_rules.specs.declared.Marker.{Marker}
-use Rattle.jpeg_rules.specs.declared.Marker.the-variants.{Code, Missing, Cut}
-use Rattle.jpeg_rules.specs.declared.Fault.{Fault}
-use Rattle.jpeg_rules.specs.declared.Fault.the-variants.{Short, BadLength, BadRes, BadLayer}
-use Rattle.jpeg_rules.specs.declared.Seg.{Seg}
-use Rattle.jpeg_rules.specs.declared.Seg.the-variants.{Body, Bad}
-use Rattle.jpeg_rules.specs.declared.Found.{Found}
-use Rattle.jpeg_rules.specs.declared.Found.the-variants.{At, Nothing}
-use Rattle.jpeg_rules.specs.Marker.{within, among, classOf, markerOf}
-use Rattle.jpeg_rules.specs.Grammar.{DataCode, Data, none, plain, stuffed, lengthed, Fits}
-use Rattle.jpeg_rules.specs.Walk.{segOf, stopsOf, scanFrom, scanOf}
+use Rattle.jpeg_rules.specs.declared.Marker.the-variants.{Code}
+use Rattle.jpeg_rules.specs.declared.Seg.the-variants.{Body}
+use Rattle.jpeg_rules.specs.Marker.{classOf, markerOf}
+use Rattle.laws.specs.Tests.{within, among}
+use Rattle.jpeg_rules.specs.Grammar.{DataCode, Fits}
+use Rattle.jpeg_rules.specs.Walk.{segOf, stopsOf}
 
 -- ---- the codes of each class
 

@@ -6,15 +6,14 @@ use mathlib.Core.Path.{_≡_, refl, sym, ap, ap₂, subst, _∙_}
 use mathlib.Core.Logic.{_⊎_, inl, inr, _≢_, ⊎-elim}
 use mathlib.Core.Bool.{Bool, true, false, cond, false≢true}
 use mathlib.Core.List.{List, [], _∷_, _++_}
-use lib.ListN.{length, getD, take, drop, length-drop, take-append-drop}
+use lib.ListN.{length, getD, take, drop, take-append-drop}
 use lib.Seq.{drop-drop}
 use Rattle.octets.proofs.Laws.{drop-octet}
-use Rattle.cases.proofs.Says.{Says, says-eq, says-else}
-use Rattle.jpeg_rules.specs.declared.Found.{Found}
-use Rattle.jpeg_rules.specs.declared.Found.the-variants.{At, Nothing}
+use Rattle.laws.proofs.Says.{says-eq, says-else}
+use Rattle.jpeg_rules.specs.declared.Found.the-variants.{At}
 use Rattle.jpeg_rules.specs.Grammar.{DataCode, Data, none, plain, stuffed}
 use Rattle.jpeg_rules.specs.Walk.{stopsOf, scanFrom, scanOf}
-use Rattle.cases.proofs.Cases.{cond-with, clash, bool-else}
+use Rattle.laws.proofs.Cases.{cond-with, clash, bool-else}
 use Rattle.jpeg_rules.proofs.Leaves.{says-data, says-stop, one-there, two-there}
 
 -- a pair that does not stop
@@ -130,7 +129,7 @@ module _ (s : List ℕ) (p : ℕ) (g : p + 1 < length s) (ff : getD s p 0 ≡ 0x
       ⊎-elim
       (λ (e : getD s i 0 ≡ 0xFF).
       let dc = code-of i e (f i (omega arith) lt) in
-      let far : i + 1 < p = beyond i lt dc in
+      let far : i + 1 < p = walkBeyond i lt dc in
       let y : i + 1 + 1 ≡ i + 2 = omega arith in
       subst Data
       (sym
@@ -151,8 +150,8 @@ module _ (s : List ℕ) (p : ℕ) (g : p + 1 < length s) (ff : getD s p 0 ≡ 0x
           data-else : (c : ℕ) → DataCode c ⊎ (DataCode c → ⊥)
           data-else c = says-else (says-data c)
 
-      beyond : (i : ℕ) → i < p → DataCode (getD s (i + 1) 0) → i + 1 < p
-      beyond i lt k =
+      walkBeyond : (i : ℕ) → i < p → DataCode (getD s (i + 1) 0) → i + 1 < p
+      walkBeyond i lt k =
           ⊎-elim
           (λ (z : i + 1 ≡ p).
           let q : getD s (i + 1) 0 ≡ 0xFF = ap (λ (j : ℕ). getD s j 0) z ∙ ff in

@@ -1,24 +1,23 @@
 -- What is proved of the JPEG walk. The statements are for the reader; how each is shown stands in the files beside this one.
 -- Assumes nothing.
-use Prim.Native.Nat.{ℕ, suc, _+_, _-_, _≤_, _<_}
+use Prim.Native.Nat.{ℕ, _+_, _-_, _≤_, _<_}
 use native.Mathlib.Omega.{arith}
 use mathlib.Core.Path.{_≡_, refl, sym, ap, subst, _∙_}
 use mathlib.Core.Logic.{_↔_}
 use mathlib.Core.List.{List, [], _∷_, _++_, append-nil}
 use lib.ListN.{length, take, drop, length-append, length-drop, take-append-drop}
 use lib.Seq.{length-take-le, drop-drop}
-use Rattle.cases.proofs.Cases.{clash}
+use Rattle.laws.proofs.Cases.{clash}
 use Rattle.octets.specs.Octets.{Octets}
 use Rattle.octets.proofs.Agree.{Agree}
 use Rattle.jpeg_rules.specs.declared.Fault.{Fault}
 use Rattle.jpeg_rules.specs.declared.Fault.the-variants.{Short}
-use Rattle.jpeg_rules.specs.declared.Walk.{Walk}
 use Rattle.jpeg_rules.specs.declared.Walk.the-variants.{Ends, Refused}
 use Rattle.jpeg_rules.specs.Grammar.{Layer}
 use Rattle.jpeg_rules.specs.Walk.{walkOf}
-use Rattle.jpeg_rules.specs.Look.{walkLook, beyond}
+use Rattle.jpeg_rules.specs.Look.{walkLook, walkBeyond}
 use Rattle.jpeg_rules.proofs.There.{layer-walk}
-use Rattle.jpeg_rules.proofs.Back.{Walked, walk-layer}
+use Rattle.jpeg_rules.proofs.Back.{walk-layer}
 use Rattle.jpeg_rules.proofs.Within.{placeOf}
 use Rattle.jpeg_rules.proofs.Hangs.{NearWalk, walk-hangs}
 
@@ -90,12 +89,12 @@ pub walk-decided : (s : List ℕ) → Octets s → (start main : ℕ) → ((p : 
     → Agree (walkLook s start main) s t → walkOf t start main ≡ walkOf s start main
 walk-decided s o start main u = walk-hangs s o start main u .hangs .same
 
--- where it ended, that is its end; where it was refused, past the place and not far beyond
+-- where it ended, that is its end; where it was refused, past the place and not far walkBeyond
 pub look-end : (s : List ℕ) → Octets s → (start main e w h r : ℕ) → walkOf s start main ≡ Ends e w h r → walkLook s start main ≡ e
 unfolding NearWalk
 look-end s o start main e w h r q = subst (NearWalk (walkLook s start main)) q (walk-hangs s o start main (λ p z. clash cc) .near)
 
 pub look-near : (s : List ℕ) → Octets s → (start main : ℕ) (f : Fault) → walkOf s start main ≡ Refused f → ((p : ℕ) → f ≡ Short p → ⊥)
-    → (placeOf f < walkLook s start main) × (walkLook s start main ≤ placeOf f + beyond f)
+    → (placeOf f < walkLook s start main) × (walkLook s start main ≤ placeOf f + walkBeyond f)
 unfolding NearWalk
 look-near s o start main f q u = subst (NearWalk (walkLook s start main)) q (walk-hangs s o start main (λ p z. u p cc) .near)

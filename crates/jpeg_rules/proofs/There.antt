@@ -1,32 +1,30 @@
 -- Where a layer of the grammar stands, the walk ends behind it, with its size and resolution.
 -- Assumes nothing.
-use Prim.Native.Nat.{ℕ, zero, suc, _+_, _≤_, _<_, _∣_}
+use Prim.Native.Nat.{ℕ, _+_, _≤_}
 use native.Mathlib.Omega.{arith}
-use mathlib.Core.Path.{_≡_, refl, sym, ap, subst, _∙_}
+use mathlib.Core.Path.{_≡_, refl, sym, ap, _∙_}
 use mathlib.Core.Logic.{_⊎_, inl, inr, _≢_, ⊎-elim}
 use mathlib.Core.Bool.{Bool, true, false, _&&_, cond, false≢true}
 use mathlib.Core.List.{List, [], _∷_, _++_, append-assoc}
 use lib.ListN.{length, getD, drop, length-append}
-use lib.Dec.{eqb, leb, ltb}
-use borrow.Author.Tests.{eq-eqb, ne-eqb, le-ltb, leb-true}
+use lib.Dec.{eqb}
+use borrow.Author.Tests.{eq-eqb, ne-eqb, le-ltb}
 use Rattle.octets.specs.Octets.{be16At, octets16, begins}
-use Rattle.octets.proofs.Laws.{length-octets16, drop-next}
+use Rattle.octets.proofs.Laws.{length-octets16}
 use Rattle.sheet_rules.specs.Judge.{listed, divides}
-use Rattle.sheet_rules.specs.Sentences.{Listed}
-use Rattle.cases.proofs.Says.{Says, says-eq, says-le, says-and, says-true, says-else}
+use Rattle.laws.proofs.Says.{says-eq, says-le, says-and, says-true, says-else}
 use Rattle.sheet_rules.proofs.New.{says-listed, says-divides}
 use Rattle.sheet_rules.proofs.Backward.{listed-nonzero}
-use Rattle.jpeg_rules.specs.declared.Class.{Class}
-use Rattle.jpeg_rules.specs.declared.Class.the-variants.{Alone, Frame, Scan, End, Wrong, Segment}
+use Rattle.jpeg_rules.specs.declared.Class.the-variants.{Frame, Wrong, Segment}
 use Rattle.jpeg_rules.specs.declared.Reach.{Reach}
 use Rattle.jpeg_rules.specs.declared.Turn.{Turn}
 use Rattle.jpeg_rules.specs.declared.Turn.the-variants.{Go, Stop}
 use Rattle.jpeg_rules.specs.declared.Walk.{Walk}
-use Rattle.jpeg_rules.specs.declared.Walk.the-variants.{Ends, Refused}
+use Rattle.jpeg_rules.specs.declared.Walk.the-variants.{Ends}
 use Rattle.jpeg_rules.specs.Marker.{classOf}
 use Rattle.jpeg_rules.specs.Grammar.{Data, Piece, alone, segment, scan, lengthed, octetsOf, piecesOf, Good, isScan, g3fax, tagged, resolution, Each, Scanned, Layer}
-use Rattle.jpeg_rules.specs.Walk.{stopsOf, resolves, framed, passed, moved, turnOf, begun, walkFrom, walkOf}
-use Rattle.cases.proofs.Cases.{clash, bool-else}
+use Rattle.jpeg_rules.specs.Walk.{stopsOf, resolves, framed, passed, moved, turnOf, begun, walkOf}
+use Rattle.laws.proofs.Cases.{clash, bool-else}
 use Rattle.jpeg_rules.proofs.Leaves.{code-stops, two-there}
 use Rattle.jpeg_rules.proofs.Turns.{turn-alone, turn-plain, turn-tag, turn-frame, turn-scan, turn-end, rest-at}
 use Rattle.jpeg_rules.proofs.Walks.{Walks, stops, goes, walks-count}

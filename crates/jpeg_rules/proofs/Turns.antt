@@ -1,34 +1,30 @@
 -- A turn of the walk for each kind of marker, by the octets that stand there.
 -- Assumes nothing.
-use Prim.Native.Nat.{ℕ, zero, suc, _+_, _-_, _≤_, _<_}
+use Prim.Native.Nat.{ℕ, _+_, _≤_}
 use native.Mathlib.Omega.{arith}
-use mathlib.Core.Path.{_≡_, refl, sym, ap, ap₂, subst, _∙_}
-use mathlib.Core.Logic.{_⊎_, inl, inr, _≢_, ⊎-elim}
+use mathlib.Core.Path.{_≡_, refl, sym, ap, ap₂, _∙_}
+use mathlib.Core.Logic.{_≢_}
 use mathlib.Core.Bool.{Bool, true, false, _&&_, cond}
-use mathlib.Core.List.{List, [], _∷_, _++_, append-assoc}
-use lib.ListN.{length, getD, drop, length-append, length-drop}
+use mathlib.Core.List.{List, _∷_, _++_, append-assoc}
+use lib.ListN.{length, drop}
 use lib.Dec.{eqb, leb}
-use borrow.Author.Tests.{eq-eqb, ne-eqb, le-leb, lt-leb, leb-true, leb-false}
+use borrow.Author.Tests.{ne-eqb, le-leb, leb-true}
 use Rattle.octets.specs.Octets.{be16At, octets16, begins, standsAt}
 use Rattle.octets.proofs.Laws.{be16-there, be16-drop, be16-append, stands-drop, stands-append, drop-next}
 use Rattle.jpeg_rules.specs.declared.Class.{Class}
-use Rattle.jpeg_rules.specs.declared.Class.the-variants.{Alone, Frame, Scan, End, Wrong, Segment}
+use Rattle.jpeg_rules.specs.declared.Class.the-variants.{Alone, Frame, Scan, End, Segment}
 use Rattle.jpeg_rules.specs.declared.Marker.{Marker}
-use Rattle.jpeg_rules.specs.declared.Fault.the-variants.{Short, BadRes, BadLayer}
+use Rattle.jpeg_rules.specs.declared.Fault.the-variants.{BadRes, BadLayer}
 use Rattle.jpeg_rules.specs.declared.Seg.{Seg}
-use Rattle.jpeg_rules.specs.declared.Seg.the-variants.{Body, Bad}
-use Rattle.jpeg_rules.specs.declared.Found.{Found}
-use Rattle.jpeg_rules.specs.declared.Found.the-variants.{At, Nothing}
+use Rattle.jpeg_rules.specs.declared.Seg.the-variants.{Body}
 use Rattle.jpeg_rules.specs.declared.Tag.{Tag}
 use Rattle.jpeg_rules.specs.declared.Tag.the-variants.{Gives, Plain}
 use Rattle.jpeg_rules.specs.declared.Reach.{Reach}
-use Rattle.jpeg_rules.specs.declared.Walk.{Walk}
-use Rattle.jpeg_rules.specs.declared.Walk.the-variants.{Ends, Refused}
-use Rattle.jpeg_rules.specs.declared.Turn.{Turn}
+use Rattle.jpeg_rules.specs.declared.Walk.the-variants.{Ends}
 use Rattle.jpeg_rules.specs.declared.Turn.the-variants.{Go, Stop}
-use Rattle.jpeg_rules.specs.Marker.{classOf, markerOf}
+use Rattle.jpeg_rules.specs.Marker.{classOf}
 use Rattle.jpeg_rules.specs.Grammar.{Data, lengthed, g3fax, tagged}
-use Rattle.jpeg_rules.specs.Walk.{segOf, stopsOf, scanOf, resolves, tagOf, framed, passed, moved, refused, onBody, onFound, onTag, frameBodyOf, frameOf, scanStepOf, segmentOf, endOf, markOf, onMarker, turnOf}
+use Rattle.jpeg_rules.specs.Walk.{segOf, stopsOf, resolves, tagOf, framed, passed, moved, refused, onBody, onTag, frameBodyOf, frameOf, scanStepOf, segmentOf, markOf, onMarker, turnOf}
 use Rattle.jpeg_rules.proofs.Leaves.{marker-there, seg-there, two-there}
 use Rattle.jpeg_rules.proofs.Scans.{scan-there}
 

@@ -2,35 +2,35 @@
 -- Assumes nothing.
 use Prim.Native.Nat.{ℕ, zero, suc, _+_, _≤_, _<_}
 use native.Mathlib.Omega.{arith}
-use mathlib.Core.Path.{_≡_, refl, sym, ap, subst, _∙_}
-use mathlib.Core.Logic.{_⊎_, inl, inr, _≢_, ⊎-elim}
-use mathlib.Core.Bool.{Bool, true, false, _&&_, cond}
+use mathlib.Core.Path.{_≡_, refl, sym, ap, _∙_}
+use mathlib.Core.Logic.{_≢_}
+use mathlib.Core.Bool.{true, false, cond}
 use mathlib.Core.List.{List}
-use lib.ListN.{length, getD}
+use lib.ListN.{length}
 use lib.Dec.{eqb, ltb}
-use borrow.Author.Tests.{eqb-true, eqb-false, lt-ltb, ltb-false}
+use borrow.Author.Tests.{eqb-false, lt-ltb, ltb-false}
 use Rattle.octets.specs.Octets.{be16At}
 use Rattle.jpeg_rules.specs.declared.Class.{Class}
 use Rattle.jpeg_rules.specs.declared.Class.the-variants.{Alone, Frame, Scan, End, Wrong, Segment}
 use Rattle.jpeg_rules.specs.declared.Marker.{Marker}
 use Rattle.jpeg_rules.specs.declared.Marker.the-variants.{Code, Missing, Cut}
-use Rattle.jpeg_rules.specs.declared.Fault.the-variants.{Short, BadRes, BadLayer}
+use Rattle.jpeg_rules.specs.declared.Fault.the-variants.{Short, BadRes}
 use Rattle.jpeg_rules.specs.declared.Seg.{Seg}
-use Rattle.jpeg_rules.specs.declared.Seg.the-variants.{Body, Bad}
+use Rattle.jpeg_rules.specs.declared.Seg.the-variants.{Body}
 use Rattle.jpeg_rules.specs.declared.Found.{Found}
 use Rattle.jpeg_rules.specs.declared.Found.the-variants.{At, Nothing}
 use Rattle.jpeg_rules.specs.declared.Tag.{Tag}
 use Rattle.jpeg_rules.specs.declared.Tag.the-variants.{Gives, Plain}
 use Rattle.jpeg_rules.specs.declared.Reach.{Reach}
 use Rattle.jpeg_rules.specs.declared.Walk.{Walk}
-use Rattle.jpeg_rules.specs.declared.Walk.the-variants.{Ends, Refused}
+use Rattle.jpeg_rules.specs.declared.Walk.the-variants.{Ends}
 use Rattle.jpeg_rules.specs.declared.Turn.{Turn}
 use Rattle.jpeg_rules.specs.declared.Turn.the-variants.{Go, Stop}
 use Rattle.jpeg_rules.specs.Marker.{classOf, markerOf}
 use Rattle.jpeg_rules.specs.Walk.{segOf, scanOf, resolves, tagOf, framed, passed, moved, refused, onBody, onFound, onTag, frameBodyOf, frameOf, scanStepOf, segmentOf, endOf, markOf, onMarker, turnOf, onTurn, walkFrom}
-use Rattle.cases.proofs.Cases.{cond-with, clash}
+use Rattle.laws.proofs.Cases.{cond-with, clash}
 use Rattle.jpeg_rules.proofs.Leaves.{marker-back}
-use Rattle.jpeg_rules.proofs.Scans.{Passed, scan-back}
+use Rattle.jpeg_rules.proofs.Scans.{scan-back}
 
 -- ---- how a turn can go on, and how it can end
 
@@ -69,7 +69,7 @@ module _ (s : List ℕ) (main : ℕ) (st : Reach) where
       where
         by : (g : Seg) → segOf s n least ≡ g → Told (onBody g go)
         by (Body next) e = k next e
-        by (Bad f) e = told-refused f
+        by (Seg.Refused f) e = told-refused f
 
     told-frame : classOf c ≡ Frame → Told (frameOf s st n)
     unfolding frameOf frameBodyOf
@@ -178,7 +178,7 @@ turn-cases P go stop (Stop w) = stop w
 
 module _ (s : List ℕ) (main : ℕ) where
   -- where nothing is left the turn is Short, as the walk is where its count is used up
-  turn-cut : (st : Reach) → length s < st .at + 2 → turnOf s main st ≡ Stop (Refused (Short (st .at)))
+  turn-cut : (st : Reach) → length s < st .at + 2 → turnOf s main st ≡ Stop (Walk.Refused (Short (st .at)))
   unfolding turnOf markerOf
   turn-cut st h = simp (lt-ltb (length s) (st .at + 2) h)
 
@@ -186,10 +186,10 @@ module _ (s : List ℕ) (main : ℕ) where
   pub walks-count : {st : Reach} {w : Walk} → Walks s main st w → (k : ℕ) → length s < k + st .at → walkFrom k s main st ≡ w
   unfolding walkFrom
   walks-count {st} {w} (stops e) zero h =
-      let z : Stop (Refused (Short (st .at))) ≡ Stop w = sym (turn-cut st (omega arith)) ∙ e in cc
+      let z : Stop (Walk.Refused (Short (st .at))) ≡ Stop w = sym (turn-cut st (omega arith)) ∙ e in cc
   walks-count {st} {w} (stops e) (suc k) h = ap (λ (x : Turn). onTurn x (λ (t : Reach). walkFrom k s main t)) e
   walks-count {st} {w} (goes {t = t} e more) zero h =
-      let z : Stop (Refused (Short (st .at))) ≡ Go t = sym (turn-cut st (omega arith)) ∙ e in clash cc
+      let z : Stop (Walk.Refused (Short (st .at))) ≡ Go t = sym (turn-cut st (omega arith)) ∙ e in clash cc
   walks-count {st} {w} (goes {t = t} e more) (suc k) h =
       let a = ahead s main st t (turn-told s main st .0 t e) in
       ap (λ (x : Turn). onTurn x (λ (u : Reach). walkFrom k s main u)) e ∙ walks-count more k (omega arith)

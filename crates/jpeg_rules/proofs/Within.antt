@@ -1,37 +1,34 @@
 -- A walk that is refused is refused at a place within the list.
 -- Assumes nothing.
-use Prim.Native.Nat.{ℕ, zero, suc, _+_, _-_, _≤_, _<_}
+use Prim.Native.Nat.{ℕ, _+_, _≤_}
 use native.Mathlib.Omega.{arith}
-use mathlib.Core.Path.{_≡_, refl, sym, ap, subst, _∙_}
-use mathlib.Core.Logic.{_⊎_, inl, inr, _≢_}
-use mathlib.Core.Bool.{Bool, true, false, _&&_, cond}
+use mathlib.Core.Path.{_≡_, refl, ap, subst, _∙_}
+use mathlib.Core.Bool.{_&&_, cond}
 use mathlib.Core.List.{List}
 use lib.ListN.{length, getD}
 use lib.Dec.{eqb, leb, ltb}
 use borrow.Author.Tests.{ltb-false}
 use Rattle.octets.specs.Octets.{be16At, standsAt}
-use Rattle.cases.proofs.Cases.{cond-with, clash}
-use Rattle.cases.proofs.Says.{Says, says-eq, says-le, says-and, says-true}
+use Rattle.laws.proofs.Cases.{cond-with, clash}
+use Rattle.laws.proofs.Says.{says-eq, says-le, says-and, says-true}
 use Rattle.jpeg_rules.specs.declared.Class.{Class}
 use Rattle.jpeg_rules.specs.declared.Class.the-variants.{Alone, Frame, Scan, End, Wrong, Segment}
 use Rattle.jpeg_rules.specs.declared.Marker.{Marker}
 use Rattle.jpeg_rules.specs.declared.Marker.the-variants.{Code, Missing, Cut}
 use Rattle.jpeg_rules.specs.declared.Fault.{Fault}
 use Rattle.jpeg_rules.specs.declared.Fault.the-variants.{Short, BadLength, BadRes, BadLayer}
-use Rattle.jpeg_rules.specs.declared.Seg.{Seg}
-use Rattle.jpeg_rules.specs.declared.Seg.the-variants.{Body, Bad}
 use Rattle.jpeg_rules.specs.declared.Found.{Found}
 use Rattle.jpeg_rules.specs.declared.Found.the-variants.{At, Nothing}
 use Rattle.jpeg_rules.specs.declared.Tag.{Tag}
 use Rattle.jpeg_rules.specs.declared.Tag.the-variants.{Gives, Plain}
 use Rattle.jpeg_rules.specs.declared.Reach.{Reach}
 use Rattle.jpeg_rules.specs.declared.Walk.{Walk}
-use Rattle.jpeg_rules.specs.declared.Walk.the-variants.{Ends, Refused}
+use Rattle.jpeg_rules.specs.declared.Walk.the-variants.{Ends}
 use Rattle.jpeg_rules.specs.declared.Turn.{Turn}
 use Rattle.jpeg_rules.specs.declared.Turn.the-variants.{Go, Stop}
 use Rattle.jpeg_rules.specs.Marker.{classOf, markerOf}
 use Rattle.jpeg_rules.specs.Grammar.{g3fax}
-use Rattle.jpeg_rules.specs.Walk.{segOf, scanOf, resolves, tagOf, framed, passed, moved, refused, onBody, onFound, onTag, frameBodyOf, frameOf, scanStepOf, segmentOf, endOf, markOf, onMarker, turnOf, begun, walkFrom, walkOf}
+use Rattle.jpeg_rules.specs.Walk.{segOf, scanOf, resolves, tagOf, framed, passed, moved, refused, onBody, onFound, onTag, frameBodyOf, frameOf, scanStepOf, segmentOf, endOf, markOf, onMarker, turnOf, begun, walkOf}
 use Rattle.jpeg_rules.proofs.Leaves.{marker-back}
 use Rattle.jpeg_rules.proofs.Scans.{scan-back}
 use Rattle.jpeg_rules.proofs.Walks.{Walks, stops, goes, walks-from}
@@ -54,7 +51,7 @@ module _ (s : List ℕ) (main : ℕ) where
   pub Within : Turn → Type 0
   Within (Go t) = t .at ≤ length s
   Within (Stop (Ends e w h r)) = Unit {0}
-  Within (Stop (Refused f)) = placeOf f ≤ length s
+  Within (Stop (Walk.Refused f)) = placeOf f ≤ length s
 
   module _ (st : Reach) (c n : ℕ) (h : st .at ≤ length s) (b : n ≤ length s) where
     body-within : (least : ℕ) (go : ℕ → Turn) → ((next : ℕ) → n + least ≤ next → next ≤ length s → next ≡ n + be16At s n → Within (go next)) → Within (onBody (segOf s n least) go)
@@ -123,16 +120,16 @@ module _ (s : List ℕ) (main : ℕ) where
       by Missing m = h
       by Cut m = h
 
-  walks-within : {st : Reach} {w : Walk} → Walks s main st w → st .at ≤ length s → (f : Fault) → w ≡ Refused f → placeOf f ≤ length s
+  walks-within : {st : Reach} {w : Walk} → Walks s main st w → st .at ≤ length s → (f : Fault) → w ≡ Walk.Refused f → placeOf f ≤ length s
   unfolding Within
   walks-within {st} {w} (stops q) h f z = subst Within (q ∙ ap Stop z) (turn-within st h)
   walks-within {st} {w} (goes {t = t} q more) h f z = walks-within more (subst Within q (turn-within st h)) f z
 
 -- the refusal of a walk that begins within the list is placed within it
-pub walk-within : (s : List ℕ) (start main : ℕ) → start ≤ length s → (f : Fault) → walkOf s start main ≡ Refused f → placeOf f ≤ length s
+pub walk-within : (s : List ℕ) (start main : ℕ) → start ≤ length s → (f : Fault) → walkOf s start main ≡ Walk.Refused f → placeOf f ≤ length s
 unfolding walkOf placeOf
 walk-within s start main h f =
-    cond-with (λ x. x ≡ Refused f → placeOf f ≤ length s) (ltb (length s) (start + 2)) (λ t e. let z : Short start ≡ f = cc in subst (λ (g : Fault). placeOf g ≤ length s) z h) λ t.
-    cond-with (λ x. x ≡ Refused f → placeOf f ≤ length s) (eqb (getD s start 0) 0xFF && eqb (getD s (start + 1) 0) 0xD8)
+    cond-with (λ x. x ≡ Walk.Refused f → placeOf f ≤ length s) (ltb (length s) (start + 2)) (λ t e. let z : Short start ≡ f = cc in subst (λ (g : Fault). placeOf g ≤ length s) z h) λ t.
+    cond-with (λ x. x ≡ Walk.Refused f → placeOf f ≤ length s) (eqb (getD s start 0) 0xFF && eqb (getD s (start + 1) 0) 0xD8)
     (λ u e. walks-within s main (walks-from s main (length s) (begun (start + 2)) (omega arith)) (ltb-false (length s) (start + 2) t) f e)
     (λ u e. let z : BadLayer start ≡ f = cc in subst (λ (g : Fault). placeOf g ≤ length s) z h)

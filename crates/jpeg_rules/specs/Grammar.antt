@@ -15,8 +15,7 @@ use lib.ListN.{length}
 use lib.Dec.{eqb, leb}
 use Rattle.octets.specs.Octets.{be16At, octets16, begins}
 use Rattle.sheet_rules.specs.Sentences.{Listed}
-use Rattle.jpeg_rules.specs.declared.Class.{Class}
-use Rattle.jpeg_rules.specs.declared.Class.the-variants.{Alone, Frame, Scan, End, Wrong, Segment}
+use Rattle.jpeg_rules.specs.declared.Class.the-variants.{Frame, Segment}
 use Rattle.jpeg_rules.specs.Marker.{classOf}
 
 -- after FF: 00, or D0 to D7

@@ -5,7 +5,7 @@
 --   markLook s st n c       a marker of a class, behind which n stands
 --   turnLook s st           one marker, with its length and its body
 --   walkLook s start main   the walk: as far as its last marker
---   beyond f                at most so many octets from a refusal's place on were looked at
+--   walkBeyond f                at most so many octets from a refusal's place on were looked at
 --
 -- Where the walk is Short, that hangs on the end of the list as well, and these say nothing.
 use Prim.Native.Nat.{ℕ, zero, suc, _+_}
@@ -20,7 +20,7 @@ use Rattle.jpeg_rules.specs.declared.Marker.the-variants.{Code, Missing,
 use Rattle.jpeg_rules.specs.declared.Fault.{Fault}
 use Rattle.jpeg_rules.specs.declared.Fault.the-variants.{Short, BadLength, BadRes, BadLayer}
 use Rattle.jpeg_rules.specs.declared.Seg.{Seg}
-use Rattle.jpeg_rules.specs.declared.Seg.the-variants.{Body, Bad}
+use Rattle.jpeg_rules.specs.declared.Seg.the-variants.{Body, Refused}
 use Rattle.jpeg_rules.specs.declared.Found.{Found}
 use Rattle.jpeg_rules.specs.declared.Found.the-variants.{At, Nothing}
 use Rattle.jpeg_rules.specs.declared.Reach.{Reach}
@@ -31,7 +31,7 @@ use Rattle.jpeg_rules.specs.Walk.{segOf, scanOf, turnOf, begun}
 
 abbrev pub bodyLook : Seg → ℕ → (ℕ → ℕ) → ℕ
 bodyLook (Body next) n go = go next
-bodyLook (Bad f) n go = n + 2
+bodyLook (Refused f) n go = n + 2
 
 -- to the end of the body
 abbrev pub whole : ℕ → ℕ
@@ -78,8 +78,8 @@ walkLook s start main =
 
 -- a length has two octets; a body ends at most 65,535 octets behind its length's first, where a resolution stands 10 and a frame's height 3
 -- octets behind that
-unfoldable pub beyond : Fault → ℕ
-beyond (Short p) = 0
-beyond (BadLength p) = 2
-beyond (BadRes p) = 65525
-beyond (BadLayer p) = 65532
+unfoldable pub walkBeyond : Fault → ℕ
+walkBeyond (Short p) = 0
+walkBeyond (BadLength p) = 2
+walkBeyond (BadRes p) = 65525
+walkBeyond (BadLayer p) = 65532

@@ -3,22 +3,15 @@
 --   classOf c       what a code makes of a marker
 --   markerOf s at   what stands at a place where a marker is due: exactly one FF and a code
 use Prim.Native.Nat.{ℕ, _+_}
-use mathlib.Core.Bool.{Bool, true, false, _&&_, _||_, cond}
+use mathlib.Core.Bool.{cond}
 use mathlib.Core.List.{List, [], _∷_}
 use lib.ListN.{length, getD}
 use lib.Dec.{leb, ltb, eqb}
+use Rattle.laws.specs.Tests.{within, among}
 use Rattle.jpeg_rules.specs.declared.Class.{Class}
 use Rattle.jpeg_rules.specs.declared.Class.the-variants.{Alone, Frame, Scan, End, Wrong, Segment}
 use Rattle.jpeg_rules.specs.declared.Marker.{Marker}
 use Rattle.jpeg_rules.specs.declared.Marker.the-variants.{Code, Missing, Cut}
-
-abbrev pub within : ℕ → ℕ → ℕ → Bool
-within lo hi x = leb lo x && leb x hi
-
--- x is one of the list
-unfoldable pub among : List ℕ → ℕ → Bool
-among [] x = false
-among (k ∷ ks) x = eqb x k || among ks x
 
 -- 01 stands alone; C0 to CF except C4, C8, CC is the frame; DA starts a scan; D9 ends; D0 to D7 and a second D8, 00, FF and 02 to BF are
 -- faults; the rest carry a length

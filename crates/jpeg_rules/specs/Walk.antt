@@ -21,17 +21,18 @@ use Rattle.jpeg_rules.specs.declared.Marker.the-variants.{Code, Missing,
 use Rattle.jpeg_rules.specs.declared.Fault.{Fault}
 use Rattle.jpeg_rules.specs.declared.Fault.the-variants.{Short, BadLength, BadRes, BadLayer}
 use Rattle.jpeg_rules.specs.declared.Seg.{Seg}
-use Rattle.jpeg_rules.specs.declared.Seg.the-variants.{Body, Bad}
+use Rattle.jpeg_rules.specs.declared.Seg.the-variants.{Body}
 use Rattle.jpeg_rules.specs.declared.Found.{Found}
 use Rattle.jpeg_rules.specs.declared.Found.the-variants.{At, Nothing}
 use Rattle.jpeg_rules.specs.declared.Tag.{Tag}
 use Rattle.jpeg_rules.specs.declared.Tag.the-variants.{Gives, Plain}
 use Rattle.jpeg_rules.specs.declared.Reach.{Reach}
 use Rattle.jpeg_rules.specs.declared.Walk.{Walk}
-use Rattle.jpeg_rules.specs.declared.Walk.the-variants.{Ends, Refused}
+use Rattle.jpeg_rules.specs.declared.Walk.the-variants.{Ends}
 use Rattle.jpeg_rules.specs.declared.Turn.{Turn}
 use Rattle.jpeg_rules.specs.declared.Turn.the-variants.{Go, Stop}
-use Rattle.jpeg_rules.specs.Marker.{within, classOf, markerOf}
+use Rattle.jpeg_rules.specs.Marker.{classOf, markerOf}
+use Rattle.laws.specs.Tests.{within}
 use Rattle.jpeg_rules.specs.Grammar.{g3fax}
 
 -- ---- parts
@@ -39,9 +40,9 @@ use Rattle.jpeg_rules.specs.Grammar.{g3fax}
 -- Short where the length does not fit, BadLength where it is below the least, Short at the body's first octet where the body passes the end
 unfoldable pub segOf : List ℕ → ℕ → ℕ → Seg
 segOf s n least =
-    cond (ltb (length s) (n + 2)) (Bad (Short n))
-    (cond (ltb (be16At s n) least) (Bad (BadLength n))
-    (cond (ltb (length s) (n + be16At s n)) (Bad (Short (n + 2)))
+    cond (ltb (length s) (n + 2)) (Seg.Refused (Short n))
+    (cond (ltb (be16At s n) least) (Seg.Refused (BadLength n))
+    (cond (ltb (length s) (n + be16At s n)) (Seg.Refused (Short (n + 2)))
     (Body (n + be16At s n))))
 
 -- FF and a code other than 00 and D0 to D7 end scan data
@@ -85,11 +86,11 @@ moved st at res =
 -- ---- one marker
 
 abbrev pub refused : Fault → Turn
-refused f = Stop (Refused f)
+refused f = Stop (Walk.Refused f)
 
 abbrev pub onBody : Seg → (ℕ → Turn) → Turn
 onBody (Body next) go = go next
-onBody (Bad f) go = refused f
+onBody (Seg.Refused f) go = refused f
 
 abbrev pub onFound : Found → ℕ → (ℕ → Turn) → Turn
 onFound (At p) from go = go p
@@ -158,7 +159,7 @@ onTurn (Stop w) go = w
 -- at most so many markers; each takes two octets or more, so that the length of the list is enough
 unfoldable pub walkFrom : ℕ → List ℕ → ℕ → Reach → Walk
 unfolding turnOf
-walkFrom zero s main st = Refused (Short (st .at))
+walkFrom zero s main st = Walk.Refused (Short (st .at))
 walkFrom (suc k) s main st = onTurn (turnOf s main st) (λ (t : Reach). walkFrom k s main t)
 
 abbrev pub begun : ℕ → Reach
@@ -168,7 +169,7 @@ begun at = record { at = at; framed = false; scanned = false; res = 0; width = 0
 unfoldable pub walkOf : List ℕ → ℕ → ℕ → Walk
 unfolding walkFrom
 walkOf s start main =
-    cond (ltb (length s) (start + 2)) (Refused (Short start))
+    cond (ltb (length s) (start + 2)) (Walk.Refused (Short start))
     (cond (eqb (getD s start 0) 0xFF && eqb (getD s (start + 1) 0) 0xD8)
     (walkFrom (length s) s main (begun (start + 2)))
-    (Refused (BadLayer start)))
+    (Walk.Refused (BadLayer start)))

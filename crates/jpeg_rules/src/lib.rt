@@ -31,7 +31,7 @@ pub enum Fault {
 // A segment by its length: the place behind it, or what is wrong.
 pub enum Seg {
     Body(usize),
-    Bad(Fault),
+    Refused(Fault),
 }
 
 // Where scan data ends: at the next marker, or nowhere.

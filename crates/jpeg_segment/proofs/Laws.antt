@@ -12,7 +12,7 @@ use Rattle.jpeg_rules.specs.declared.Fault.{Fault}
 use Rattle.jpeg_rules.specs.declared.Fault.the-variants.{Short, BadLength, BadRes}
 use Rattle.jpeg_rules.specs.declared.Reach.{Reach}
 use Rattle.jpeg_rules.specs.declared.Seg.{Seg}
-use Rattle.jpeg_rules.specs.declared.Seg.the-variants.{Body, Bad}
+use Rattle.jpeg_rules.specs.declared.Seg.the-variants.{Body, Refused}
 use Rattle.jpeg_rules.specs.declared.Tag.{Tag}
 use Rattle.jpeg_rules.specs.declared.Tag.the-variants.{Gives, Plain}
 use Rattle.jpeg_rules.specs.declared.Turn.the-variants.{Go}
@@ -23,16 +23,16 @@ use Rattle.jpeg_segment.proofs.Whole.{room}
 
 -- ---- seg_at
 module _ (s : List ℕ) (n least : ℕ) where
-  pub seg-short : length s - n < 2 → Bad (Short n) ≡ segOf s n least
+  pub seg-short : length s - n < 2 → Refused (Short n) ≡ segOf s n least
   unfolding segOf
   seg-short h = simp (lt-ltb (length s) (n + 2) (omega arith))
 
   module _ {size : ℕ} (l : 2 ≤ length s - n) (e : size ≡ be16At s n) where
-    pub seg-small : size < least → Bad (BadLength n) ≡ segOf s n least
+    pub seg-small : size < least → Refused (BadLength n) ≡ segOf s n least
     unfolding segOf
     seg-small h = simp (le-ltb (length s) (n + 2) (omega arith), lt-ltb (be16At s n) least (omega arith))
 
-    pub seg-open : least ≤ size → length s - n < size → Bad (Short (n + 2)) ≡ segOf s n least
+    pub seg-open : least ≤ size → length s - n < size → Refused (Short (n + 2)) ≡ segOf s n least
     unfolding segOf
     seg-open m h =
         simp (
@@ -87,7 +87,7 @@ pub ruleset tag-laws = (tag-other, tag-second, tag-short, tag-none, tag-gives)
 
 -- ---- segment_step
 module _ (s : List ℕ) (main : ℕ) (st : Reach) (c n : ℕ) {g : Seg} (z : g ≡ segOf s n 2) where
-  pub segment-bad : {x : Fault} → g ≡ Bad x → refused x ≡ segmentOf s main st c n
+  pub segment-bad : {x : Fault} → g ≡ Refused x → refused x ≡ segmentOf s main st c n
   unfolding segmentOf
   segment-bad b = simp (sym z ∙ b)
 

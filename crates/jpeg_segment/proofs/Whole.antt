@@ -7,16 +7,16 @@ use native.Mathlib.Omega.{arith}
 use lib.ListN.{length}
 use lib.Dec.{ltb}
 use borrow.Author.Tests.{ltb-false}
-use Rattle.cases.proofs.Cases.{cond-with}
+use Rattle.laws.proofs.Cases.{cond-with}
 use Rattle.octets.specs.Octets.{be16At}
 use Rattle.jpeg_rules.specs.declared.Seg.{Seg}
-use Rattle.jpeg_rules.specs.declared.Seg.the-variants.{Body, Bad}
+use Rattle.jpeg_rules.specs.declared.Seg.the-variants.{Body, Refused}
 use Rattle.jpeg_rules.specs.Walk.{segOf}
 use Rattle.jpeg_segment.specs.Room.{Room}
 
 abbrev pub Roomy : List ℕ → ℕ → ℕ → Seg → Type 0
 Roomy s n least (Body next) = Room s n least next
-Roomy s n least (Bad f) = Unit {0}
+Roomy s n least (Refused f) = Unit {0}
 
 pub roomy : (s : List ℕ) (n least : ℕ) → Roomy s n least (segOf s n least)
 unfolding segOf

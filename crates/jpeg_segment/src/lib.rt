@@ -18,15 +18,15 @@ pub fn seg_at(s: &[u8], n: usize, least: u16) -> Seg
     ensures { λ r. ⌜ r ≡ segOf (now (s .entry)) n least ⌝ }
 {
     if s.len() - n < 2 {
-        return Seg::Bad(Fault::Short(n));
+        return Seg::Refused(Fault::Short(n));
     }
     let size = octets::be16(s, n);
     if size < least {
-        return Seg::Bad(Fault::BadLength(n));
+        return Seg::Refused(Fault::BadLength(n));
     }
     let len = size as usize;
     if s.len() - n < len {
-        return Seg::Bad(Fault::Short(n + 2));
+        return Seg::Refused(Fault::Short(n + 2));
     }
     Seg::Body(n + len)
 }
@@ -68,7 +68,7 @@ fn tag_of(s: &[u8], st: Reach, code: u8, n: usize, next: usize) -> Tag
 fn resolution_fits(main: u16, r: u16) -> bool
     ensures { λ b. ⌜ b ≡ resolves main r ⌝ }
 {
-    record_tests::is_listed(r) & record_tests::is_divisor(r, main)
+    resolution::is_listed(r) & resolution::is_divisor(r, main)
 }
 
 pub fn segment_step(s: &[u8], main: u16, st: Reach, code: u8, n: usize) -> Turn
@@ -76,7 +76,7 @@ pub fn segment_step(s: &[u8], main: u16, st: Reach, code: u8, n: usize) -> Turn
     ensures { λ r. ⌜ r ≡ segmentOf (now (s .entry)) main st code n ⌝ }
 {
     match seg_at(s, n, 2) {
-        Seg::Bad(f) => Turn::Stop(Walk::Refused(f)),
+        Seg::Refused(f) => Turn::Stop(Walk::Refused(f)),
         Seg::Body(next) => match tag_of(s, st, code, n, next) {
             Tag::Plain => Turn::Go(moved_to(st, next, st.res)),
             Tag::Gives(r) => {

@@ -1,19 +1,105 @@
-// A line of pixels of a picture whose plane list is a lent slice of structs.
-ghost use Rattle.picture_rules.specs.Planes.{listed};
-ghost use Rattle.picture_rules.specs.Line.{Lines};
-use answers::Answer;
+// The plane list as parallel numbers by value, and that list made from the octets that C lends.
+ghost use mathlib.Core.Path.{_≡_};
+ghost use Prim.Native.Nat.{_*_, _<_, _/_, min};
+ghost use lib.ListN.{length};
+ghost use Rattle.picture_rules.specs.Planes.{planeSize, planeAt, planeStart};
+ghost use Rattle.line_planes.specs.Listing.{noPlanes, withPlane, listingOf, entryOf, entriesOf};
 use picture_rules::Plane;
+use picture_rules::Start;
 
-pub fn line_of_planes(
-    sheet: &[u8],
-    planes: &[Plane],
-    samples: &[u8],
-    stripe: u32,
-    line: u32,
-    out: &mut [u8],
-) -> Answer
-    ensures { λ r. ⌜ Lines (now (sheet .entry)) (listed (now (planes .entry))) (now (samples .entry)) stripe line (now (out .entry)) r (now (out .exit)) ⌝ }
+// How many octets an entry from C has: the layer, and four of start.
+pub const PLANE_SIZE: usize = 5;
+
+// The first sixteen entries of a plane list, layers and starts in parallel. Layers rise from 1 to at most 15, so that a list of sixteen entries has a
+// fault within them, and the rest is not looked at.
+pub struct Listing {
+    pub count: usize,
+    pub layers: [u8; 16],
+    pub starts: [u32; 16],
+}
+
+pub fn no_planes() -> Listing
+    ensures { λ r. ⌜ r ≡ noPlanes ⌝ }
 {
-    let t = plane_slice::gather_planes(planes);
-    line::compose_line(sheet, t, false, samples, stripe, line, out)
+    Listing {
+        count: 0,
+        layers: [0; 16],
+        starts: [0; 16],
+    }
+}
+
+// One entry more, behind those before.
+pub fn with_plane(t: Listing, p: Plane) -> Listing
+    ensures { λ r. ⌜ r ≡ withPlane t p ⌝ }
+{
+    let i = t.count;
+    if i < 16 {
+        let mut n = t;
+        n.count = i + 1;
+        n.layers[i] = p.layer;
+        n.starts[i] = p.start;
+        return n;
+    }
+    t
+}
+
+pub fn plane_at(s: &[u8], i: usize) -> Plane
+    requires { ⌜ i < length (now s) / planeSize ⌝ }
+    ensures { λ r. ⌜ r ≡ planeAt (now (s .entry)) i ⌝ }
+{
+    let at = i * PLANE_SIZE;
+    Plane {
+        layer: s[at],
+        start: octets::be32(s, at + 1),
+    }
+}
+
+// The whole entries of a list from C.
+pub fn listing_of(s: &[u8]) -> Listing
+    ensures { λ r. ⌜ r ≡ listingOf (now (s .entry)) ⌝ }
+{
+    let n = s.len() / PLANE_SIZE;
+    let mut t = no_planes();
+    let mut i: usize = 0;
+    while i < n {
+        if t.count == 16 {
+            return t;
+        }
+        t = with_plane(t, plane_at(s, i));
+        i += 1;
+    }
+    t
+}
+
+// Entry i of a list as parallel numbers.
+pub fn entry_at(t: Listing, i: usize) -> Plane
+    requires { ⌜ i < 16 ⌝ }
+    ensures { λ p. ⌜ p ≡ entryOf t i ⌝ }
+{
+    Plane {
+        layer: t.layers[i],
+        start: t.starts[i],
+    }
+}
+
+pub fn entry_count(t: Listing) -> usize
+    ensures { λ n. ⌜ n ≡ min (t .count) 16 ⌝ }
+{
+    if t.count < 16 { t.count } else { 16 }
+}
+
+// Where a layer's samples start, if it was read. A list has few entries, and they are looked through once a line.
+pub fn start_of(t: Listing, layer: u8) -> Start
+    ensures { λ r. ⌜ r ≡ planeStart (entriesOf t) layer ⌝ }
+{
+    let n = entry_count(t);
+    let mut i: usize = 0;
+    while i < n {
+        let p = entry_at(t, i);
+        if p.layer == layer {
+            return Start::From(p.start);
+        }
+        i += 1;
+    }
+    Start::Unread
 }

@@ -1,44 +1,38 @@
 -- One law for each way out of the functions of a line's verdict: its premises are what is known there.
 -- Assumes nothing.
-use Prim.Native.Nat.{ℕ, zero, suc, _+_, _-_, _*_, _/_, _%_, _≤_, _<_, min}
+use Prim.Native.Nat.{ℕ, suc, _+_, _-_, _*_, _/_, _≤_, _<_, min}
 use native.Mathlib.Omega.{arith}
-use mathlib.Core.Path.{_≡_, refl, sym, ap, ap₂, subst, _∙_}
-use mathlib.Core.Logic.{_≢_, ⊎-elim}
-use Rattle.cases.proofs.Cases.{clash}
-use Rattle.cases.proofs.Says.{says-lt, says-else}
-use mathlib.Core.Bool.{Bool, true, false, _&&_, not, cond}
+use mathlib.Core.Path.{_≡_, refl, sym, ap, ap₂, _∙_}
+use mathlib.Core.Logic.{_≢_}
+use mathlib.Core.Bool.{Bool, true, false, _&&_, cond}
 use mathlib.Core.List.{List, [], _∷_}
 use lib.ListN.{length}
-use lib.Dec.{eqb, leb, ltb}
+use lib.Dec.{leb}
 use borrow.Author.Tests.{eq-eqb, ne-eqb, lt-ltb, le-ltb, le-leb, lt-leb}
 use borrow.Author.Needs.{needs}
-use Rattle.answers.specs.declared.Answer.{Answer}
 use Rattle.answers.specs.declared.Answer.the-variants.{BadSheet, BadPlane, BadLine}
 use Rattle.sheet_rules.specs.declared.Record.{Record}
-use Rattle.sheet_rules.specs.declared.Stripe.{Stripe}
+use Rattle.sheet_rules.specs.declared.Extent.{Extent}
 use Rattle.sheet_rules.specs.declared.FoundStripe.{FoundStripe}
-use Rattle.sheet_rules.specs.declared.FoundStripe.the-variants.{Row, NoStripe}
+use Rattle.sheet_rules.specs.declared.FoundStripe.the-variants.{Has, NoStripe}
 use Rattle.sheet_rules.specs.declared.Verdict.{Verdict}
-use Rattle.sheet_rules.specs.declared.Verdict.the-variants.{Good, Bad}
 use Rattle.sheet_rules.specs.Record.{recordSize, recordAt, records}
 use Rattle.sheet_rules.specs.Judge.{coded, judgeOf, answerOf}
-use Rattle.sheet_rules.specs.Stripe.{rowOf, findStripe}
-use Rattle.sheet_rules.proofs.Theorems.{sheet-accepted, refused-few, sheet-few}
-use Rattle.sheet_rules.proofs.Table.{sheet-table, stripe-found, stripe-missing, layer-found}
+use Rattle.sheet_rules.specs.StripeTable.{findStripe}
 use Rattle.picture_rules.specs.declared.Plane.{Plane}
-use Rattle.picture_rules.specs.declared.Judged.{Judged}
-use Rattle.picture_rules.specs.declared.Judged.the-variants.{Fine, Fault}
+use Rattle.picture_rules.specs.declared.ListVerdict.{ListVerdict}
+use Rattle.picture_rules.specs.declared.ListVerdict.the-variants.{Fine}
 use Rattle.picture_rules.specs.Planes.{PlaneList}
-use Rattle.picture_rules.specs.Samples.{Scene, recordOf}
-use Rattle.picture_rules.specs.Line.{depth, planeSpan, planeOk, planesJudged, Ruling, shows, refuses, planeRuling, sceneRuling, stripeRuling, sheetRuling, rulingOf}
-use Rattle.plane.specs.declared.Listing.{Listing}
-use Rattle.plane.proofs.Laws.{product-small}
-use Rattle.plane.specs.Listing.{entryOf, entriesFrom, entriesOf}
+use Rattle.picture_rules.specs.Samples.{recordOf}
+use Rattle.picture_rules.specs.Line.{depth, planeSpan, planeOk, planesJudged, planeRuling, sceneRuling, stripeRuling, sheetRuling, rulingOf}
+use Rattle.line_planes.specs.declared.Listing.{Listing}
+use Rattle.line_sample.proofs.Laws.{product-small}
+use Rattle.line_planes.specs.Listing.{entryOf, entriesFrom, entriesOf}
 use Rattle.line_verdict.specs.declared.Ruled.{Ruled}
-use Rattle.line_verdict.specs.declared.Ruled.the-variants.{Shows, Refuses}
-use Rattle.line_verdict.specs.Ruled.{bareScene, listFrom, lineRuling, ruledOf}
-use Rattle.stripe.specs.Steps.{Whole, Accepted}
-use Rattle.stripe.proofs.Found.{sheet-good, found-whole, fault-small}
+use Rattle.line_verdict.specs.declared.Ruled.the-variants.{Shows}
+use Rattle.line_verdict.specs.Ruled.{bareScene, lineRuling, ruledOf}
+use Rattle.sheet_table.specs.Steps.{Whole, JudgedGood}
+use Rattle.sheet_table.proofs.Found.{sheet-good, found-whole, fault-small}
 
 -- ---- the span of a plane
 
@@ -55,32 +49,32 @@ module _ (p : Plane) (r : Record) (room : ℕ) where
   unfolding planeSpan
   within-coded n d e = simp (ne-eqb (r .len) 0 d, e)
 
-module _ (s : List ℕ) (row : Stripe) (d : List ℕ) (last : ℕ) (p : Plane) where
-  pub plane-low : p .layer ≤ last → false ≡ planeOk (bareScene s row d) last p
+module _ (s : List ℕ) (extent : Extent) (d : List ℕ) (last : ℕ) (p : Plane) where
+  pub plane-low : p .layer ≤ last → false ≡ planeOk (bareScene s extent d) last p
   unfolding planeOk
   plane-low h = simp (le-ltb last (p .layer) h)
 
-  pub plane-absent : last < p .layer → row .layers < p .layer → false ≡ planeOk (bareScene s row d) last p
+  pub plane-absent : last < p .layer → extent .layers < p .layer → false ≡ planeOk (bareScene s extent d) last p
   unfolding planeOk
-  plane-absent h k = simp (lt-ltb last (p .layer) h, lt-leb (p .layer) (row .layers) k)
+  plane-absent h k = simp (lt-ltb last (p .layer) h, lt-leb (p .layer) (extent .layers) k)
 
-  pub plane-there : (r : Record) (b : Bool) → last < p .layer → p .layer ≤ row .layers → r ≡ recordAt s (row .first + (p .layer - 1))
-      → b ≡ coded r && leb (p .start + planeSpan r) (length d) → b ≡ planeOk (bareScene s row d) last p
+  pub plane-there : (r : Record) (b : Bool) → last < p .layer → p .layer ≤ extent .layers → r ≡ recordAt s (extent .first + (p .layer - 1))
+      → b ≡ coded r && leb (p .start + planeSpan r) (length d) → b ≡ planeOk (bareScene s extent d) last p
   unfolding planeOk recordOf
-  plane-there r b h k e f = simp (lt-ltb last (p .layer) h, le-leb (p .layer) (row .layers) k, f, e)
+  plane-there r b h k e f = simp (lt-ltb last (p .layer) h, le-leb (p .layer) (extent .layers) k, f, e)
 
-  pub plane-place : Whole s row → last < p .layer → p .layer ≤ row .layers → row .first + (p .layer - 1) < length s / recordSize
+  pub plane-place : Whole s extent → last < p .layer → p .layer ≤ extent .layers → extent .first + (p .layer - 1) < length s / recordSize
   plane-place w h k = let r = w .records in omega arith
 
 -- ---- the loop over the entries: the judgement of the whole list is that of what is left
 
-pub record Judging (s : List ℕ) (row : Stripe) (d : List ℕ) (t : Listing) (part : Bool) (n last i : ℕ) : Type 0 where
+pub record Judging (s : List ℕ) (extent : Extent) (d : List ℕ) (t : Listing) (part : Bool) (n last i : ℕ) : Type 0 where
   pub within : i ≤ n
   pub few : n ≤ 16
-  pub left : planesJudged (bareScene s row d) part 0 0 (entriesOf t) ≡ planesJudged (bareScene s row d) part last i (entriesFrom t (n - i) i)
+  pub left : planesJudged (bareScene s extent d) part 0 0 (entriesOf t) ≡ planesJudged (bareScene s extent d) part last i (entriesFrom t (n - i) i)
 
-module _ (s : List ℕ) (row : Stripe) (d : List ℕ) (t : Listing) (part : Bool) (n : ℕ) where
-  pub judging-none : n ≡ min (t .count) 16 → Judging s row d t part n 0 0
+module _ (s : List ℕ) (extent : Extent) (d : List ℕ) (t : Listing) (part : Bool) (n : ℕ) where
+  pub judging-none : n ≡ min (t .count) 16 → Judging s extent d t part n 0 0
   unfolding entriesOf
   judging-none e = record { within = omega arith; few = omega arith; left = let z : min (t .count) 16 - 0 ≡ min (t .count) 16 = omega arith in rw (e, z) refl }
 
@@ -88,24 +82,24 @@ module _ (s : List ℕ) (row : Stripe) (d : List ℕ) (t : Listing) (part : Bool
   unfolding entriesFrom
   next-entry i h = let e : n - i ≡ suc (n - (i + 1)) = omega arith in rw e
 
-  module _ (p : Plane) (b : Bool) (last i : ℕ) (g : Judging s row d t part n last i) (h : i < n) (e : p ≡ entryOf t i) (k : b ≡ planeOk (bareScene s row d) last p) where
-    opened : planesJudged (bareScene s row d) part 0 0 (entriesOf t) ≡ cond b (planesJudged (bareScene s row d) part (p .layer) (i + 1) (entriesFrom t (n - (i + 1)) (i + 1))) (Fault i)
+  module _ (p : Plane) (b : Bool) (last i : ℕ) (g : Judging s extent d t part n last i) (h : i < n) (e : p ≡ entryOf t i) (k : b ≡ planeOk (bareScene s extent d) last p) where
+    opened : planesJudged (bareScene s extent d) part 0 0 (entriesOf t) ≡ cond b (planesJudged (bareScene s extent d) part (p .layer) (i + 1) (entriesFrom t (n - (i + 1)) (i + 1))) (ListVerdict.Refused i)
     unfolding planesJudged
     opened =
-        g .left ∙ ap (planesJudged (bareScene s row d) part last i) (next-entry i h)
+        g .left ∙ ap (planesJudged (bareScene s extent d) part last i) (next-entry i h)
         ∙ rw (k, e) refl
 
-    pub judging-more : b ≡ true → Judging s row d t part n (p .layer) (i + 1)
+    pub judging-more : b ≡ true → Judging s extent d t part n (p .layer) (i + 1)
     judging-more z = record { within = omega arith; few = g .few; left = opened ∙ rw z refl }
 
-    pub judging-fault : b ≡ false → Fault i ≡ planesJudged (bareScene s row d) part 0 0 (entriesOf t)
+    pub judging-fault : b ≡ false → ListVerdict.Refused i ≡ planesJudged (bareScene s extent d) part 0 0 (entriesOf t)
     judging-fault z = sym (opened ∙ rw z refl)
 
-  pub judging-part : (last i : ℕ) → Judging s row d t part n last i → n ≤ i → part ≡ true → Fault n ≡ planesJudged (bareScene s row d) part 0 0 (entriesOf t)
+  pub judging-part : (last i : ℕ) → Judging s extent d t part n last i → n ≤ i → part ≡ true → ListVerdict.Refused n ≡ planesJudged (bareScene s extent d) part 0 0 (entriesOf t)
   unfolding planesJudged entriesFrom
   judging-part last i g h z = let a = g .within in let q : i ≡ n = omega arith in let e : n - n ≡ 0 = omega arith in sym (g .left ∙ rw (q, e, z) refl)
 
-  pub judging-fine : (last i : ℕ) → Judging s row d t part n last i → n ≤ i → part ≡ false → Fine ≡ planesJudged (bareScene s row d) part 0 0 (entriesOf t)
+  pub judging-fine : (last i : ℕ) → Judging s extent d t part n last i → n ≤ i → part ≡ false → Fine ≡ planesJudged (bareScene s extent d) part 0 0 (entriesOf t)
   unfolding planesJudged entriesFrom
   judging-fine last i g h z = let a = g .within in let q : i ≡ n = omega arith in let e : n - n ≡ 0 = omega arith in sym (g .left ∙ rw (q, e, z) refl)
 
@@ -113,50 +107,50 @@ module _ (s : List ℕ) (row : Stripe) (d : List ℕ) (t : Listing) (part : Bool
 
 module _ (s : List ℕ) (pl : PlaneList) (d : List ℕ) (y : ℕ) where
   -- an entry is judged without a look at the list
-  bare : (row : Stripe) (part : Bool) (last i : ℕ) (ps qs : List Plane)
-      → planesJudged (record { sheet = s; row = row; planes = qs; samples = d }) part last i ps ≡ planesJudged (bareScene s row d) part last i ps
+  bare : (extent : Extent) (part : Bool) (last i : ℕ) (ps qs : List Plane)
+      → planesJudged (record { sheet = s; extent = extent; planes = qs; samples = d }) part last i ps ≡ planesJudged (bareScene s extent d) part last i ps
   unfolding planesJudged planeOk recordOf
-  bare row part last i [] qs = refl
-  bare row part last i (p ∷ ps) qs =
-      ap (λ j. cond (planeOk (bareScene s row d) last p) j (Fault i)) (bare row part (p .layer) (i + 1) ps qs)
+  bare extent part last i [] qs = refl
+  bare extent part last i (p ∷ ps) qs =
+      ap (λ j. cond (planeOk (bareScene s extent d) last p) j (ListVerdict.Refused i)) (bare extent part (p .layer) (i + 1) ps qs)
 
-  pub line-past : (row : Stripe) → row .height ≤ y → Refuses BadLine ≡ ruledOf (lineRuling s pl d y row)
+  pub line-past : (extent : Extent) → extent .height ≤ y → Ruled.Refused BadLine ≡ ruledOf (lineRuling s pl d y extent)
   unfolding ruledOf stripeRuling
-  line-past row h = simp (le-ltb y (row .height) h)
+  line-past extent h = simp (le-ltb y (extent .height) h)
 
-  module _ (row : Stripe) (h : y < row .height) where
-    on-line : (j : Judged) → j ≡ planesJudged (bareScene s row d) (pl .part) 0 0 (pl .entries)
-        → planeRuling (record { sheet = s; row = row; planes = pl .entries; samples = d }) j ≡ lineRuling s pl d y row
+  module _ (extent : Extent) (h : y < extent .height) where
+    on-line : (j : ListVerdict) → j ≡ planesJudged (bareScene s extent d) (pl .part) 0 0 (pl .entries)
+        → planeRuling (record { sheet = s; extent = extent; planes = pl .entries; samples = d }) j ≡ lineRuling s pl d y extent
     unfolding stripeRuling sceneRuling
-    on-line j e = rw (lt-ltb y (row .height) h) (ap (planeRuling (record { sheet = s; row = row; planes = pl .entries; samples = d })) (e ∙ sym (bare row (pl .part) 0 0 (pl .entries) (pl .entries))))
+    on-line j e = rw (lt-ltb y (extent .height) h) (ap (planeRuling (record { sheet = s; extent = extent; planes = pl .entries; samples = d })) (e ∙ sym (bare extent (pl .part) 0 0 (pl .entries) (pl .entries))))
 
-    pub line-fine : (j : Judged) → j ≡ planesJudged (bareScene s row d) (pl .part) 0 0 (pl .entries) → j ≡ Fine → Shows row ≡ ruledOf (lineRuling s pl d y row)
+    pub line-fine : (j : ListVerdict) → j ≡ planesJudged (bareScene s extent d) (pl .part) 0 0 (pl .entries) → j ≡ Fine → Shows extent ≡ ruledOf (lineRuling s pl d y extent)
     unfolding ruledOf
     line-fine j e z = ap ruledOf (rw z at (on-line j e))
 
-    pub line-fault : (j : Judged) (i : ℕ) → j ≡ planesJudged (bareScene s row d) (pl .part) 0 0 (pl .entries) → j ≡ Fault i
-        → Refuses (BadPlane i) ≡ ruledOf (lineRuling s pl d y row)
+    pub line-fault : (j : ListVerdict) (i : ℕ) → j ≡ planesJudged (bareScene s extent d) (pl .part) 0 0 (pl .entries) → j ≡ ListVerdict.Refused i
+        → Ruled.Refused (BadPlane i) ≡ ruledOf (lineRuling s pl d y extent)
     unfolding ruledOf
     line-fault j i e z = ap ruledOf (rw z at (on-line j e))
 
 module _ (s : List ℕ) (pl : PlaneList) (d : List ℕ) (k y : ℕ) where
-  good-ruling : Accepted s → rulingOf s pl d k y ≡ stripeRuling s pl d y (findStripe s k)
+  good-ruling : JudgedGood s → rulingOf s pl d k y ≡ stripeRuling s pl d y (findStripe s k)
   unfolding rulingOf sheetRuling
   good-ruling g = rw (g .good) refl
 
-  pub stripe-none : (f : FoundStripe) → Accepted s → f ≡ findStripe s k → f ≡ NoStripe → Refuses BadLine ≡ ruledOf (rulingOf s pl d k y)
+  pub stripe-none : (f : FoundStripe) → JudgedGood s → f ≡ findStripe s k → f ≡ NoStripe → Ruled.Refused BadLine ≡ ruledOf (rulingOf s pl d k y)
   unfolding ruledOf stripeRuling
   stripe-none f g e z = sym (ap ruledOf (good-ruling g ∙ ap (stripeRuling s pl d y) (sym e ∙ z)))
 
-  pub stripe-row : (f : FoundStripe) (row : Stripe) (r : Ruled) → Accepted s → f ≡ findStripe s k → f ≡ Row row → r ≡ ruledOf (lineRuling s pl d y row)
+  pub stripe-has : (f : FoundStripe) (extent : Extent) (r : Ruled) → JudgedGood s → f ≡ findStripe s k → f ≡ Has extent → r ≡ ruledOf (lineRuling s pl d y extent)
       → r ≡ ruledOf (rulingOf s pl d k y)
-  stripe-row f row r g e z q = q ∙ ap ruledOf (sym (good-ruling g ∙ ap (stripeRuling s pl d y) (sym e ∙ z)))
+  stripe-has f extent r g e z q = q ∙ ap ruledOf (sym (good-ruling g ∙ ap (stripeRuling s pl d y) (sym e ∙ z)))
 
-  pub sheet-bad : (v : Verdict) (i : ℕ) → v ≡ judgeOf s → v ≡ Bad i → Refuses (BadSheet i) ≡ ruledOf (rulingOf s pl d k y)
+  pub sheet-bad : (v : Verdict) (i : ℕ) → v ≡ judgeOf s → v ≡ Verdict.Refused i → Ruled.Refused (BadSheet i) ≡ ruledOf (rulingOf s pl d k y)
   unfolding ruledOf rulingOf sheetRuling answerOf
   sheet-bad v i e z = rw (← e, z) refl
 
-pub ruleset ruling = (needs, line-past, line-fine, line-fault, stripe-none, stripe-row, sheet-good, sheet-bad, found-whole, fault-small)
+pub ruleset ruling = (needs, line-past, line-fine, line-fault, stripe-none, stripe-has, sheet-good, sheet-bad, found-whole, fault-small)
 
 pub ruleset spanning = (needs, product-small, span-made, within-uncoded, within-coded)
 

@@ -1,35 +1,34 @@
 // The verdict on a line: the sheet, the stripe and line, the plane list. It writes nothing.
 ghost use mathlib.Core.Path.{_≡_};
 ghost use mathlib.Core.Bool.{_&&_};
-ghost use Prim.Native.Nat.{_*_, _+_, _<_, _≤_};
-ghost use lib.ListN.{length};
+ghost use Prim.Native.Nat.{_*_, _+_, _<_};
 ghost use lib.Dec.{leb};
 ghost use Rattle.sheet_rules.specs.Judge.{coded};
-ghost use Rattle.picture_rules.specs.Line.{depth, planeSpan, planeOk, planesJudged, stripeRuling, rulingOf};
-ghost use Rattle.plane.specs.Listing.{entriesOf};
+ghost use Rattle.picture_rules.specs.Line.{depth, planeSpan, planeOk, planesJudged, rulingOf};
+ghost use Rattle.line_planes.specs.Listing.{entriesOf};
 ghost use Rattle.line_verdict.specs.Ruled.{bareScene, listFrom, lineRuling, ruledOf};
-ghost use Rattle.stripe.specs.Steps.{Whole, Accepted};
+ghost use Rattle.sheet_table.specs.Steps.{Whole, JudgedGood};
 use answers::Answer;
-use picture_rules::Judged;
+use line_planes::Listing;
+use picture_rules::ListVerdict;
 use picture_rules::Plane;
-use plane::Listing;
+use sheet_rules::Extent;
 use sheet_rules::FoundStripe;
 use sheet_rules::Record;
-use sheet_rules::Stripe;
 use sheet_rules::Verdict;
 
 // What a line is judged to be: the stripe to be composed, or the refusal.
 pub enum Ruled {
-    Shows(Stripe),
-    Refuses(Answer),
+    Shows(Extent),
+    Refused(Answer),
 }
 
 // The octets of all samples of a layer.
 pub fn plane_span(width: u16, height: u16, layer: u8) -> usize
     ensures { λ n. ⌜ (n ≡ width * height * depth layer) × (n < 12884901888) ⌝ }
 {
-    let n = plane::wide(width) * plane::wide(height);
-    plane::sample_octets(n, layer)
+    let n = octets::wide16(width) * octets::wide16(height);
+    line_sample::sample_octets(n, layer)
 }
 
 // The layer is coded, and its samples lie in a buffer of so many octets.
@@ -44,62 +43,68 @@ pub fn plane_within(p: Plane, r: Record, room: usize) -> bool
 }
 
 // An entry behind one of layer `last`.
-pub fn plane_ok(sheet: &[u8], row: Stripe, samples: &[u8], last: u8, p: Plane) -> bool
-    requires { ⌜ Whole (now sheet) row ⌝ }
-    ensures { λ b. ⌜ b ≡ planeOk (bareScene (now (sheet .entry)) row (now (samples .entry))) last p ⌝ }
+pub fn plane_ok(sheet: &[u8], extent: Extent, samples: &[u8], last: u8, p: Plane) -> bool
+    requires { ⌜ Whole (now sheet) extent ⌝ }
+    ensures { λ b. ⌜ b ≡ planeOk (bareScene (now (sheet .entry)) extent (now (samples .entry))) last p ⌝ }
 {
     if p.layer <= last {
         return false;
     }
     let l = p.layer as usize;
-    if (row.layers as usize) < l {
+    if (extent.layers as usize) < l {
         return false;
     }
-    let r = record::record_at(sheet, row.first as usize + (l - 1));
+    let r = sheet_record::record_at(sheet, extent.first as usize + (l - 1));
     plane_within(p, r, samples.len())
 }
 
-pub fn judge_planes(sheet: &[u8], row: Stripe, samples: &[u8], t: Listing, part: bool) -> Judged
-    requires { ⌜ Whole (now sheet) row ⌝ }
-    ensures { λ j. ⌜ j ≡ planesJudged (bareScene (now (sheet .entry)) row (now (samples .entry))) part 0 0 (entriesOf t) ⌝ }
+pub fn judge_planes(
+    sheet: &[u8],
+    extent: Extent,
+    samples: &[u8],
+    t: Listing,
+    part: bool,
+) -> ListVerdict
+    requires { ⌜ Whole (now sheet) extent ⌝ }
+    ensures { λ j. ⌜ j ≡ planesJudged (bareScene (now (sheet .entry)) extent (now (samples .entry))) part 0 0 (entriesOf t) ⌝ }
 {
-    let n = plane::entry_count(t);
+    let n = line_planes::entry_count(t);
     let mut last: u8 = 0;
     let mut i: usize = 0;
     while i < n {
-        let p = plane::entry_at(t, i);
-        if plane_ok(sheet, row, samples, last, p) {
+        let p = line_planes::entry_at(t, i);
+        if plane_ok(sheet, extent, samples, last, p) {
             last = p.layer;
             i += 1;
         } else {
-            return Judged::Fault(i as u32);
+            return ListVerdict::Refused(i as u32);
         }
     }
     if part {
-        Judged::Fault(n as u32)
+        ListVerdict::Refused(n as u32)
     } else {
-        Judged::Fine
+        ListVerdict::Fine
     }
 }
 
 // A stripe of the sheet: the line before the plane list.
 pub fn rule_line(
     sheet: &[u8],
-    row: Stripe,
+    extent: Extent,
     t: Listing,
     part: bool,
     samples: &[u8],
     line: u32,
 ) -> Ruled
-    requires { ⌜ Whole (now sheet) row ⌝ }
-    ensures { λ r. ⌜ r ≡ ruledOf (lineRuling (now (sheet .entry)) (listFrom t part) (now (samples .entry)) line row) ⌝ }
+    requires { ⌜ Whole (now sheet) extent ⌝ }
+    ensures { λ r. ⌜ r ≡ ruledOf (lineRuling (now (sheet .entry)) (listFrom t part) (now (samples .entry)) line extent) ⌝ }
 {
-    if row.height <= line {
-        return Ruled::Refuses(Answer::BadLine);
+    if extent.height <= line {
+        return Ruled::Refused(Answer::BadLine);
     }
-    match judge_planes(sheet, row, samples, t, part) {
-        Judged::Fine => Ruled::Shows(row),
-        Judged::Fault(i) => Ruled::Refuses(Answer::BadPlane(i)),
+    match judge_planes(sheet, extent, samples, t, part) {
+        ListVerdict::Fine => Ruled::Shows(extent),
+        ListVerdict::Refused(i) => Ruled::Refused(Answer::BadPlane(i)),
     }
 }
 
@@ -112,12 +117,12 @@ pub fn rule_stripe(
     stripe: u32,
     line: u32,
 ) -> Ruled
-    requires { ⌜ Accepted (now sheet) ⌝ }
+    requires { ⌜ JudgedGood (now sheet) ⌝ }
     ensures { λ r. ⌜ r ≡ ruledOf (rulingOf (now (sheet .entry)) (listFrom t part) (now (samples .entry)) stripe line) ⌝ }
 {
-    match stripe::find_stripe(sheet, stripe as usize) {
-        FoundStripe::NoStripe => Ruled::Refuses(Answer::BadLine),
-        FoundStripe::Row(row) => rule_line(sheet, row, t, part, samples, line),
+    match sheet_table::find_stripe(sheet, stripe as usize) {
+        FoundStripe::NoStripe => Ruled::Refused(Answer::BadLine),
+        FoundStripe::Has(extent) => rule_line(sheet, extent, t, part, samples, line),
     }
 }
 
@@ -131,8 +136,8 @@ pub fn judge_line(
 ) -> Ruled
     ensures { λ r. ⌜ r ≡ ruledOf (rulingOf (now (sheet .entry)) (listFrom t part) (now (samples .entry)) stripe line) ⌝ }
 {
-    match sheet::judge(sheet) {
-        Verdict::Bad { record } => Ruled::Refuses(Answer::BadSheet(record as u32)),
+    match sheet_judge::judge(sheet) {
+        Verdict::Refused { record } => Ruled::Refused(Answer::BadSheet(record as u32)),
         Verdict::Good {
             records: _,
             stripes: _,

@@ -2,6 +2,7 @@
 //
 // No more than 26,908 octets are read: the judge of so many is the judge of all (`sheet-cut` of `sheet_rules`), so an
 // input of any length, endless too, is answered.
+use answers::Answer;
 use libc::STDIN_FILENO;
 use libc::STDOUT_FILENO;
 use sheet_rules::RECORD_SIZE;
@@ -14,7 +15,8 @@ fn main() {
 }
 
 fn list(sheet: &[u8]) {
-    let answer = report::reported(sheet::sheet_answer(sheet));
+    let judged: Answer = sheet_judge::sheet_answer(sheet);
+    let answer = answers_report::reported(judged);
     if answer.number == 0 {
         list_records(sheet);
     } else {
@@ -28,7 +30,7 @@ fn list_records(sheet: &[u8]) {
     let n = sheet.len() / RECORD_SIZE;
     let mut i: usize = 0;
     while i < n {
-        if put_line(record::record_at(sheet, i)) {
+        if put_line(sheet_record::record_at(sheet, i)) {
             i += 1;
         } else {
             return;
@@ -38,19 +40,24 @@ fn list_records(sheet: &[u8]) {
 
 // Answers whether the line could be written: nobody is told of a reader that went away, and the listing stops.
 fn put_line(r: Record) -> bool {
-    put_number(r.stripe as u32, b" ");
-    put_number(r.layer as u32, b" ");
-    put_number(r.coder as u32, b" ");
-    put_number(r.x as u32, b" ");
-    put_number(r.y as u32, b" ");
-    put_number(r.width as u32, b" ");
-    put_number(r.height as u32, b" ");
-    put_number(r.res as u32, b" ");
-    put_number(r.base0 as u32, b" ");
-    put_number(r.base1 as u32, b" ");
-    put_number(r.base2 as u32, b" ");
-    put_number(r.start, b" ");
+    put_field(r.stripe as u32);
+    put_field(r.layer as u32);
+    put_field(r.coder as u32);
+    put_field(r.x as u32);
+    put_field(r.y as u32);
+    put_field(r.width as u32);
+    put_field(r.height as u32);
+    put_field(r.res as u32);
+    put_field(r.base0 as u32);
+    put_field(r.base1 as u32);
+    put_field(r.base2 as u32);
+    put_field(r.start);
     put_number(r.len, b"\n")
+}
+
+// A number and a blank.
+fn put_field(n: u32) {
+    put_number(n, b" ");
 }
 
 fn put_number(n: u32, behind: &[u8]) -> bool {

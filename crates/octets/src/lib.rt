@@ -11,6 +11,20 @@ pub fn wide(x: u8) -> u16
     x as u16
 }
 
+// The same of two octets, so that a product of two needs no proof that they are small.
+pub fn wide16(x: u16) -> usize
+    ensures { λ r. ⌜ (r ≡ x) × (r < 65536) ⌝ }
+{
+    x as usize
+}
+
+// The end of coded data, in a type that holds it.
+pub fn end_of(start: u32, len: u32) -> u64
+    ensures { λ r. ⌜ r ≡ start + len ⌝ }
+{
+    (start as u64) + (len as u64)
+}
+
 // The sum is made in sixteen bits, where two octets always fit.
 pub fn be16(s: &[u8], at: usize) -> u16
     requires { ⌜ at + 2 ≤ length (now s) ⌝ }

@@ -1,34 +1,33 @@
 -- The sheet of a page is one that the judge accepts.
 -- Assumes nothing.
-use Prim.Native.Nat.{ℕ, zero, suc, _+_, _-_, _/_, _%_, _≤_, _<_, _∣_}
+use Prim.Native.Nat.{ℕ, suc, _+_, _-_, _%_, _≤_, _<_}
 use native.Mathlib.Omega.{arith}
 use native.Mathlib.Nat.{dvd-refl, eq-zero-or-pos}
-use native.Mathlib.Numerals.{add-one}
-use mathlib.Core.Path.{_≡_, refl, sym, ap, ap₂, subst, _∙_}
+use mathlib.Core.Path.{_≡_, refl, sym, ap, subst, _∙_}
 use mathlib.Core.Logic.{_⊎_, inl, inr, _≢_, ⊎-elim}
-use mathlib.Core.Bool.{Bool, true, false, _&&_, _||_, not, cond, false≢true}
+use mathlib.Core.Bool.{Bool, true, false, not, cond}
 use mathlib.Core.List.{List, [], _∷_, _++_}
 use lib.ListN.{length, length-append, replicate}
-use lib.Dec.{eqb, leb, lit≤, lit<}
+use lib.Dec.{lit≤}
 use borrow.Author.Tests.{eq-eqb, ne-eqb}
 use Rattle.octets.specs.Octets.{octets16, octets32}
-use Rattle.cases.proofs.Says.{Says, says-eq, says-not}
+use Rattle.laws.proofs.Says.{says-eq, says-not}
 use Rattle.sheet_rules.specs.declared.Record.{Record}
 use Rattle.sheet_rules.specs.declared.State.{State}
 use Rattle.sheet_rules.specs.declared.Step.{Step}
 use Rattle.sheet_rules.specs.declared.Step.the-variants.{Next, Stop}
 use Rattle.sheet_rules.specs.Judge.{coded as isCoded, choiceOk, begin, after, after1, after2, after3, stepOf, onStep, run}
-use Rattle.sheet_rules.specs.Sentences.{Coded as CodedRecord, Uncoded as UncodedRecord, CoderOf, Listed, Unbroken, Complete, Sheet}
-use Rattle.sheet_rules.proofs.New.{NextLayer, NextStripe, CodedFacts, EmptyFacts, UncodedFacts, ResFacts, PageFacts, ChoiceFacts, UpperFacts, New, says-coded, says-choice}
+use Rattle.sheet_rules.specs.Sentences.{Coded, Uncoded as UncodedRecord, CoderOf, Listed, Sheet}
+use Rattle.sheet_rules.proofs.New.{CodedFacts, UncodedFacts, ResFacts, New, says-choice}
 use Rattle.sheet_rules.proofs.Backward.{listed-nonzero}
 use Rattle.sheet_rules.proofs.Fold.{step-next, run-append, begun-unbroken}
 use Rattle.jpeg_rules.specs.Grammar.{Layer}
 use Rattle.page_rules.proofs.There.{length-start}
 use Rattle.page_rules.specs.declared.Head.{Head}
-use Rattle.page_rules.specs.declared.Coded.{Coded}
-use Rattle.page_rules.specs.declared.Coded.the-variants.{There, Absent}
-use Rattle.page_rules.specs.Kinds.{hasBack, hasMask, hasFore, Colour, Fields, imageRecord, maskRecord}
-use Rattle.page_rules.specs.Grammar.{startOf, GoodHead, MaskCoder, TypeOf, colourOf, headOf, GoodFields, Image, there, absent, recordsOf, Stripe, Stripes, last, next, Page}
+use Rattle.page_rules.specs.declared.LayerData.{LayerData}
+use Rattle.page_rules.specs.Kinds.{hasBack, hasMask, hasFore, Fields, imageRecord, maskRecord}
+use Rattle.sheet_rules.specs.declared.Colour.{Colour}
+use Rattle.page_rules.specs.Grammar.{startOf, GoodHead, MaskCoder, TypeOf, colourOf, headOf, Image, there, absent, Stripe, Stripes, last, next, Page}
 
 -- ---- an image layer's record
 
@@ -38,14 +37,14 @@ record ImageFacts (main k l : ℕ) (b : Bool) (r : Record) : Type 0 where
   layer-is : r .layer ≡ l
   zeros : (r .octet17 ≡ 0) × (r .octets26 ≡ 0)
   coded-is : isCoded r ≡ b
-  contents : (CodedRecord r × CodedFacts r) ⊎ (UncodedRecord r × UncodedFacts r)
+  contents : (Coded r × CodedFacts r) ⊎ (UncodedRecord r × UncodedFacts r)
   listed : Listed (r .res)
   res : ResFacts b (r .res) main
 
 layer-size : {main w h r : ℕ} (l : List ℕ) → Layer main l w h r → length l ≢ 0
 layer-size l y z = let a = ap length (y .octets) in omega arith
 
-image-facts : (hd : Head) (k l at : ℕ) (base : Colour) (x y : ℕ) (b : Bool) (o : List ℕ) (c : Coded) → (l % 2 ≡ 1) → Listed (hd .main) → at + length o ≤ 16777215
+image-facts : (hd : Head) (k l at : ℕ) (base : Colour) (x y : ℕ) (b : Bool) (o : List ℕ) (c : LayerData) → (l % 2 ≡ 1) → Listed (hd .main) → at + length o ≤ 16777215
     → Image (hd .main) at b o c → ImageFacts (hd .main) k l b (imageRecord hd k l base x y c)
 unfolding imageRecord
 image-facts hd k l at base x y b o c odd g small (there {w = w} {h = h} {r = r} z) =
@@ -101,7 +100,7 @@ pub record Ready (hd : Head) (k left : ℕ) (st : State) : Type 0 where
 
 record MaskFacts (b : Bool) (r : Record) : Type 0 where
   coded-is : isCoded r ≡ b
-  contents : (CodedRecord r × CodedFacts r) ⊎ (UncodedRecord r × UncodedFacts r)
+  contents : (Coded r × CodedFacts r) ⊎ (UncodedRecord r × UncodedFacts r)
 
 mask-facts : (hd : Head) (k height at n : ℕ) (b : Bool) → MaskCoder (hd .mask) → (b ≡ true → hd .mask ≢ 0) → 1 ≤ hd .width → 1 ≤ height → at + n ≤ 16777215
     → (b ≡ true → n ≡ 0 → ⊥) × (b ≡ false → n ≡ 0) → MaskFacts b (maskRecord hd k height (cond b (hd .mask) 0) (cond b at 0) n)

@@ -1,27 +1,21 @@
 -- What stands by a table of the page is what the grammar has there.
 -- Assumes nothing.
-use Prim.Native.Nat.{ℕ, zero, suc, _+_, _-_, _≤_, _<_}
-use native.Mathlib.Omega.{arith}
-use mathlib.Core.Path.{_≡_, refl, sym, ap, subst, _∙_}
-use mathlib.Core.Logic.{_⊎_, inl, inr, _≢_, ⊎-elim}
-use mathlib.Core.Bool.{Bool, true, false, _&&_, _||_, not, cond, false≢true}
+use Prim.Native.Nat.{ℕ, _+_, _≤_, _<_}
+use mathlib.Core.Path.{_≡_, sym, subst}
+use mathlib.Core.Bool.{true}
 use mathlib.Core.List.{List, [], _∷_, _++_}
-use lib.ListN.{length, getD}
-use lib.Dec.{eqb, leb}
+use lib.Dec.{eqb}
 use borrow.Author.Tests.{eqb-true, leb-true}
 use Rattle.octets.specs.Octets.{octets16, octets32}
-use Rattle.cases.proofs.Says.{Says, says-eq, says-le, says-and, says-or, says-not, says-true}
-use Rattle.sheet_rules.specs.Sentences.{Listed}
+use Rattle.laws.proofs.Says.{says-eq, says-le, says-and, says-true}
 use Rattle.sheet_rules.proofs.New.{says-listed}
-use Rattle.answers.specs.declared.Answer.{Answer}
-use Rattle.field_rules.specs.Field.{Width, one, two, four, bound, put, Sized, Row, mark, val, again}
-use Rattle.field_rules.specs.Stands.{Stands, at-end, marked, valued, held}
-use Rattle.field_rules.proofs.Laws.{end-apart, mark-apart, val-apart, again-apart, one-apart, two-apart, three-apart, four-apart}
-use Rattle.jpeg_rules.specs.Marker.{within}
+use Rattle.field_rules.specs.Field.{put}
+use Rattle.field_rules.specs.Stands.{Stands}
+use Rattle.field_rules.proofs.Laws.{end-apart, mark-apart, again-apart, one-apart, two-apart, three-apart, four-apart}
 use Rattle.page_rules.specs.declared.Head.{Head}
-use Rattle.page_rules.specs.Kinds.{maskCoder, imageCoder, hasBack, hasMask, hasFore, typeOk, Colour, Fields, offsetOk}
-use Rattle.page_rules.specs.Grammar.{startOf, GoodHead, colourOf, headOf, Widths, GoodFields}
-use Rattle.page_rules.specs.Reading.{startRows, identOk, segmentRows, maskLengthOk, stripeRows}
+use Rattle.page_rules.specs.Kinds.{maskCoder, imageCoder, hasBack, hasFore, Fields}
+use Rattle.page_rules.specs.Grammar.{startOf, GoodHead, colourOf, Widths, GoodFields}
+use Rattle.page_rules.specs.Reading.{startTable, identOk, segmentTable, stripeTable}
 use Rattle.page_rules.proofs.Rules.{says-mask, says-image, says-type, says-offset, says-mask-length}
 use Rattle.page_rules.proofs.Tables.{startNumbers, segmentNumbers, segmentOf, stripeNumbers, fieldsOf}
 
@@ -29,8 +23,8 @@ use Rattle.page_rules.proofs.Tables.{startNumbers, segmentNumbers, segm
 fixed : (Q : ℕ → Type 0) (n v : ℕ) → eqb v n ≡ true → Q n → Q v
 fixed Q n v e q = subst Q (sym (eqb-true v n e)) q
 
-pub start-apart : (P : List ℕ → List ℕ → Type 0) {out l : List ℕ} → Stands startRows [] out l → ((hd : Head) → GoodHead hd → P (startNumbers hd) (startOf hd)) → P out l
-unfolding startRows startOf octets16 octets32 put
+pub start-apart : (P : List ℕ → List ℕ → Type 0) {out l : List ℕ} → Stands startTable [] out l → ((hd : Head) → GoodHead hd → P (startNumbers hd) (startOf hd)) → P out l
+unfolding startTable startOf octets16 octets32 put
 start-apart P {out} st go =
     mark-apart (P out) st λ l1 st1.
     mark-apart (λ x. P out (0xFF ∷ 0xD8 ∷ x)) st1 λ l2 st2.
@@ -51,9 +45,9 @@ start-apart P {out} st go =
     (go (record { mask = mask; image = image; main = main; width = width })
     (record { mask = says-mask mask .told g8; image = says-image image .told g9; main = says-listed main .told g10; width = says-and (says-le 1 width) (says-le width 32768) .told g11 })))))
 
-pub segment-apart : (P : List ℕ → List ℕ → Type 0) (k : ℕ) {out l : List ℕ} → Stands (segmentRows k) [] out l
+pub segment-apart : (P : List ℕ → List ℕ → Type 0) (k : ℕ) {out l : List ℕ} → Stands (segmentTable k) [] out l
     → ((size n : ℕ) → 6 ≤ size → size < 65536 → n < 256 → identOk k n ≡ true → P (segmentNumbers size n) (segmentOf size n)) → P out l
-unfolding segmentRows segmentOf octets16 put
+unfolding segmentTable segmentOf octets16 put
 segment-apart P k {out} st go =
     mark-apart (P out) st λ l1 st1.
     one-apart (λ x. P out (0xFF ∷ 0xED ∷ x)) st1 λ size l2 b2 g2 st2.
@@ -65,9 +59,9 @@ segment-apart P k {out} st go =
     (subst (λ v. P (size ∷ 0x4D ∷ 0x52 ∷ v ∷ n ∷ []) (0xFF ∷ 0xED ∷ octets16 size ++ (0x4D ∷ 0x52 ∷ v ∷ n ∷ []))) (sym (h .0 .1))
     (go size n (leb-true 6 size g2) b2 bn (h .1)))))
 
-pub stripe-apart : (P : List ℕ → List ℕ → Type 0) (hd : Head) (left : ℕ) {out l : List ℕ} → Stands (stripeRows hd left) [] out l
+pub stripe-apart : (P : List ℕ → List ℕ → Type 0) (hd : Head) (left : ℕ) {out l : List ℕ} → Stands (stripeTable hd left) [] out l
     → ((f : Fields) → Widths f → GoodFields hd left f → P (stripeNumbers f) (fieldsOf f)) → P out l
-unfolding stripeRows fieldsOf colourOf octets32 octets16 put
+unfolding stripeTable fieldsOf colourOf octets32 octets16 put
 stripe-apart P hd left {out} st go =
     one-apart (P out) st λ t l1 bt gt st1.
     three-apart (λ x. P out (t ∷ x)) st1 λ a0 a1 a2 l2 ba0 ba1 ba2 g2 st2.

@@ -3,35 +3,25 @@
 use Prim.Native.Nat.{ℕ, zero, suc, _+_, _-_, _≤_, _<_}
 use native.Mathlib.Omega.{arith}
 use mathlib.Core.Path.{_≡_, refl, sym, ap, ap₂, subst, _∙_}
-use mathlib.Core.Logic.{_⊎_, inl, inr, _≢_, ⊎-elim}
-use mathlib.Core.Bool.{Bool, true, false, _&&_, _||_, not, cond, false≢true}
+use mathlib.Core.Logic.{⊎-elim}
+use mathlib.Core.Bool.{true, cond}
 use mathlib.Core.List.{List, [], _∷_, _++_, append-assoc, append-nil}
 use lib.ListN.{length, getD, take, drop, length-append, length-drop, take-append-drop, replicate}
 use lib.Seq.{drop-drop, length-take-le}
-use lib.Dec.{eqb, leb, ltb}
-use borrow.Author.Tests.{eqb-true, eqb-false, ltb-false}
+use lib.Dec.{eqb, ltb}
+use borrow.Author.Tests.{eqb-true, eqb-false}
 use Rattle.octets.specs.Octets.{Octets, octets16, standsAt}
-use Rattle.octets.proofs.Laws.{stands-split, octets-drop}
-use Rattle.cases.proofs.Cases.{cond-with, clash}
-use Rattle.cases.proofs.Says.{Says, says-eq, says-le, says-and, says-or}
-use Rattle.answers.specs.declared.Answer.{Answer}
-use Rattle.answers.specs.declared.Answer.the-variants.{Short, BadStripe, BadLength, Trailing}
-use Rattle.field_rules.specs.Field.{Res, ok, no, bind, Row, fields}
-use Rattle.field_rules.specs.Stands.{Stands}
-use Rattle.field_rules.proofs.Laws.{Read, fields-back, mark-apart, end-apart}
+use Rattle.octets.proofs.Laws.{stands-split}
+use Rattle.laws.proofs.Cases.{cond-with, clash}
+use Rattle.laws.proofs.Says.{says-eq, says-le, says-and, says-or}
+use Rattle.field_rules.specs.Field.{ok, bind, fields}
+use Rattle.field_rules.proofs.Laws.{fields-back, mark-apart, end-apart}
 use Rattle.sheet_rules.specs.declared.Record.{Record}
-use Rattle.jpeg_rules.specs.declared.Walk.{Walk}
-use Rattle.jpeg_rules.specs.declared.Walk.the-variants.{Ends, Refused}
-use Rattle.jpeg_rules.specs.Marker.{within}
-use Rattle.jpeg_rules.specs.Walk.{walkOf}
-use Rattle.jpeg_rules.proofs.Back.{Walked, walk-layer}
 use Rattle.page_rules.specs.declared.Head.{Head}
-use Rattle.page_rules.specs.declared.Coded.{Coded}
-use Rattle.page_rules.specs.declared.Coded.the-variants.{There, Absent}
-use Rattle.page_rules.specs.Kinds.{hasBack, hasMask, hasFore, Fields}
-use Rattle.page_rules.specs.Grammar.{startOf, GoodHead, optionalOf, Optionals, no-more, one-more, headOf, Widths, GoodFields, Image, there, absent, recordsOf, Stripe, Stripes, last, next, Page}
-use Rattle.page_rules.specs.Reading.{startRows, headFrom, identOk, segmentRows, stripeRows, fieldsFrom, spanOf, onWalk, walked, layersOf, stripeFrom, bodyFrom, zerosOf, endRows, pageOf}
-use Rattle.page_rules.proofs.Tables.{startNumbers, segmentNumbers, segmentOf, stripeNumbers, fieldsOf, head-is}
+use Rattle.page_rules.specs.Kinds.{hasBack, hasFore, Fields}
+use Rattle.page_rules.specs.Grammar.{startOf, optionalOf, Optionals, no-more, one-more, headOf, Widths, GoodFields, Image, recordsOf, Stripe, Stripes, last, next, Page}
+use Rattle.page_rules.specs.Reading.{startTable, headFrom, identOk, segmentTable, stripeTable, fieldsFrom, spanOf, layersOf, stripeFrom, bodyFrom, zerosOf, endTable, pageOf}
+use Rattle.page_rules.proofs.Tables.{segmentOf, fieldsOf, head-is}
 use Rattle.page_rules.proofs.There.{length-segment, length-fields, length-start, optional-is}
 use Rattle.page_rules.proofs.Apart.{start-apart, segment-apart, stripe-apart}
 use Rattle.page_rules.proofs.Layers.{bind-back, span-back, LayersBack, layers-back}
@@ -190,8 +180,8 @@ module _ (hd : Head) (s : List ℕ) (out : List Record) (n : ℕ) where
         cond-with (λ x. x ≡ ok out n → k < 65 → BodyBack hd k left acc s at out n) (eqb k 64) (λ t q m. clash cc) λ t.
         cond-with (λ x. x ≡ ok out n → k < 65 → BodyBack hd k left acc s at out n) (eqb size 37)
         (λ u q m.
-        bind-back (BodyBack hd k left acc s at out n) (fields (stripeRows hd left) [] s (at + 8)) _ out n q λ vs p q1 q2.
-        let rd = fields-back (stripeRows hd left) [] vs s (at + 8) p o room q1 in
+        bind-back (BodyBack hd k left acc s at out n) (fields (stripeTable hd left) [] s (at + 8)) _ out n q λ vs p q1 q2.
+        let rd = fields-back (stripeTable hd left) [] vs s (at + 8) p o room q1 in
         stripe-apart
         (λ vs l.
         drop (at + 8) s ≡ l ++ drop p s → p ≡ at + 8 + length l
@@ -241,8 +231,8 @@ module _ (hd : Head) (s : List ℕ) (out : List Record) (n : ℕ) where
       cond-with (λ x. x ≡ ok out n → BodyBack hd k left acc s at out n) (eqb k 0) (λ z q. clash cc)
       (λ z q. let nz = eqb-false k 0 z in body-end k left acc at (omega arith) st q))
       (λ st q.
-      bind-back (BodyBack hd k left acc s at out n) (fields (segmentRows k) [] s at) _ out n q λ vs p q1 q2.
-      let rd = fields-back (segmentRows k) [] vs s at p o h q1 in
+      bind-back (BodyBack hd k left acc s at out n) (fields (segmentTable k) [] s at) _ out n q λ vs p q1 q2.
+      let rd = fields-back (segmentTable k) [] vs s at p o h q1 in
       segment-apart
       (λ vs l.
       drop at s ≡ l ++ drop p s → p ≡ at + length l → p ≤ length s
@@ -276,8 +266,8 @@ zeros-back (x ∷ l) at m e =
     (ap₂ (λ (a : ℕ) (b : List ℕ). a ∷ b) (eqb-true x 0 t) (k .0), omega arith))
     (λ t q. clash cc)
 
-end-back : (s : List ℕ) → Octets s → (m e : ℕ) (es : List ℕ) → m ≤ length s → fields endRows [] s m ≡ ok es e → (drop m s ≡ 0xFF ∷ 0xD9 ∷ drop e s) × (e ≡ m + 2) × (e ≤ length s)
-unfolding endRows
+end-back : (s : List ℕ) → Octets s → (m e : ℕ) (es : List ℕ) → m ≤ length s → fields endTable [] s m ≡ ok es e → (drop m s ≡ 0xFF ∷ 0xD9 ∷ drop e s) × (e ≡ m + 2) × (e ≤ length s)
+unfolding endTable
 end-back s o m e es h q =
     let rd = fields-back _ [] es s m e o h q in
     mark-apart (λ l. drop m s ≡ l ++ drop e s → e ≡ m + length l → (drop m s ≡ 0xFF ∷ 0xD9 ∷ drop e s) × (e ≡ m + 2) × (e ≤ length s)) (rd .stands)
@@ -289,18 +279,18 @@ end-back s o m e es h q =
 pub page-back : (s : List ℕ) → Octets s → (rs : List Record) (n : ℕ) → pageOf s ≡ ok rs n → Page s rs × (n ≡ length s)
 unfolding pageOf
 page-back s o rs n q =
-    bind-back (Page s rs × (n ≡ length s)) (fields startRows [] s 0) _ rs n q λ vs p q1 q2.
-    let rd = fields-back startRows [] vs s 0 p o (omega arith) q1 in
+    bind-back (Page s rs × (n ≡ length s)) (fields startTable [] s 0) _ rs n q λ vs p q1 q2.
+    let rd = fields-back startTable [] vs s 0 p o (omega arith) q1 in
     start-apart
     (λ vs l.
     drop 0 s ≡ l ++ drop p s → p ≡ 0 + length l → p ≤ length s
     → bind (bodyFrom (length s) (headFrom vs) 0 65535 [] s p) (λ (rs : List Record) (m : ℕ).
-    bind (fields endRows [] s m) (λ (es : List ℕ) (e : ℕ). bind (zerosOf (drop e s) e) (λ (z end : ℕ). ok rs end))) ≡ ok rs n
+    bind (fields endTable [] s m) (λ (es : List ℕ) (e : ℕ). bind (zerosOf (drop e s) e) (λ (z end : ℕ). ok rs end))) ≡ ok rs n
     → Page s rs × (n ≡ length s))
     (rd .stands)
     (λ hd g sp en ins q3.
     bind-back (Page s rs × (n ≡ length s)) (bodyFrom (length s) hd 0 65535 [] s p) _ rs n q3 λ xs m q4 q5.
-    bind-back (Page s rs × (n ≡ length s)) (fields endRows [] s m) _ rs n q5 λ es e q6 q7.
+    bind-back (Page s rs × (n ≡ length s)) (fields endTable [] s m) _ rs n q5 λ es e q6 q7.
     bind-back (Page s rs × (n ≡ length s)) (zerosOf (drop e s) e) _ rs n q7 λ z end q8 q9.
     let b = body-back hd s xs m o (length s) 0 65535 [] p ins (omega arith) (omega arith) q4 in
     let bi = b .inside in

@@ -3,7 +3,7 @@
 use Prim.Native.Nat.{ℕ, zero, suc, _+_, _-_, _≤_, _<_}
 use native.Mathlib.Omega.{arith}
 use mathlib.Core.Path.{_≡_, refl, ap, ap₂}
-use mathlib.Core.Bool.{Bool, cond}
+use mathlib.Core.Bool.{cond}
 use mathlib.Core.List.{List, [], _∷_, _++_}
 use lib.ListN.{length, getD}
 use lib.Dec.{eqb, ltb}
@@ -13,7 +13,7 @@ use Rattle.field_rules.specs.Field.{Res, ok, no, bind, fields}
 use Rattle.field_rules.proofs.Refused.{fields-end}
 use Rattle.sheet_rules.specs.declared.Record.{Record}
 use Rattle.page_rules.specs.declared.Head.{Head}
-use Rattle.page_rules.specs.Reading.{segmentRows, stripeRows, fieldsFrom, spanOf, layersOf, stripeFrom, bodyFrom}
+use Rattle.page_rules.specs.Reading.{segmentTable, stripeTable, fieldsFrom, spanOf, layersOf, stripeFrom, bodyFrom}
 use Rattle.page_rules.proofs.Layers.{span-back, layers-back}
 use Rattle.page_rules.proofs.Refused.{segment-size}
 
@@ -37,8 +37,8 @@ module _ (s : List ℕ) (o : Octets s) (hd : Head) where
   unfolding stripeFrom
   stripe-same i j rec k left acc size at h x y =
       ap (λ (r : Res (List Record)). cond (eqb k 64) (no (BadStripe (at + 4))) (cond (eqb size 37) r (no (BadLength (at + 2)))))
-      (bind-same (fields (stripeRows hd left) [] s (at + 8)) _ _ λ vs p q.
-      let fe = fields-end (stripeRows hd left) [] vs s (at + 8) p h q in
+      (bind-same (fields (stripeTable hd left) [] s (at + 8)) _ _ λ vs p q.
+      let fe = fields-end (stripeTable hd left) [] vs s (at + 8) p h q in
       let f0 = fe .0 in
       bind-same (layersOf hd k (fieldsFrom vs) s p) _ _ λ rs e z.
       let b = layers-back hd k (fieldsFrom vs) s o p rs e z in
@@ -53,8 +53,8 @@ module _ (s : List ℕ) (o : Octets s) (hd : Head) where
       ap
       (λ (r : Res (List Record)).
       cond (ltb (length s) (at + 2)) (no (Short at)) (cond (standsAt s at (0xFF ∷ 0xD9 ∷ [])) (cond (eqb k 0) (no (BadStripe at)) (ok acc (at + 2))) r))
-      (bind-same (fields (segmentRows k) [] s at) _ _ λ vs p q.
-      let fe = fields-end (segmentRows k) [] vs s at p h q in
+      (bind-same (fields (segmentTable k) [] s at) _ _ λ vs p q.
+      let fe = fields-end (segmentTable k) [] vs s at p h q in
       let sz = segment-size k in
       let f0 = fe .0 in
       let f1 = fe .1 in

@@ -1,10 +1,10 @@
 -- A refusal of a page is decided by the octets up to where reading looked: a page that agrees so far with one that is refused, and not Short,
 -- gets the same refusal.
 -- Assumes nothing.
-use Prim.Native.Nat.{ℕ, suc, _+_, _-_, _≤_, _<_}
+use Prim.Native.Nat.{ℕ, suc, _+_, _≤_, _<_}
 use native.Mathlib.Omega.{arith}
 use mathlib.Core.Path.{_≡_, refl, sym, ap, subst, _∙_}
-use mathlib.Core.Logic.{_⊎_, ⊎-elim}
+use mathlib.Core.Logic.{⊎-elim}
 use mathlib.Core.Bool.{Bool, true, false, cond}
 use mathlib.Core.List.{List, [], _∷_}
 use lib.ListN.{length, getD, drop, length-drop}
@@ -12,14 +12,14 @@ use lib.Seq.{getD-drop}
 use lib.Dec.{eqb, lit≤}
 use Rattle.octets.specs.Octets.{Octets}
 use Rattle.octets.proofs.Agree.{octet-agree}
-use Rattle.cases.proofs.Cases.{bool-else, clash}
+use Rattle.laws.proofs.Cases.{bool-else, clash}
 use Rattle.answers.specs.declared.Answer.{Answer}
 use Rattle.answers.specs.declared.Answer.the-variants.{Short, Trailing}
 use Rattle.answers.specs.Answers.{placeOf}
 use Rattle.field_rules.specs.Field.{Res, ok, no, bind, fields, reach}
 use Rattle.field_rules.proofs.Refused.{rowsSize, fields-end}
 use Rattle.sheet_rules.specs.declared.Record.{Record}
-use Rattle.page_rules.specs.Reading.{startRows, headFrom, bodyFrom, zerosOf, endRows, pageOf}
+use Rattle.page_rules.specs.Reading.{startTable, headFrom, bodyFrom, zerosOf, endTable, pageOf}
 use Rattle.page_rules.specs.Look.{bodyLook, zerosLook, pageLook, beyond}
 use Rattle.page_rules.proofs.Looked.{Near, Looked, looked-bind, looked-fields}
 use Rattle.page_rules.proofs.Hangs.{near, start-near, end-near, body-looked}
@@ -111,23 +111,23 @@ module _ (s : List ℕ) where
 
   -- ---- the page
 
-  start-size : rowsSize startRows ≡ 22
-  unfolding startRows rowsSize
+  start-size : rowsSize startTable ≡ 22
+  unfolding startTable rowsSize
   start-size = refl
 
   pub page-looked : Octets s → (a : Answer) → pageOf s ≡ no a → ((p : ℕ) → a ≡ Short p → ⊥) → Looked (pageLook s) pageOf s 0
   unfolding pageOf pageLook
   page-looked o a q u =
-      looked-bind s (λ (t : List ℕ). fields startRows [] t 0) onStart (reach startRows [] s 0) _ 0 (looked-fields s startRows 0 (omega arith) start-near)
+      looked-bind s (λ (t : List ℕ). fields startTable [] t 0) onStart (reach startTable [] s 0) _ 0 (looked-fields s startTable 0 (omega arith) start-near)
       (λ vs n hn ni en.
-      let fe = fields-end startRows [] vs s 0 n (omega arith) en in
+      let fe = fields-end startTable [] vs s 0 n (omega arith) en in
       let f0 = fe .0 in
       let sz = start-size in
       looked-bind s (λ (t : List ℕ). bodyFrom (length t) (headFrom vs) 0 65535 [] t n) onBody (bodyLook (length s) (headFrom vs) 0 65535 s n) _ n
       (body-looked s o (headFrom vs) (length s) length 0 65535 [] n refl (λ t. omega arith) ni)
       λ rs m hm mi em.
-      looked-bind s (λ (t : List ℕ). fields endRows [] t m) (λ (es : List ℕ) (e : ℕ). readZeros rs e) (reach endRows [] s m) _ m
-      (looked-fields s endRows m mi (end-near m))
+      looked-bind s (λ (t : List ℕ). fields endTable [] t m) (λ (es : List ℕ) (e : ℕ). readZeros rs e) (reach endTable [] s m) _ m
+      (looked-fields s endTable m mi (end-near m))
       λ es e he ei ee w.
       zeros-looked rs e a ei
       (sym
@@ -138,7 +138,7 @@ module _ (s : List ℕ) where
       (λ p z. u p cc)
     where
       onBody : List Record → ℕ → List ℕ → Res (List Record)
-      onBody rs m t = bind (fields endRows [] t m) (λ (es : List ℕ) (e : ℕ). readZeros rs e t)
+      onBody rs m t = bind (fields endTable [] t m) (λ (es : List ℕ) (e : ℕ). readZeros rs e t)
 
       onStart : List ℕ → ℕ → List ℕ → Res (List Record)
       onStart vs n t = bind (bodyFrom (length t) (headFrom vs) 0 65535 [] t n) (λ (rs : List Record) (m : ℕ). onBody rs m t)

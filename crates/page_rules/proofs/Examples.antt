@@ -4,17 +4,16 @@ use Prim.Native.Nat.{ℕ}
 use mathlib.Core.Path.{_≡_, refl}
 use mathlib.Core.List.{List, [], _∷_, _++_}
 use Rattle.octets.specs.Octets.{be16At, be32At, begins, standsAt, octets16, octets32}
-use Rattle.answers.specs.declared.Answer.{Answer}
-use Rattle.answers.specs.declared.Answer.the-variants.{Done, Short, BadMark, BadLength, BadStripe, Trailing, NoRoom}
+use Rattle.answers.specs.declared.Answer.the-variants.{Done, BadStripe, Trailing, NoRoom}
 use Rattle.field_rules.specs.Field.{fields}
 use Rattle.jpeg_rules.specs.Marker.{classOf, markerOf}
 use Rattle.jpeg_rules.specs.Walk.{segOf, scanOf, tagOf, frameBodyOf, frameOf, scanStepOf, segmentOf, endOf, turnOf, walkOf}
 use Rattle.jpeg_rules.proofs.Examples as J
 use Rattle.page_rules.specs.declared.Head.{Head}
-use Rattle.page_rules.specs.Kinds.{typeOk, maskCoder, imageCoder, Colour, Fields, imageRecord, maskRecord}
+use Rattle.page_rules.specs.Kinds.{typeOk, maskCoder, imageCoder, Fields}
 use Rattle.page_rules.specs.Grammar.{startOf, optionalOf, colourOf, headOf}
 use Rattle.page_rules.proofs.Many.{head, stripe, coded-mask}
-use Rattle.page_rules.specs.Reading.{startRows, segmentRows, stripeRows, spanOf, walked, layersOf, stripeFrom, bodyFrom, zerosOf, endRows, pageOf, roomOf, readOf}
+use Rattle.page_rules.specs.Reading.{startTable, segmentTable, stripeTable, layersOf, endTable, readOf}
 
 unfoldable pub end : List ℕ
 end = 0xFF ∷ 0xD9 ∷ []
@@ -24,23 +23,23 @@ unfolding end
 page = startOf head ++ (headOf stripe ++ (coded-mask ++ (end ++ end)))
 
 pub read : readOf page 84 ≡ Done 3
-unfolding readOf page startOf headOf colourOf octets16 octets32 startRows segmentRows stripeRows endRows fields maskCoder imageCoder typeOk be16At be32At standsAt begins layersOf
+unfolding readOf page startOf headOf colourOf octets16 octets32 startTable segmentTable stripeTable endTable fields maskCoder imageCoder typeOk be16At be32At standsAt begins layersOf
 read = refl
 
 pub no-room : readOf page 83 ≡ NoRoom
-unfolding readOf page startOf headOf colourOf octets16 octets32 startRows segmentRows stripeRows endRows fields maskCoder imageCoder typeOk be16At be32At standsAt begins layersOf
+unfolding readOf page startOf headOf colourOf octets16 octets32 startTable segmentTable stripeTable endTable fields maskCoder imageCoder typeOk be16At be32At standsAt begins layersOf
 no-room = refl
 
 pub padded : readOf (page ++ (0 ∷ 0 ∷ [])) 84 ≡ Done 3
-unfolding readOf page startOf headOf colourOf octets16 octets32 startRows segmentRows stripeRows endRows fields maskCoder imageCoder typeOk be16At be32At standsAt begins layersOf
+unfolding readOf page startOf headOf colourOf octets16 octets32 startTable segmentTable stripeTable endTable fields maskCoder imageCoder typeOk be16At be32At standsAt begins layersOf
 padded = refl
 
 pub trailing : readOf (page ++ (0 ∷ 7 ∷ [])) 84 ≡ Trailing 71
-unfolding readOf page startOf headOf colourOf octets16 octets32 startRows segmentRows stripeRows endRows fields maskCoder imageCoder typeOk be16At be32At standsAt begins layersOf
+unfolding readOf page startOf headOf colourOf octets16 octets32 startTable segmentTable stripeTable endTable fields maskCoder imageCoder typeOk be16At be32At standsAt begins layersOf
 trailing = refl
 
 pub no-stripe : readOf (startOf head ++ (optionalOf 10 (1 ∷ 2 ∷ []) ++ (end ++ end))) 84 ≡ BadStripe 32
-unfolding readOf end startOf optionalOf octets16 octets32 startRows segmentRows endRows fields maskCoder imageCoder be16At be32At standsAt begins
+unfolding readOf end startOf optionalOf octets16 octets32 startTable segmentTable endTable fields maskCoder imageCoder be16At be32At standsAt begins
 no-stripe = refl
 
 -- ---- a page of each of the six types, and of two different stripes
@@ -98,5 +97,5 @@ pub six-types : (readOf (startOf colours ++ (back-only ++ (end ++ end))) 84 ≡ 
     × (readOf (startOf colours ++ (fore-only ++ (end ++ end))) 84 ≡ Done 3)
     × (readOf (startOf colours ++ (mask-fore ++ (end ++ end))) 84 ≡ Done 3)
     × (readOf (startOf colours ++ (optionalOf 3 (7 ∷ []) ++ (all-three ++ (mask-only ++ (end ++ (end ++ (0 ∷ []))))))) 168 ≡ Done 6)
-unfolding readOf colours back-only mask-only mask-back fore-only mask-fore all-three end startOf headOf colourOf optionalOf octets16 octets32 startRows segmentRows stripeRows endRows fields maskCoder imageCoder typeOk be16At be32At standsAt begins layersOf walkOf turnOf markerOf classOf segOf scanOf tagOf frameOf frameBodyOf scanStepOf segmentOf endOf
+unfolding readOf colours back-only mask-only mask-back fore-only mask-fore all-three end startOf headOf colourOf optionalOf octets16 octets32 startTable segmentTable stripeTable endTable fields maskCoder imageCoder typeOk be16At be32At standsAt begins layersOf walkOf turnOf markerOf classOf segOf scanOf tagOf frameOf frameBodyOf scanStepOf segmentOf endOf
 six-types = (refl, refl, refl, refl, refl, refl)

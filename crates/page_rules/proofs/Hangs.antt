@@ -10,7 +10,7 @@ use lib.Dec.{eqb, ltb, lit≤}
 use borrow.Author.Tests.{ltb-false}
 use Rattle.octets.specs.Octets.{Octets, standsAt}
 use Rattle.octets.proofs.Agree.{stands-agree, Hangs, hangs-from}
-use Rattle.cases.proofs.Cases.{cond-with}
+use Rattle.laws.proofs.Cases.{cond-with}
 use Rattle.answers.specs.declared.Answer.{Answer}
 use Rattle.answers.specs.declared.Answer.the-variants.{Short, BadMark, BadLength, BadVersion, BadMode, BadCoder, BadRes, BadWidth, BadType, BadStripe}
 use Rattle.answers.specs.Answers.{placeOf}
@@ -20,10 +20,10 @@ use Rattle.field_rules.proofs.Looks.{Looks, reach-mark}
 use Rattle.field_rules.proofs.Refused.{fields-end}
 use Rattle.sheet_rules.specs.declared.Record.{Record}
 use Rattle.page_rules.specs.declared.Head.{Head}
-use Rattle.page_rules.specs.declared.Coded.{Coded}
+use Rattle.page_rules.specs.declared.LayerData.{LayerData}
 use Rattle.page_rules.specs.Kinds.{hasBack, hasFore, Fields}
 use Rattle.page_rules.specs.Grammar.{recordsOf}
-use Rattle.page_rules.specs.Reading.{startRows, segmentRows, stripeRows, fieldsFrom, spanOf, walked, layersOf, stripeFrom, bodyFrom, endRows}
+use Rattle.page_rules.specs.Reading.{startTable, segmentTable, stripeTable, fieldsFrom, spanOf, walked, layersOf, stripeFrom, bodyFrom, endTable}
 use Rattle.page_rules.specs.Look.{onward, layerLook, layersLook, stripeLook, bodyLook, beyond}
 use Rattle.page_rules.proofs.Refused.{segment-size}
 use Rattle.page_rules.proofs.Looked.{Near, Looked, looked-ok, looked-no, looked-from, looked-as, looked-then, looked-if, looked-fits, looked-bind, looked-span, looked-fields, looked-walked}
@@ -37,8 +37,8 @@ infixr 4 _&_
 _&_ : {A B : Type 0} → A → B → A × B
 a & b = (a, b)
 
-pub start-near : Looks Near 0 startRows
-unfolding Looks startRows widths placeOf beyond
+pub start-near : Looks Near 0 startTable
+unfolding Looks startTable widths placeOf beyond
 start-near =
     near 0 2 (BadMark 0) refl (lit≤ tt) (lit≤ tt)
     & near 2 2 (BadMark 2) refl (lit≤ tt) (lit≤ tt)
@@ -55,16 +55,16 @@ start-near =
     & tt
 
 module _ (at : ℕ) where
-  segment-near : (k : ℕ) → Looks Near at (segmentRows k)
-  unfolding Looks segmentRows widths placeOf beyond
+  segment-near : (k : ℕ) → Looks Near at (segmentTable k)
+  unfolding Looks segmentTable widths placeOf beyond
   segment-near k =
       near at 2 (BadMark at) refl (lit≤ tt) (lit≤ tt)
       & near (at + 2) 2 (BadLength (at + 2)) refl (lit≤ tt) (lit≤ tt)
       & near (at + 2 + 2) 4 (BadMark (at + 2 + 2)) refl (lit≤ tt) (lit≤ tt)
       & tt
 
-  stripe-near : (hd : Head) (left : ℕ) → Looks Near at (stripeRows hd left)
-  unfolding Looks stripeRows widths placeOf beyond
+  stripe-near : (hd : Head) (left : ℕ) → Looks Near at (stripeTable hd left)
+  unfolding Looks stripeTable widths placeOf beyond
   stripe-near hd left =
       near at 1 (BadType at) refl (lit≤ tt) (lit≤ tt)
       & near (at + 1) 3 (BadStripe (at + 1)) refl (lit≤ tt) (lit≤ tt)
@@ -75,12 +75,12 @@ module _ (at : ℕ) where
       & near (at + 1 + 3 + 3 + 8 + 8 + 4) 4 (BadStripe (at + 1 + 3 + 3 + 8 + 8 + 4)) refl (lit≤ tt) (lit≤ tt)
       & tt
 
-  pub end-near : Looks Near at endRows
-  unfolding Looks endRows placeOf beyond
+  pub end-near : Looks Near at endTable
+  unfolding Looks endTable placeOf beyond
   end-near = near at 2 (BadMark at) refl (lit≤ tt) (lit≤ tt) & tt
 
-segment-far : (s : List ℕ) (at k : ℕ) → Whole (fields (segmentRows k) [] s at) → at + 2 ≤ reach (segmentRows k) [] s at
-unfolding segmentRows
+segment-far : (s : List ℕ) (at k : ℕ) → Whole (fields (segmentTable k) [] s at) → at + 2 ≤ reach (segmentTable k) [] s at
+unfolding segmentTable
 segment-far s at k w = reach-mark (0xFF ∷ 0xED ∷ []) BadMark _ [] s at w
 
 module _ (s : List ℕ) (o : Octets s) (hd : Head) where
@@ -91,14 +91,14 @@ module _ (s : List ℕ) (o : Octets s) (hd : Head) where
   layers-looked k f at =
       looked-bind s (λ (t : List ℕ). spanOf t at (f .maskLength))
       (λ (n p : ℕ) (t : List ℕ).
-      bind (walked t (hd .main) (hasBack (f .type)) p) (λ (back : Coded) (q : ℕ).
-      bind (walked t (hd .main) (hasFore (f .type)) q) (λ (fore : Coded) (e : ℕ). ok (recordsOf hd k f at back fore) e)))
+      bind (walked t (hd .main) (hasBack (f .type)) p) (λ (back : LayerData) (q : ℕ).
+      bind (walked t (hd .main) (hasFore (f .type)) q) (λ (fore : LayerData) (e : ℕ). ok (recordsOf hd k f at back fore) e)))
       (at + f .maskLength) _ at (looked-span s at (f .maskLength)) λ n p hp ip ep.
       looked-bind s (λ (t : List ℕ). walked t (hd .main) (hasBack (f .type)) p)
-      (λ (back : Coded) (q : ℕ) (t : List ℕ). bind (walked t (hd .main) (hasFore (f .type)) q) (λ (fore : Coded) (e : ℕ). ok (recordsOf hd k f at back fore) e))
+      (λ (back : LayerData) (q : ℕ) (t : List ℕ). bind (walked t (hd .main) (hasFore (f .type)) q) (λ (fore : LayerData) (e : ℕ). ok (recordsOf hd k f at back fore) e))
       (layerLook s (hd .main) (hasBack (f .type)) p) _ p (looked-walked s o (hd .main) (hasBack (f .type)) p ip) λ back q hq iq eq.
       looked-bind s (λ (t : List ℕ). walked t (hd .main) (hasFore (f .type)) q)
-      (λ (fore : Coded) (e : ℕ) (t : List ℕ). ok (recordsOf hd k f at back fore) e)
+      (λ (fore : LayerData) (e : ℕ) (t : List ℕ). ok (recordsOf hd k f at back fore) e)
       (layerLook s (hd .main) (hasFore (f .type)) q) _ q (looked-walked s o (hd .main) (hasFore (f .type)) q iq) λ fore e he ie ee w.
       looked-ok s (recordsOf hd k f at back fore) e ie
 
@@ -112,9 +112,9 @@ module _ (s : List ℕ) (o : Octets s) (hd : Head) where
       looked-no s (BadStripe (at + 4)) (at + 8) (at + 8) (omega arith) h
       (record { past = let z : at + 4 < at + 8 = omega arith in z; most = let z : at + 8 ≤ at + 4 + 8 = omega arith in z }))
       (looked-if s (eqb size 37) _ (λ (t : List ℕ). no (BadLength (at + 2))) _ (at + 8) (at + 8)
-      (looked-bind s (λ (t : List ℕ). fields (stripeRows hd left) [] t (at + 8))
+      (looked-bind s (λ (t : List ℕ). fields (stripeTable hd left) [] t (at + 8))
       (λ (vs : List ℕ) (n : ℕ) (t : List ℕ). bind (layersOf hd k (fieldsFrom vs) t n) (λ (rs : List Record) (e : ℕ). go t (fieldsFrom vs .height) rs e))
-      (reach (stripeRows hd left) [] s (at + 8)) _ (at + 8) (looked-fields s (stripeRows hd left) (at + 8) h (stripe-near (at + 8) hd left))
+      (reach (stripeTable hd left) [] s (at + 8)) _ (at + 8) (looked-fields s (stripeTable hd left) (at + 8) h (stripe-near (at + 8) hd left))
       λ vs n hn ni en.
       looked-bind s (λ (t : List ℕ). layersOf hd k (fieldsFrom vs) t n) (λ (rs : List Record) (e : ℕ) (t : List ℕ). go t (fieldsFrom vs .height) rs e)
       (layersLook hd (fieldsFrom vs) s n) _ n (layers-looked k (fieldsFrom vs) n) λ rs e he ie ee.
@@ -157,12 +157,12 @@ module _ (s : List ℕ) (o : Octets s) (hd : Head) where
     abbrev readNext : Bool → List ℕ → Res (List Record)
     readNext end t =
         cond end (cond (eqb k 0) (no (BadStripe at)) (ok acc (at + 2)))
-        (bind (fields (segmentRows k) [] t at) (λ (vs : List ℕ) (n : ℕ). readBehind (eqb (getD vs 4 0) 0x01) vs n t))
+        (bind (fields (segmentTable k) [] t at) (λ (vs : List ℕ) (n : ℕ). readBehind (eqb (getD vs 4 0) 0x01) vs n t))
 
     abbrev lookNext : Bool → ℕ
     lookNext end =
         cond end (at + 2)
-        (onward (fields (segmentRows k) [] s at) (reach (segmentRows k) [] s at) (λ (vs : List ℕ) (n : ℕ). lookBehind (eqb (getD vs 4 0) 0x01) vs n))
+        (onward (fields (segmentTable k) [] s at) (reach (segmentTable k) [] s at) (λ (vs : List ℕ) (n : ℕ). lookBehind (eqb (getD vs 4 0) 0x01) vs n))
 
     next-looked : (end : Bool) → at + 2 ≤ length s → Whole (readNext end s) → Looked (lookNext end) (readNext end) s (at + 2)
     unfolding placeOf beyond
@@ -173,13 +173,13 @@ module _ (s : List ℕ) (o : Octets s) (hd : Head) where
         (record { past = let z : at < at + 2 = omega arith in z; most = let z : at + 2 ≤ at + 8 = omega arith in z }))
         (λ e. looked-ok s acc (at + 2) h)
     next-looked false h w =
-        looked-bind s (λ (t : List ℕ). fields (segmentRows k) [] t at) (λ (vs : List ℕ) (n : ℕ) (t : List ℕ). readBehind (eqb (getD vs 4 0) 0x01) vs n t)
-        (reach (segmentRows k) [] s at) _ (at + 2)
+        looked-bind s (λ (t : List ℕ). fields (segmentTable k) [] t at) (λ (vs : List ℕ) (n : ℕ) (t : List ℕ). readBehind (eqb (getD vs 4 0) 0x01) vs n t)
+        (reach (segmentTable k) [] s at) _ (at + 2)
         (λ v.
-        looked-from s (λ (t : List ℕ). fields (segmentRows k) [] t at) (reach (segmentRows k) [] s at) at (at + 2) (segment-far s at k v)
-        (looked-fields s (segmentRows k) at (omega arith) (segment-near at k) v))
+        looked-from s (λ (t : List ℕ). fields (segmentTable k) [] t at) (reach (segmentTable k) [] s at) at (at + 2) (segment-far s at k v)
+        (looked-fields s (segmentTable k) at (omega arith) (segment-near at k) v))
         (λ vs n hn ni en.
-        let fe = fields-end (segmentRows k) [] vs s at n (omega arith) en in
+        let fe = fields-end (segmentTable k) [] vs s at n (omega arith) en in
         let f0 = fe .0 in
         let sz = segment-size k in
         behind-looked (eqb (getD vs 4 0) 0x01) vs n (omega arith) ni)

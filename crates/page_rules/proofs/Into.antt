@@ -5,19 +5,19 @@ use native.Mathlib.Omega.{arith}
 use mathlib.Core.Path.{_≡_, refl, sym, ap, subst, _∙_}
 use mathlib.Core.Logic.{_⊎_, inl, inr, ⊎-elim}
 use mathlib.Core.Bool.{Bool, true, false, cond}
-use mathlib.Core.List.{List, [], _∷_, _++_}
+use mathlib.Core.List.{List}
 use lib.ListN.{length, take, drop}
 use lib.Dec.{ltb}
 use borrow.Author.Tests.{ltb-false}
 use Rattle.octets.specs.Octets.{Octets, putAt}
 use Rattle.octets.proofs.Laws.{put-back, put-rest, put-length}
-use Rattle.cases.proofs.Cases.{cond-with, clash}
+use Rattle.laws.proofs.Cases.{clash}
 use Rattle.answers.specs.declared.Answer.{Answer}
 use Rattle.answers.specs.declared.Answer.the-variants.{Done, NoRoom, TooLong}
 use Rattle.answers.specs.Answers.{numberOf}
 use Rattle.field_rules.specs.Field.{Res, ok, no}
 use Rattle.sheet_rules.specs.declared.Record.{Record}
-use Rattle.sheet_rules.specs.Record.{recordSize, sheetOf, records, rest}
+use Rattle.sheet_rules.specs.Record.{recordSize, sheetOf, records}
 use Rattle.sheet_rules.specs.Sentences.{Sheet, stripeCount, GoodSheet}
 use Rattle.sheet_rules.proofs.Cut.{sheet-length, sheet-back, sheet-whole}
 use Rattle.page_rules.specs.Grammar.{Page}

@@ -1,36 +1,28 @@
 -- The coded layers of a stripe that were read are those of the grammar.
 -- Assumes nothing.
-use Prim.Native.Nat.{ℕ, zero, suc, _+_, _-_, _≤_, _<_}
+use Prim.Native.Nat.{ℕ, _+_, _-_, _≤_}
 use native.Mathlib.Omega.{arith}
-use mathlib.Core.Path.{_≡_, refl, sym, ap, ap₂, subst, _∙_}
-use mathlib.Core.Logic.{_⊎_, inl, inr, _≢_, ⊎-elim}
-use mathlib.Core.Bool.{Bool, true, false, _&&_, _||_, not, cond, false≢true}
-use mathlib.Core.List.{List, [], _∷_, _++_, append-assoc, append-nil}
-use lib.ListN.{length, getD, take, drop, length-append, length-drop, take-append-drop, replicate}
+use mathlib.Core.Path.{_≡_, refl, sym, ap, subst, _∙_}
+use mathlib.Core.Bool.{Bool, true, false}
+use mathlib.Core.List.{List, [], _++_}
+use lib.ListN.{length, take, drop, length-drop, take-append-drop}
 use lib.Seq.{drop-drop, length-take-le}
-use lib.Dec.{eqb, leb, ltb}
-use borrow.Author.Tests.{eqb-true, eqb-false, ltb-false}
-use Rattle.octets.specs.Octets.{Octets, octets16, standsAt}
-use Rattle.octets.proofs.Laws.{stands-split, octets-drop}
-use Rattle.cases.proofs.Cases.{cond-with, clash}
-use Rattle.cases.proofs.Says.{Says, says-eq, says-le, says-and, says-or}
-use Rattle.answers.specs.declared.Answer.{Answer}
-use Rattle.answers.specs.declared.Answer.the-variants.{Short, BadStripe, BadLength, Trailing}
-use Rattle.field_rules.specs.Field.{Res, ok, no, bind, Row, fields}
-use Rattle.field_rules.specs.Stands.{Stands}
-use Rattle.field_rules.proofs.Laws.{Read, fields-back, mark-apart, end-apart}
+use lib.Dec.{ltb}
+use borrow.Author.Tests.{ltb-false}
+use Rattle.octets.specs.Octets.{Octets}
+use Rattle.laws.proofs.Cases.{cond-with, clash}
+use Rattle.field_rules.specs.Field.{Res, ok, no, bind}
 use Rattle.sheet_rules.specs.declared.Record.{Record}
 use Rattle.jpeg_rules.specs.declared.Walk.{Walk}
 use Rattle.jpeg_rules.specs.declared.Walk.the-variants.{Ends, Refused}
-use Rattle.jpeg_rules.specs.Marker.{within}
 use Rattle.jpeg_rules.specs.Walk.{walkOf}
-use Rattle.jpeg_rules.proofs.Back.{Walked, walk-layer}
+use Rattle.jpeg_rules.proofs.Back.{walk-layer}
 use Rattle.page_rules.specs.declared.Head.{Head}
-use Rattle.page_rules.specs.declared.Coded.{Coded}
-use Rattle.page_rules.specs.declared.Coded.the-variants.{There, Absent}
-use Rattle.page_rules.specs.Kinds.{hasBack, hasMask, hasFore, Fields}
-use Rattle.page_rules.specs.Grammar.{startOf, GoodHead, optionalOf, Optionals, no-more, one-more, headOf, Widths, GoodFields, Image, there, absent, recordsOf, Stripe, Stripes, last, next, Page}
-use Rattle.page_rules.specs.Reading.{startRows, headFrom, identOk, segmentRows, stripeRows, fieldsFrom, spanOf, onWalk, walked, layersOf, stripeFrom, bodyFrom, zerosOf, endRows, pageOf}
+use Rattle.page_rules.specs.declared.LayerData.{LayerData}
+use Rattle.page_rules.specs.declared.LayerData.the-variants.{There, Absent}
+use Rattle.page_rules.specs.Kinds.{hasBack, hasFore, Fields}
+use Rattle.page_rules.specs.Grammar.{Image, there, absent, recordsOf}
+use Rattle.page_rules.specs.Reading.{spanOf, onWalk, walked, layersOf}
 
 pub bind-back : {A B : Type 0} (P : Type 0) (r : Res A) (go : A → ℕ → Res B) (x : B) (n : ℕ) → bind r go ≡ ok x n
     → ((a : A) (m : ℕ) → r ≡ ok a m → go a m ≡ ok x n → P) → P
@@ -46,14 +38,14 @@ span-back s at n m e =
     cond-with (λ x. x ≡ ok m e → (e ≡ at + n) × (at + n ≤ length s)) (ltb (length s) (at + n)) (λ t q. clash cc)
     (λ t q. let z : at + n ≡ e = cc in (sym z, ltb-false (length s) (at + n) t))
 
-pub record ImageBack (s : List ℕ) (main at : ℕ) (b : Bool) (c : Coded) (e : ℕ) : Type 0 where
+pub record ImageBack (s : List ℕ) (main at : ℕ) (b : Bool) (c : LayerData) (e : ℕ) : Type 0 where
   pub octets : List ℕ
   pub image : Image main at b octets c
   pub split : drop at s ≡ octets ++ drop e s
   pub ends : e ≡ at + length octets
   pub inside : e ≤ length s
 
-walk-back : (s : List ℕ) → Octets s → (main at : ℕ) (c : Coded) (e : ℕ) (x : Walk) → walkOf s at main ≡ x → onWalk x at ≡ ok c e → ImageBack s main at true c e
+walk-back : (s : List ℕ) → Octets s → (main at : ℕ) (c : LayerData) (e : ℕ) (x : Walk) → walkOf s at main ≡ x → onWalk x at ≡ ok c e → ImageBack s main at true c e
 unfolding onWalk
 walk-back s o main at c e (Ends n w h r) q z =
     let k = walk-layer s o at main n w h r q in
@@ -72,7 +64,7 @@ walk-back s o main at c e (Ends n w h r) q z =
     }
 walk-back s o main at c e (Refused f) q z = clash cc
 
-pub walked-back : (s : List ℕ) → Octets s → (main at : ℕ) (b : Bool) (c : Coded) (e : ℕ) → at ≤ length s → walked s main b at ≡ ok c e → ImageBack s main at b c e
+pub walked-back : (s : List ℕ) → Octets s → (main at : ℕ) (b : Bool) (c : LayerData) (e : ℕ) → at ≤ length s → walked s main b at ≡ ok c e → ImageBack s main at b c e
 unfolding walked
 walked-back s o main at true c e h q = walk-back s o main at c e (walkOf s at main) refl q
 walked-back s o main at false c e h q =
@@ -90,8 +82,8 @@ pub record LayersBack (hd : Head) (k : ℕ) (f : Fields) (s : List ℕ) (at : �
   pub mask : List ℕ
   pub back : List ℕ
   pub fore : List ℕ
-  pub backIs : Coded
-  pub foreIs : Coded
+  pub backIs : LayerData
+  pub foreIs : LayerData
   pub split : drop at s ≡ mask ++ (back ++ (fore ++ drop e s))
   pub size : length mask ≡ f .maskLength
   pub backThere : Image (hd .main) (at + length mask) (hasBack (f .type)) back backIs
@@ -109,7 +101,7 @@ layers-back hd k f s o at rs e q =
     bind-back (LayersBack hd k f s at rs e) (walked s (hd .main) (hasFore (f .type)) b) _ rs e q4 λ fore c q5 q6.
     made n p back b fore c (span-back s at (f .maskLength) n p q1) q3 q5 q6
   where
-    made : (n p : ℕ) (back : Coded) (b : ℕ) (fore : Coded) (c : ℕ) → (p ≡ at + f .maskLength) × (at + f .maskLength ≤ length s)
+    made : (n p : ℕ) (back : LayerData) (b : ℕ) (fore : LayerData) (c : ℕ) → (p ≡ at + f .maskLength) × (at + f .maskLength ≤ length s)
         → walked s (hd .main) (hasBack (f .type)) p ≡ ok back b → walked s (hd .main) (hasFore (f .type)) b ≡ ok fore c
         → ok (recordsOf hd k f at back fore) c ≡ ok rs e → LayersBack hd k f s at rs e
     made n p back b fore c sp q3 q5 q6 =

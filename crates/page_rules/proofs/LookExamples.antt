@@ -13,7 +13,7 @@ use Rattle.jpeg_rules.specs.Look.{turnLook, walkLook}
 use Rattle.jpeg_rules.proofs.Examples as J
 use Rattle.page_rules.specs.Kinds.{typeOk, maskCoder, imageCoder}
 use Rattle.page_rules.specs.Grammar.{startOf, colourOf, headOf}
-use Rattle.page_rules.specs.Reading.{startRows, segmentRows, stripeRows, layersOf, endRows, pageOf}
+use Rattle.page_rules.specs.Reading.{startTable, segmentTable, stripeTable, layersOf, endTable, pageOf}
 use Rattle.page_rules.specs.Look.{layersLook, pageLook}
 use Rattle.page_rules.proofs.Many.{head}
 use Rattle.page_rules.proofs.Examples.{page, colours, typed}
@@ -23,7 +23,7 @@ pub long-start : ℕ → List ℕ
 long-start ident = 0xFF ∷ 0xD8 ∷ 0xFF ∷ 0xED ∷ 0x00 ∷ 0x11 ∷ 0x4D ∷ 0x52 ∷ 0x43 ∷ ident ∷ 0x00 ∷ []
 
 pub start-length : (pageOf (long-start 0) ≡ no (BadLength 4)) × (pageLook (long-start 0) ≡ 10) × (pageOf (long-start 1) ≡ no (BadMark 6))
-unfolding pageOf pageLook long-start startRows fields reach be16At standsAt begins
+unfolding pageOf pageLook long-start startTable fields reach be16At standsAt begins
 start-length = (refl, refl, refl)
 
 -- a stripe of length 38, likewise
@@ -31,7 +31,7 @@ pub long-stripe : ℕ → List ℕ
 long-stripe ident = startOf head ++ (0xFF ∷ 0xED ∷ 0x00 ∷ 0x26 ∷ 0x4D ∷ 0x52 ∷ 0x43 ∷ ident ∷ 0x00 ∷ [])
 
 pub stripe-length : (pageOf (long-stripe 1) ≡ no (BadLength 24)) × (pageLook (long-stripe 1) ≡ 30) × (pageOf (long-stripe 2) ≡ no (BadMark 26))
-unfolding pageOf pageLook long-stripe startOf octets16 octets32 startRows segmentRows fields reach maskCoder imageCoder be16At be32At standsAt begins
+unfolding pageOf pageLook long-stripe startOf octets16 octets32 startTable segmentTable fields reach maskCoder imageCoder be16At be32At standsAt begins
 stripe-length = (refl, refl, refl)
 
 -- a frame of height 0: decided by the octets up to the end of its body, which ends the layer's first 26 octets
@@ -42,10 +42,10 @@ pub flat-page : List ℕ
 flat-page = startOf colours ++ (headOf (typed 1 0) ++ (J.opening ++ (J.tag200 ++ (flat-frame ++ J.closing))))
 
 pub frame-body : (pageOf flat-page ≡ no (BadLayer 82)) × (pageLook flat-page ≡ 87) × (pageOf (take 86 flat-page) ≡ no (Short 81))
-unfolding pageOf pageLook flat-page flat-frame colours typed J.opening J.tag200 J.closing startOf headOf colourOf octets16 octets32 startRows segmentRows stripeRows fields reach maskCoder imageCoder typeOk be16At be32At standsAt begins layersOf layersLook walkOf walkLook turnOf turnLook markerOf classOf segOf scanOf tagOf frameOf frameBodyOf scanStepOf segmentOf endOf
+unfolding pageOf pageLook flat-page flat-frame colours typed J.opening J.tag200 J.closing startOf headOf colourOf octets16 octets32 startTable segmentTable stripeTable fields reach maskCoder imageCoder typeOk be16At be32At standsAt begins layersOf layersLook walkOf walkLook turnOf turnLook markerOf classOf segOf scanOf tagOf frameOf frameBodyOf scanStepOf segmentOf endOf
 frame-body = (refl, refl, refl)
 
 -- an octet that is not zero behind the end
 pub trailing-octet : (pageOf (page ++ (0 ∷ 7 ∷ 7 ∷ [])) ≡ no (Trailing 71)) × (pageLook (page ++ (0 ∷ 7 ∷ 7 ∷ [])) ≡ 72) × (pageOf (page ++ (0 ∷ 0 ∷ 7 ∷ [])) ≡ no (Trailing 72))
-unfolding pageOf pageLook page startOf headOf colourOf octets16 octets32 startRows segmentRows stripeRows endRows fields reach maskCoder imageCoder typeOk be16At be32At standsAt begins layersOf layersLook
+unfolding pageOf pageLook page startOf headOf colourOf octets16 octets32 startTable segmentTable stripeTable endTable fields reach maskCoder imageCoder typeOk be16At be32At standsAt begins layersOf layersLook
 trailing-octet = (refl, refl, refl)

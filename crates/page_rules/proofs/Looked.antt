@@ -14,11 +14,11 @@ use lib.Dec.{ltb}
 use borrow.Author.Tests.{ltb-false, le-ltb}
 use Rattle.octets.specs.Octets.{Octets}
 use Rattle.octets.proofs.Agree.{Hangs, hangs-none, hangs-as, hangs-from, hangs-then}
-use Rattle.cases.proofs.Cases.{cond-with, clash}
+use Rattle.laws.proofs.Cases.{cond-with, clash}
 use Rattle.answers.specs.declared.Answer.{Answer}
 use Rattle.answers.specs.declared.Answer.the-variants.{Short, BadLength, BadRes, BadLayer}
 use Rattle.answers.specs.Answers.{placeOf}
-use Rattle.field_rules.specs.Field.{Res, ok, no, bind, Row, fields, reach}
+use Rattle.field_rules.specs.Field.{Res, ok, no, bind, Field, fields, reach}
 use Rattle.field_rules.proofs.Hangs.{Whole, fields-hang}
 use Rattle.field_rules.proofs.Looks.{reach-end, Looks, fields-look}
 use Rattle.jpeg_rules.specs.declared.Fault.{Fault}
@@ -26,10 +26,10 @@ use Rattle.jpeg_rules.specs.declared.Fault.the-variants as F
 use Rattle.jpeg_rules.specs.declared.Walk.{Walk}
 use Rattle.jpeg_rules.specs.declared.Walk.the-variants.{Ends, Refused}
 use Rattle.jpeg_rules.specs.Walk.{walkOf}
-use Rattle.jpeg_rules.specs.Look.{walkLook, beyond as faultBeyond}
+use Rattle.jpeg_rules.specs.Look.{walkLook, walkBeyond}
 use Rattle.jpeg_rules.proofs.Within.{placeOf as placeOfFault}
 use Rattle.jpeg_rules.proofs.Hangs as J
-use Rattle.page_rules.specs.declared.Coded.the-variants.{There, Absent}
+use Rattle.page_rules.specs.declared.LayerData.the-variants.{There, Absent}
 use Rattle.page_rules.specs.Reading.{spanOf, faultOf, onWalk, walked}
 use Rattle.page_rules.specs.Look.{onward, layerLook, beyond}
 
@@ -110,8 +110,8 @@ module _ (s : List ℕ) where
 
 -- ---- the steps
 
-near-fault : (f : Fault) (look : ℕ) → (placeOfFault f < look) × (look ≤ placeOfFault f + faultBeyond f) → Near (faultOf f) look
-unfolding placeOfFault faultBeyond faultOf placeOf beyond
+near-fault : (f : Fault) (look : ℕ) → (placeOfFault f < look) × (look ≤ placeOfFault f + walkBeyond f) → Near (faultOf f) look
+unfolding placeOfFault walkBeyond faultOf placeOf beyond
 near-fault (F.Short p) look k = let a = k .0 in let b = k .1 in record { past = a; most = b }
 near-fault (F.BadLength p) look k = let a = k .0 in let b = k .1 in record { past = a; most = let z : look ≤ p + 6 = omega arith in z }
 near-fault (F.BadRes p) look k = let a = k .0 in let b = k .1 in record { past = a; most = b }
@@ -124,13 +124,13 @@ module _ (s : List ℕ) where
       cond-with (λ (x : Res ℕ). Whole x → Looked (at + n) (λ (t : List ℕ). spanOf t at n) s at) (ltb (length s) (at + n)) (λ l w. absurd (w at refl)) λ l w.
       looked-fits s (Short at) (λ (t : List ℕ). ok n (at + n)) (at + n) (at + n) at (omega arith) (looked-ok s n (at + n) (ltb-false (length s) (at + n) l))
 
-  pub looked-fields : (rows : List Row) (at : ℕ) → at ≤ length s → Looks Near at rows → Whole (fields rows [] s at)
-      → Looked (reach rows [] s at) (λ (t : List ℕ). fields rows [] t at) s at
-  looked-fields rows at h k w =
+  pub looked-fields : (table : List Field) (at : ℕ) → at ≤ length s → Looks Near at table → Whole (fields table [] s at)
+      → Looked (reach table [] s at) (λ (t : List ℕ). fields table [] t at) s at
+  looked-fields table at h k w =
       record {
-        hangs = fields-hang rows [] s at h w;
-        ends = λ x n e. reach-end x s n rows [] at e;
-        near = λ a e. fields-look Near s a (λ p z. w p (e ∙ ap no z)) rows [] at k e;
+        hangs = fields-hang table [] s at h w;
+        ends = λ x n e. reach-end x s n table [] at e;
+        near = λ a e. fields-look Near s a (λ p z. w p (e ∙ ap no z)) table [] at k e;
       }
 
   module _ (o : Octets s) (main : ℕ) where

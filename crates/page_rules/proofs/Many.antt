@@ -2,18 +2,17 @@
 -- Assumes nothing.
 use Prim.Native.Nat.{ℕ, zero, suc, _+_, _-_, _*_, _≤_, _<_}
 use native.Mathlib.Omega.{arith}
-use mathlib.Core.Path.{_≡_, refl, sym, ap, _∙_}
-use mathlib.Core.Logic.{_⊎_, inl, inr, _≢_, ⊎-elim}
-use mathlib.Core.Bool.{Bool, true, false, false≢true}
+use mathlib.Core.Path.{_≡_, refl, sym}
+use mathlib.Core.Logic.{inl, inr, ⊎-elim}
+use mathlib.Core.Bool.{true, false, false≢true}
 use mathlib.Core.List.{List, [], _∷_, _++_}
-use lib.ListN.{length, length-append, replicate}
+use lib.ListN.{length, replicate}
 use lib.Dec.{lit<, lit≤}
 use Rattle.sheet_rules.specs.declared.Record.{Record}
 use Rattle.page_rules.specs.declared.Head.{Head}
-use Rattle.page_rules.specs.declared.Coded.{Coded}
-use Rattle.page_rules.specs.declared.Coded.the-variants.{There, Absent}
-use Rattle.page_rules.specs.Kinds.{hasBack, hasMask, hasFore, Colour, Fields}
-use Rattle.page_rules.specs.Grammar.{startOf, GoodHead, no-more, headOf, Widths, GoodFields, Image, there, absent, recordsOf, Stripe, Stripes, last, next, Page}
+use Rattle.page_rules.specs.declared.LayerData.the-variants.{Absent}
+use Rattle.page_rules.specs.Kinds.{Fields}
+use Rattle.page_rules.specs.Grammar.{startOf, GoodHead, no-more, headOf, absent, recordsOf, Stripe, Stripes, last, next, Page}
 
 -- four by two at 200: only a mask, by coder 4, of five octets; white and black around it
 abbrev pub head : Head

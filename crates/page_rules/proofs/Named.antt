@@ -1,22 +1,21 @@
 -- In every coded record of a page's sheet start and length lie within the page and name the layer's octets.
 -- Assumes nothing.
-use Prim.Native.Nat.{ℕ, zero, suc, _+_, _-_, _≤_, _<_}
+use Prim.Native.Nat.{ℕ, _+_, _-_, _≤_}
 use native.Mathlib.Omega.{arith}
 use mathlib.Core.Path.{_≡_, refl, sym, ap, subst, _∙_}
-use mathlib.Core.Logic.{_⊎_, inl, inr, _≢_, ⊎-elim}
+use mathlib.Core.Logic.{_⊎_, inl, inr, ⊎-elim}
 use mathlib.Core.Bool.{Bool, true, false, cond}
-use mathlib.Core.List.{List, [], _∷_, _++_, append-assoc, List·Memᴰ, List·Memᴰ·cases-cons, List·Memᴰ·not-nil, List·Memᴰ·append-cases}
+use mathlib.Core.List.{List, _∷_, _++_, append-assoc, List·Memᴰ·cases-cons, List·Memᴰ·not-nil, List·Memᴰ·append-cases}
 use lib.ListN.{length, take, drop, length-append, length-drop, replicate}
 use lib.Seq.{take-at}
-use Rattle.octets.specs.Octets.{octets16, octets32}
 use Rattle.octets.proofs.Laws.{drop-next}
 use Rattle.sheet_rules.specs.declared.Record.{Record}
-use Rattle.sheet_rules.specs.Sentences.{Among, Coded as CodedRecord}
+use Rattle.sheet_rules.specs.Sentences.{Among, Coded}
 use Rattle.jpeg_rules.specs.Grammar.{Layer}
 use Rattle.page_rules.specs.declared.Head.{Head}
-use Rattle.page_rules.specs.declared.Coded.{Coded}
-use Rattle.page_rules.specs.declared.Coded.the-variants.{There, Absent}
-use Rattle.page_rules.specs.Kinds.{hasBack, hasMask, hasFore, Colour, Fields, imageRecord, maskRecord}
+use Rattle.page_rules.specs.declared.LayerData.{LayerData}
+use Rattle.page_rules.specs.Kinds.{hasBack, hasMask, hasFore, imageRecord, maskRecord}
+use Rattle.sheet_rules.specs.declared.Colour.{Colour}
 use Rattle.page_rules.specs.Grammar.{startOf, headOf, Image, there, absent, Stripe, Stripes, last, next, Page}
 use Rattle.page_rules.proofs.There.{length-start}
 use Rattle.page_rules.proofs.Accepted.{length-head}
@@ -26,14 +25,14 @@ pub record Named (main : ℕ) (s : List ℕ) (r : Record) : Type 0 where
   pub inside : r .start + r .len ≤ length s
   pub layer : (r .layer ≡ 2) ⊎ Layer main (take (r .len) (drop (r .start) s)) (r .width) (r .height) (r .res)
 
-image-named : (hd : Head) (s : List ℕ) (k l at : ℕ) (base : Colour) (x y : ℕ) (b : Bool) (o rest : List ℕ) (c : Coded) → Image (hd .main) at b o c
-    → drop at s ≡ o ++ rest → at + length o ≤ length s → CodedRecord (imageRecord hd k l base x y c) → Named (hd .main) s (imageRecord hd k l base x y c)
+image-named : (hd : Head) (s : List ℕ) (k l at : ℕ) (base : Colour) (x y : ℕ) (b : Bool) (o rest : List ℕ) (c : LayerData) → Image (hd .main) at b o c
+    → drop at s ≡ o ++ rest → at + length o ≤ length s → Coded (imageRecord hd k l base x y c) → Named (hd .main) s (imageRecord hd k l base x y c)
 unfolding imageRecord
 image-named hd s k l at base x y b o rest c (there {w = w} {h = h} {r = r} z) e i d =
     record { inside = i; layer = inr (subst (λ (q : List ℕ). Layer (hd .main) q w h r) (sym (ap (take (length o)) e ∙ take-at o rest (length o) refl)) z) }
 image-named hd s k l at base x y b o rest c absent e i d = absurd (d refl)
 
-mask-named : (hd : Head) (s : List ℕ) (k height at n : ℕ) (b : Bool) → at + n ≤ length s → CodedRecord (maskRecord hd k height (cond b (hd .mask) 0) (cond b at 0) n)
+mask-named : (hd : Head) (s : List ℕ) (k height at n : ℕ) (b : Bool) → at + n ≤ length s → Coded (maskRecord hd k height (cond b (hd .mask) 0) (cond b at 0) n)
     → Named (hd .main) s (maskRecord hd k height (cond b (hd .mask) 0) (cond b at 0) n)
 unfolding maskRecord
 mask-named hd s k height at n true i d = record { inside = i; layer = inl refl }
@@ -63,7 +62,7 @@ module _ (hd : Head) (s : List ℕ) (k left at : ℕ) (l tail : List ℕ) (heigh
       let f = length-head (z .fields) in
       omega arith
 
-  stripe-named : (r : Record) → Among r rs → CodedRecord r → Named (hd .main) s r
+  stripe-named : (r : Record) → Among r rs → Coded r → Named (hd .main) s r
   stripe-named r m =
       let q = sizes in
       let n = z .size in
@@ -71,17 +70,17 @@ module _ (hd : Head) (s : List ℕ) (k left at : ℕ) (l tail : List ℕ) (heigh
       let m′ = subst (λ (x : List Record). Among r x) (z .records) m in
       ⊎-elim
       (λ (y : r ≡ imageRecord hd k 1 (f .back) (f .backX) (f .backY) (z .backIs)).
-      subst (λ (x : Record). CodedRecord x → Named (hd .main) s x) (sym y)
+      subst (λ (x : Record). Coded x → Named (hd .main) s x) (sym y)
       (image-named hd s k 1 (at + 39 + length (z .mask)) (f .back) (f .backX) (f .backY) (hasBack (f .type)) (z .back) (z .fore ++ tail) (z .backIs) (z .backThere) at-back (omega arith)))
       (λ m2.
       ⊎-elim
       (λ (y : r ≡ maskRecord hd k (f .height) (cond (hasMask (f .type)) (hd .mask) 0) (cond (hasMask (f .type)) (at + 39) 0) (f .maskLength)).
-      subst (λ (x : Record). CodedRecord x → Named (hd .main) s x) (sym y)
+      subst (λ (x : Record). Coded x → Named (hd .main) s x) (sym y)
       (mask-named hd s k (f .height) (at + 39) (f .maskLength) (hasMask (f .type)) (omega arith)))
       (λ m3.
       ⊎-elim
       (λ (y : r ≡ imageRecord hd k 3 (f .fore) (f .foreX) (f .foreY) (z .foreIs)).
-      subst (λ (x : Record). CodedRecord x → Named (hd .main) s x) (sym y)
+      subst (λ (x : Record). Coded x → Named (hd .main) s x) (sym y)
       (image-named hd s k 3 (at + 39 + length (z .mask) + length (z .back)) (f .fore) (f .foreX) (f .foreY) (hasFore (f .type)) (z .fore) tail (z .foreIs) (z .foreThere) at-fore (omega arith)))
       (λ m4. absurd (List·Memᴰ·not-nil m4))
       (List·Memᴰ·cases-cons m3))
@@ -89,7 +88,7 @@ module _ (hd : Head) (s : List ℕ) (k left at : ℕ) (l tail : List ℕ) (heigh
       (List·Memᴰ·cases-cons m′)
 
 stripes-named : {hd : Head} {k left at : ℕ} {l : List ℕ} {rs : List Record} → Stripes hd k left at l rs → (s tail : List ℕ) → drop at s ≡ l ++ tail → at ≤ length s
-    → (r : Record) → Among r rs → CodedRecord r → Named (hd .main) s r
+    → (r : Record) → Among r rs → Coded r → Named (hd .main) s r
 stripes-named (last some) s tail e h r m = absurd (List·Memᴰ·not-nil m)
 stripes-named {hd} {k} {left} {at} (next {l = l} {more = more} {rs = rs} {sr = sr} height few z rest) s tail e h r m =
     let e′ : drop at s ≡ l ++ (more ++ tail) = e ∙ append-assoc l more tail in
@@ -98,7 +97,7 @@ stripes-named {hd} {k} {left} {at} (next {l = l} {more = more} {rs = rs} {sr = s
     (λ m2. stripes-named rest s tail (drop-next s l (more ++ tail) at e′) (omega arith) r m2)
     (List·Memᴰ·append-cases rs m)
 
-pub page-named : (s : List ℕ) (rs : List Record) (p : Page s rs) (r : Record) → Among r rs → CodedRecord r → Named (p .head .main) s r
+pub page-named : (s : List ℕ) (rs : List Record) (p : Page s rs) (r : Record) → Among r rs → Coded r → Named (p .head .main) s r
 page-named s rs p r m =
     let close : List ℕ = 0xFF ∷ 0xD9 ∷ 0xFF ∷ 0xD9 ∷ replicate (p .zeros) 0 in
     let ls = length-start (p .head) in

@@ -1,19 +1,18 @@
 -- A page that is refused is refused with a number that reading can give, at a place within the page.
 -- Assumes nothing.
-use Prim.Native.Nat.{ℕ, zero, suc, _+_, _-_, _≤_, _<_}
+use Prim.Native.Nat.{ℕ, zero, suc, _+_, _-_, _≤_}
 use native.Mathlib.Omega.{arith}
-use mathlib.Core.Path.{_≡_, refl, sym, ap, subst, _∙_}
-use mathlib.Core.Bool.{Bool, true, false, cond}
+use mathlib.Core.Path.{_≡_, refl, ap, subst}
+use mathlib.Core.Bool.{Bool, true, false}
 use mathlib.Core.List.{List, [], _∷_, _++_}
 use lib.ListN.{length, getD, drop, length-drop}
 use lib.Dec.{eqb, ltb, lit≤}
-use borrow.Author.Tests.{ltb-false}
 use Rattle.octets.specs.Octets.{Octets, standsAt}
-use Rattle.cases.proofs.Cases.{cond-with, clash}
+use Rattle.laws.proofs.Cases.{cond-with, clash}
 use Rattle.answers.specs.declared.Answer.{Answer}
 use Rattle.answers.specs.declared.Answer.the-variants.{Short, BadLength, BadRes, BadLayer, BadStripe, Trailing}
 use Rattle.answers.specs.Answers.{numberOf, placeOf}
-use Rattle.field_rules.specs.Field.{Res, ok, no, bind, Row, fields, widths}
+use Rattle.field_rules.specs.Field.{Res, ok, no, bind, Field, fields}
 use Rattle.field_rules.proofs.Refused.{Names, fields-refused, rowsSize, fields-end}
 use Rattle.sheet_rules.specs.declared.Record.{Record}
 use Rattle.jpeg_rules.specs.declared.Fault.{Fault}
@@ -23,13 +22,10 @@ use Rattle.jpeg_rules.specs.declared.Walk.the-variants.{Ends, Refused}
 use Rattle.jpeg_rules.specs.Walk.{walkOf}
 use Rattle.jpeg_rules.proofs.Within.{walk-within, placeOf as placeOfFault}
 use Rattle.page_rules.specs.declared.Head.{Head}
-use Rattle.page_rules.specs.declared.Coded.{Coded}
-use Rattle.page_rules.specs.declared.Coded.the-variants.{There, Absent}
 use Rattle.page_rules.specs.Kinds.{hasBack, hasFore, Fields}
-use Rattle.page_rules.specs.Grammar.{recordsOf}
 use Rattle.page_rules.proofs.Back.{body-back}
 use Rattle.page_rules.proofs.Layers.{span-back, walked-back, layers-back}
-use Rattle.page_rules.specs.Reading.{startRows, headFrom, segmentRows, stripeRows, fieldsFrom, spanOf, faultOf, onWalk, walked, layersOf, stripeFrom, bodyFrom, zerosOf, endRows, pageOf}
+use Rattle.page_rules.specs.Reading.{startTable, headFrom, segmentTable, stripeTable, fieldsFrom, spanOf, faultOf, onWalk, walked, layersOf, stripeFrom, bodyFrom, zerosOf, endTable, pageOf}
 
 -- one of the numbers 1 to 12, at a place of a page of so many octets
 pub record Refusal (n : ℕ) (a : Answer) : Type 0 where
@@ -43,8 +39,8 @@ unfolding bind
 bind-refused P (ok x m) go a e bad good = good x m refl e
 bind-refused P (no b) go a e bad good = let z : b ≡ a = cc in bad (ap no z)
 
-pub segment-size : (k : ℕ) → rowsSize (segmentRows k) ≡ 8
-unfolding segmentRows rowsSize
+pub segment-size : (k : ℕ) → rowsSize (segmentTable k) ≡ 8
+unfolding segmentTable rowsSize
 segment-size k = refl
 
 module _ (s : List ℕ) (a : Answer) where
@@ -55,8 +51,8 @@ module _ (s : List ℕ) (a : Answer) where
   told : {A : Type 0} (b : Answer) → Refusal (length s) b → _≡_ {A = Res A} (no b) (no a) → Refusal (length s) a
   told b q e = let z : b ≡ a = cc in subst (Refusal (length s)) z q
 
-  start-named : Names (λ b. Refusal (length s) b) (length s) startRows
-  unfolding Names startRows numberOf placeOf
+  start-named : Names (λ b. Refusal (length s) b) (length s) startTable
+  unfolding Names startTable numberOf placeOf
   start-named = (
     λ p h. record { least = lit≤ tt; most = lit≤ tt; place = h },
     (
@@ -95,8 +91,8 @@ module _ (s : List ℕ) (a : Answer) where
     ),
   )
 
-  segment-named : (k : ℕ) → Names (λ b. Refusal (length s) b) (length s) (segmentRows k)
-  unfolding Names segmentRows numberOf placeOf
+  segment-named : (k : ℕ) → Names (λ b. Refusal (length s) b) (length s) (segmentTable k)
+  unfolding Names segmentTable numberOf placeOf
   segment-named k = (
     λ p h. record { least = lit≤ tt; most = lit≤ tt; place = h },
     (
@@ -108,8 +104,8 @@ module _ (s : List ℕ) (a : Answer) where
     ),
   )
 
-  stripe-named : (hd : Head) (left : ℕ) → Names (λ b. Refusal (length s) b) (length s) (stripeRows hd left)
-  unfolding Names stripeRows numberOf placeOf
+  stripe-named : (hd : Head) (left : ℕ) → Names (λ b. Refusal (length s) b) (length s) (stripeTable hd left)
+  unfolding Names stripeTable numberOf placeOf
   stripe-named hd left = (
     λ p h. record { least = lit≤ tt; most = lit≤ tt; place = h },
     (
@@ -133,15 +129,15 @@ module _ (s : List ℕ) (a : Answer) where
     ),
   )
 
-  end-named : Names (λ b. Refusal (length s) b) (length s) endRows
-  unfolding Names endRows numberOf placeOf
+  end-named : Names (λ b. Refusal (length s) b) (length s) endTable
+  unfolding Names endTable numberOf placeOf
   end-named = (
     λ p h. record { least = lit≤ tt; most = lit≤ tt; place = h },
     tt,
   )
 
-  table-refused : (rows : List Row) → Names (λ b. Refusal (length s) b) (length s) rows → (at : ℕ) → at ≤ length s → fields rows [] s at ≡ no a → Refusal (length s) a
-  table-refused rows k at h e = fields-refused (λ b. Refusal (length s) b) s short a rows k [] at h e
+  table-refused : (table : List Field) → Names (λ b. Refusal (length s) b) (length s) table → (at : ℕ) → at ≤ length s → fields table [] s at ≡ no a → Refusal (length s) a
+  table-refused table k at h e = fields-refused (λ b. Refusal (length s) b) s short a table k [] at h e
 
   -- ---- coded data
 
@@ -191,8 +187,8 @@ module _ (s : List ℕ) (a : Answer) where
         (λ t e. told (BadStripe (at + 4)) (record { least = lit≤ tt; most = lit≤ tt; place = let u : at + 4 ≤ length s = omega arith in u }) e) λ t.
         cond-with (λ x. x ≡ no a → Refusal (length s) a) (eqb size 37)
         (λ u q.
-        bind-refused (Refusal (length s) a) (fields (stripeRows hd left) [] s (at + 8)) _ a q (λ e. table-refused (stripeRows hd left) (stripe-named hd left) (at + 8) h e) λ vs p q1 q2.
-        let fe = fields-end (stripeRows hd left) [] vs s (at + 8) p h q1 in
+        bind-refused (Refusal (length s) a) (fields (stripeTable hd left) [] s (at + 8)) _ a q (λ e. table-refused (stripeTable hd left) (stripe-named hd left) (at + 8) h e) λ vs p q1 q2.
+        let fe = fields-end (stripeTable hd left) [] vs s (at + 8) p h q1 in
         bind-refused (Refusal (length s) a) (layersOf hd k (fieldsFrom vs) s p) _ a q2 (λ e. layers-refused hd k (fieldsFrom vs) p (fe .1) e) λ rs e q3 q4.
         let y = layers-back hd k (fieldsFrom vs) s o p rs e q3 in
         rec hd (suc k) (left - fieldsFrom vs .height) (acc ++ rs) e (y .inside) q4)
@@ -206,8 +202,8 @@ module _ (s : List ℕ) (a : Answer) where
         cond-with (λ x. x ≡ no a → Refusal (length s) a) (standsAt s at (0xFF ∷ 0xD9 ∷ []))
         (λ u. cond-with (λ x. x ≡ no a → Refusal (length s) a) (eqb k 0) (λ z e. told (BadStripe at) (record { least = lit≤ tt; most = lit≤ tt; place = h }) e) (λ z e. clash cc))
         (λ u q.
-        bind-refused (Refusal (length s) a) (fields (segmentRows k) [] s at) _ a q (λ e. table-refused (segmentRows k) (segment-named k) at h e) λ vs p q1.
-        let fe = fields-end (segmentRows k) [] vs s at p h q1 in
+        bind-refused (Refusal (length s) a) (fields (segmentTable k) [] s at) _ a q (λ e. table-refused (segmentTable k) (segment-named k) at h e) λ vs p q1.
+        let fe = fields-end (segmentTable k) [] vs s at p h q1 in
         let sz = segment-size k in
         let f0 = fe .0 in
         let f1 = fe .1 in
@@ -230,12 +226,12 @@ module _ (s : List ℕ) (a : Answer) where
     pub page-refused : pageOf s ≡ no a → Refusal (length s) a
     unfolding pageOf
     page-refused q =
-        bind-refused (Refusal (length s) a) (fields startRows [] s 0) _ a q (λ e. table-refused startRows start-named 0 (omega arith) e) λ vs p q1 q2.
-        let fe = fields-end startRows [] vs s 0 p (omega arith) q1 in
+        bind-refused (Refusal (length s) a) (fields startTable [] s 0) _ a q (λ e. table-refused startTable start-named 0 (omega arith) e) λ vs p q1 q2.
+        let fe = fields-end startTable [] vs s 0 p (omega arith) q1 in
         bind-refused (Refusal (length s) a) (bodyFrom (length s) (headFrom vs) 0 65535 [] s p) _ a q2 (λ e. body-refused (length s) (headFrom vs) 0 65535 [] p (fe .1) e) λ rs m q3 q4.
         let b = body-back (headFrom vs) s rs m o (length s) 0 65535 [] p (fe .1) (omega arith) (omega arith) q3 in
-        bind-refused (Refusal (length s) a) (fields endRows [] s m) _ a q4 (λ e. table-refused endRows end-named m (b .inside) e) λ es e q5 q6.
-        let ge = fields-end endRows [] es s m e (b .inside) q5 in
+        bind-refused (Refusal (length s) a) (fields endTable [] s m) _ a q4 (λ e. table-refused endTable end-named m (b .inside) e) λ es e q5 q6.
+        let ge = fields-end endTable [] es s m e (b .inside) q5 in
         let g1 = ge .1 in
         let dl = length-drop e s in
         bind-refused (Refusal (length s) a) (zerosOf (drop e s) e) _ a q6 (λ z. zeros-refused (drop e s) e (omega arith) z) λ z end q7 q8. clash cc

@@ -4,12 +4,12 @@ use Prim.Native.Nat.{ℕ, _≤_, _<_}
 use native.Mathlib.Omega.{arith}
 use mathlib.Core.Path.{_≡_, refl, sym, ap, _∙_}
 use mathlib.Core.Logic.{_⊎_, inl, inr, _≢_, ⊎-elim}
-use mathlib.Core.Bool.{Bool, true, false, _&&_, _||_, not, cond, false≢true}
+use mathlib.Core.Bool.{Bool, true, false, _||_, not, cond, false≢true}
 use mathlib.Core.List.{List, [], _∷_}
-use lib.Dec.{eqb, leb}
+use lib.Dec.{eqb}
 use borrow.Author.Tests.{eqb-true}
-use Rattle.cases.proofs.Says.{Says, says-eq, says-le, says-true, says-and, says-or, says-not, says-as, says-false}
-use Rattle.jpeg_rules.specs.Marker.{among}
+use Rattle.laws.proofs.Says.{Says, says-eq, says-le, says-true, says-and, says-or, says-not, says-as, says-false}
+use Rattle.laws.specs.Tests.{among}
 use Rattle.page_rules.specs.declared.Head.{Head}
 use Rattle.page_rules.specs.Kinds.{maskCoder, imageCoder, hasBack, hasMask, hasFore, typeOk, offsetOk}
 use Rattle.page_rules.specs.Grammar.{MaskCoder, ImageCoder, TypeOf}

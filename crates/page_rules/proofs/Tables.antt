@@ -1,26 +1,22 @@
 -- The segments of the page by their tables: a start of page, a segment's beginning and a stripe's fields stand there exactly as the grammar has them.
 -- Assumes nothing.
-use Prim.Native.Nat.{ℕ, zero, suc, _+_, _-_, _/_, _%_, _≤_, _<_}
+use Prim.Native.Nat.{ℕ, _+_, _≤_, _<_}
 use native.Mathlib.Omega.{arith}
-use mathlib.Core.Path.{_≡_, refl, sym, ap, subst, _∙_}
-use mathlib.Core.Logic.{_⊎_, inl, inr, _≢_, ⊎-elim}
-use mathlib.Core.Bool.{Bool, true, false, _&&_, _||_, not, cond, false≢true}
+use mathlib.Core.Path.{_≡_, refl}
+use mathlib.Core.Logic.{inl, inr}
+use mathlib.Core.Bool.{true}
 use mathlib.Core.List.{List, [], _∷_, _++_}
-use lib.ListN.{length, getD}
-use lib.Dec.{eqb, leb, lit<}
+use lib.Dec.{lit<}
 use Rattle.octets.specs.Octets.{octets16, octets32}
-use Rattle.cases.proofs.Says.{Says, says-eq, says-le, says-and, says-or, says-not, says-else, says-false}
+use Rattle.laws.proofs.Says.{says-le, says-and}
 use Rattle.sheet_rules.specs.Sentences.{Listed}
-use Rattle.sheet_rules.specs.Judge.{listed}
 use Rattle.sheet_rules.proofs.New.{says-listed}
-use Rattle.answers.specs.declared.Answer.{Answer}
-use Rattle.field_rules.specs.Field.{Width, one, two, four, bound, put, Sized, Row, mark, val, again}
+use Rattle.field_rules.specs.Field.{one, two, four, put, Sized}
 use Rattle.field_rules.specs.Stands.{Stands, at-end, marked, valued, held}
-use Rattle.jpeg_rules.specs.Marker.{within, among}
 use Rattle.page_rules.specs.declared.Head.{Head}
-use Rattle.page_rules.specs.Kinds.{maskCoder, imageCoder, hasBack, hasMask, hasFore, typeOk, Colour, Fields, offsetOk}
+use Rattle.page_rules.specs.Kinds.{maskCoder, imageCoder, hasBack, hasFore, Fields}
 use Rattle.page_rules.specs.Grammar.{startOf, GoodHead, colourOf, headOf, Widths, GoodFields}
-use Rattle.page_rules.specs.Reading.{startRows, identOk, segmentRows, stripeRows}
+use Rattle.page_rules.specs.Reading.{startTable, identOk, segmentTable, stripeTable}
 use Rattle.page_rules.proofs.Rules.{says-mask, says-image, says-type, says-offset, says-mask-length, mask-small, image-small}
 
 -- ---- bounds that the rules give
@@ -38,8 +34,8 @@ listed-small n (inr (inr (inr (inr (inr e))))) = omega arith
 abbrev pub startNumbers : Head → List ℕ
 startNumbers hd = 16 ∷ 0 ∷ 1 ∷ hd .mask ∷ hd .image ∷ hd .main ∷ hd .width ∷ []
 
-pub start-stands : (hd : Head) → GoodHead hd → Stands startRows [] (startNumbers hd) (startOf hd)
-unfolding startRows startOf octets16 octets32 put Sized
+pub start-stands : (hd : Head) → GoodHead hd → Stands startTable [] (startNumbers hd) (startOf hd)
+unfolding startTable startOf octets16 octets32 put Sized
 start-stands hd g =
     let w = g .width in
     marked
@@ -63,8 +59,8 @@ segmentNumbers size n = size ∷ 0x4D ∷ 0x52 ∷ 0x43 ∷ n ∷ []
 unfoldable pub segmentOf : ℕ → ℕ → List ℕ
 segmentOf size n = 0xFF ∷ 0xED ∷ octets16 size ++ (0x4D ∷ 0x52 ∷ 0x43 ∷ n ∷ [])
 
-pub segment-stands : (k size n : ℕ) → 6 ≤ size → size < 65536 → n < 256 → identOk k n ≡ true → Stands (segmentRows k) [] (segmentNumbers size n) (segmentOf size n)
-unfolding segmentRows segmentOf octets16 put Sized
+pub segment-stands : (k size n : ℕ) → 6 ≤ size → size < 65536 → n < 256 → identOk k n ≡ true → Stands (segmentTable k) [] (segmentNumbers size n) (segmentOf size n)
+unfolding segmentTable segmentOf octets16 put Sized
 segment-stands k size n l h b i =
     marked
     (valued {ws = two ∷ []} (size ∷ []) (h, tt) (says-le 6 size .shown l)
@@ -89,8 +85,8 @@ pub head-is : (f : Fields) → headOf f ≡ segmentOf 37 0x01 ++ fieldsOf f
 unfolding headOf segmentOf octets16 fieldsOf
 head-is f = refl
 
-pub stripe-stands : (hd : Head) (left : ℕ) (f : Fields) → left ≤ 65535 → Widths f → GoodFields hd left f → Stands (stripeRows hd left) [] (stripeNumbers f) (fieldsOf f)
-unfolding stripeRows fieldsOf colourOf octets32 octets16 put Sized
+pub stripe-stands : (hd : Head) (left : ℕ) (f : Fields) → left ≤ 65535 → Widths f → GoodFields hd left f → Stands (stripeTable hd left) [] (stripeNumbers f) (fieldsOf f)
+unfolding stripeTable fieldsOf colourOf octets32 octets16 put Sized
 stripe-stands hd left f l w g =
     let h = g .height in
     valued {ws = one ∷ []} (f .type ∷ []) (w .type, tt) (says-type hd (f .type) .shown ((g .type, g .maskCoder), g .imageCoder))

@@ -1,36 +1,27 @@
 -- A page of the grammar is read, with its sheet.
 -- Assumes nothing.
-use Prim.Native.Nat.{ℕ, zero, suc, _+_, _-_, _*_, _≤_, _<_}
+use Prim.Native.Nat.{ℕ, zero, suc, _+_, _-_, _≤_, _<_}
 use native.Mathlib.Omega.{arith}
-use native.Mathlib.Numerals.{add-one}
 use mathlib.Core.Path.{_≡_, refl, sym, ap, ap₂, subst, _∙_}
-use mathlib.Core.Logic.{_⊎_, inl, inr, _≢_, ⊎-elim}
-use mathlib.Core.Bool.{Bool, true, false, _&&_, _||_, not, cond}
+use mathlib.Core.Bool.{Bool, true, false, _&&_}
 use mathlib.Core.List.{List, [], _∷_, _++_, append-assoc, append-nil}
-use lib.ListN.{length, getD, take, drop, length-append, length-drop, replicate, length-replicate}
-use lib.Seq.{drop-length}
-use lib.Dec.{eqb, leb, ltb, lit<, lit≤}
-use borrow.Author.Tests.{eq-eqb, ne-eqb, le-ltb, le-leb}
+use lib.ListN.{length, drop, length-append, length-drop, replicate, length-replicate}
+use lib.Dec.{leb, lit<, lit≤}
+use borrow.Author.Tests.{ne-eqb, le-ltb, le-leb}
 use Rattle.octets.specs.Octets.{octets16, octets32, begins, standsAt}
-use Rattle.octets.proofs.Laws.{drop-next, length-octets16, length-octets32}
-use Rattle.cases.proofs.Says.{Says, says-eq, says-le, says-and, says-or}
-use Rattle.answers.specs.declared.Answer.{Answer}
-use Rattle.answers.specs.declared.Answer.the-variants.{Short, BadStripe, BadLength, Trailing}
-use Rattle.field_rules.specs.Field.{Res, ok, no, bind, Row, fields}
-use Rattle.field_rules.specs.Stands.{Stands, at-end, marked}
+use Rattle.octets.proofs.Laws.{drop-next, length-octets16}
+use Rattle.field_rules.specs.Field.{Res, ok, bind, fields}
+use Rattle.field_rules.specs.Stands.{at-end, marked}
 use Rattle.field_rules.proofs.Laws.{fields-there}
 use Rattle.sheet_rules.specs.declared.Record.{Record}
 use Rattle.jpeg_rules.specs.declared.Walk.{Walk}
-use Rattle.jpeg_rules.specs.declared.Walk.the-variants.{Ends, Refused}
-use Rattle.jpeg_rules.specs.Grammar.{Layer}
-use Rattle.jpeg_rules.specs.Walk.{walkOf}
 use Rattle.jpeg_rules.proofs.There.{layer-walk}
 use Rattle.page_rules.specs.declared.Head.{Head}
-use Rattle.page_rules.specs.declared.Coded.{Coded}
-use Rattle.page_rules.specs.declared.Coded.the-variants.{There, Absent}
-use Rattle.page_rules.specs.Kinds.{hasBack, hasMask, hasFore, Colour, Fields}
-use Rattle.page_rules.specs.Grammar.{startOf, GoodHead, optionalOf, Optionals, no-more, one-more, colourOf, headOf, Image, there, absent, recordsOf, Stripe, Stripes, last, next, Page}
-use Rattle.page_rules.specs.Reading.{startRows, headFrom, identOk, segmentRows, stripeRows, fieldsFrom, spanOf, onWalk, walked, layersOf, stripeFrom, bodyFrom, zerosOf, endRows, pageOf}
+use Rattle.page_rules.specs.declared.LayerData.{LayerData}
+use Rattle.page_rules.specs.declared.LayerData.the-variants.{There, Absent}
+use Rattle.page_rules.specs.Kinds.{hasBack, hasFore, Fields}
+use Rattle.page_rules.specs.Grammar.{startOf, optionalOf, Optionals, no-more, one-more, colourOf, Image, there, absent, recordsOf, Stripe, Stripes, last, next, Page}
+use Rattle.page_rules.specs.Reading.{startTable, headFrom, identOk, segmentTable, stripeTable, spanOf, onWalk, walked, layersOf, bodyFrom, zerosOf, endTable, pageOf}
 use Rattle.page_rules.proofs.Tables.{startNumbers, start-stands, segmentNumbers, segmentOf, segment-stands, stripeNumbers, fieldsOf, head-is, stripe-stands}
 
 -- ---- coded data
@@ -39,7 +30,7 @@ span-there : (s : List ℕ) (at n : ℕ) → at + n ≤ length s → spanOf s at
 unfolding spanOf
 span-there s at n h = simp (le-ltb (length s) (at + n) h)
 
-walked-there : (s : List ℕ) (main at : ℕ) (b : Bool) (l r : List ℕ) (c : Coded) → Image main at b l c → drop at s ≡ l ++ r → walked s main b at ≡ ok c (at + length l)
+walked-there : (s : List ℕ) (main at : ℕ) (b : Bool) (l r : List ℕ) (c : LayerData) → Image main at b l c → drop at s ≡ l ++ r → walked s main b at ≡ ok c (at + length l)
 unfolding walked
 walked-there s main at b l r c (there {w = w} {h = h} {r = res} y) e =
     let q = layer-walk s at main l r w h res y e in
@@ -47,7 +38,7 @@ walked-there s main at b l r c (there {w = w} {h = h} {r = res} y) e =
     ap (λ (x : Walk). onWalk x at) q ∙ ap (λ (n : ℕ). ok (There at n w h res) (at + length l)) z
 walked-there s main at b l r c absent e = let z : at ≡ at + 0 = omega arith in ap (ok Absent) z
 
-module _ (hd : Head) (k : ℕ) (f : Fields) (s : List ℕ) (at : ℕ) (mask back fore r : List ℕ) (b c : Coded) where
+module _ (hd : Head) (k : ℕ) (f : Fields) (s : List ℕ) (at : ℕ) (mask back fore r : List ℕ) (b c : LayerData) where
   layers-there : drop at s ≡ mask ++ (back ++ (fore ++ r)) → at ≤ length s → length mask ≡ f .maskLength
       → Image (hd .main) (at + length mask) (hasBack (f .type)) back b → Image (hd .main) (at + length mask + length back) (hasFore (f .type)) fore c
       → layersOf hd k f s at ≡ ok (recordsOf hd k f at b c) (at + length mask + length back + length fore)
@@ -88,7 +79,7 @@ length-fields f = refl
 -- a segment's beginning is read
 module _ (s : List ℕ) (at k size n : ℕ) (r : List ℕ) (e : drop at s ≡ segmentOf size n ++ r) (h : at ≤ length s)
     (six : 6 ≤ size) (small : size < 65536) (octet : n < 256) (ident : identOk k n ≡ true) where
-  segment-read : fields (segmentRows k) [] s at ≡ ok (segmentNumbers size n) (at + 8)
+  segment-read : fields (segmentTable k) [] s at ≡ ok (segmentNumbers size n) (at + 8)
   segment-read = fields-there (segment-stands k size n six small octet ident) s r at h e ∙ ap (λ (j : ℕ). ok (segmentNumbers size n) (at + j)) (length-segment size n)
 
   segment-room : at + 8 ≤ length s
@@ -160,7 +151,7 @@ module _ (fuel : ℕ) (hd : Head) (k left : ℕ) (acc : List Record) (s : List �
   room-ident =
       segment-room s at k 37 0x01 (fieldsOf (z .fields) ++ (z .mask ++ (z .back ++ (z .fore ++ r)))) opened-stripe h (lit≤ tt) (lit< tt) (lit< tt) refl
 
-  fields-read : fields (stripeRows hd left) [] s (at + 8) ≡ ok (stripeNumbers (z .fields)) (at + 39)
+  fields-read : fields (stripeTable hd left) [] s (at + 8) ≡ ok (stripeNumbers (z .fields)) (at + 39)
   fields-read =
       let n = length-fields (z .fields) in
       let q : at + 8 + length (fieldsOf (z .fields)) ≡ at + 39 = omega arith in
@@ -269,8 +260,8 @@ pub length-start : (hd : Head) → length (startOf hd) ≡ 22
 unfolding startOf octets16 octets32
 length-start hd = refl
 
-end-read : (s r : List ℕ) (m : ℕ) → m ≤ length s → drop m s ≡ 0xFF ∷ 0xD9 ∷ r → fields endRows [] s m ≡ ok [] (m + 2)
-unfolding endRows
+end-read : (s r : List ℕ) (m : ℕ) → m ≤ length s → drop m s ≡ 0xFF ∷ 0xD9 ∷ r → fields endTable [] s m ≡ ok [] (m + 2)
+unfolding endTable
 end-read s r m h e = fields-there (marked at-end) s r m h e
 
 pub page-there : (s : List ℕ) (rs : List Record) → Page s rs → pageOf s ≡ ok rs (length s)
@@ -287,14 +278,14 @@ page-there s rs p =
     let a4 = length-replicate {A = ℕ} (p .zeros) 0 in
     let a5 = ap length (p .octets) in
     let size : length s ≡ 22 + length o + length l + 4 + p .zeros = omega arith in
-    let r1 : fields startRows [] s 0 ≡ ok (startNumbers hd) 22 =
+    let r1 : fields startTable [] s 0 ≡ ok (startNumbers hd) 22 =
     fields-there (start-stands hd (p .good)) s (o ++ (l ++ close)) 0 (omega arith) (p .octets) ∙ ap (ok (startNumbers hd)) (let y : 0 + length (startOf hd) ≡ 22 = omega arith in y) in
     let d1 : drop 22 s ≡ o ++ (l ++ close) = ap (λ (j : ℕ). drop j s) (let y : 22 ≡ 0 + length (startOf hd) = omega arith in y) ∙ drop-next s (startOf hd) (o ++ (l ++ close)) 0 (p .octets) in
     let r2 : bodyFrom (length s) hd 0 65535 [] s 22 ≡ ok rs (22 + length o + length l + 2) =
     body-there hd s (p .optional) 22 l (0xFF ∷ 0xD9 ∷ replicate (p .zeros) 0) rs (length s) (p .striped) d1 (omega arith) (omega arith) in
     let m : ℕ = 22 + length o + length l + 2 in
     let d2 : drop m s ≡ 0xFF ∷ 0xD9 ∷ replicate (p .zeros) 0 = closing o l (p .zeros) d1 in
-    let r3 : fields endRows [] s m ≡ ok [] (m + 2) = end-read s (replicate (p .zeros) 0) m (omega arith) d2 in
+    let r3 : fields endTable [] s m ≡ ok [] (m + 2) = end-read s (replicate (p .zeros) 0) m (omega arith) d2 in
     let d3 : drop (m + 2) s ≡ replicate (p .zeros) 0 = drop-next s (0xFF ∷ 0xD9 ∷ []) (replicate (p .zeros) 0) m d2 in
     let r4 : zerosOf (drop (m + 2) s) (m + 2) ≡ ok 0 (length s) =
     ap (λ (x : List ℕ). zerosOf x (m + 2)) d3 ∙ zeros-there (p .zeros) (m + 2) ∙ ap (ok 0) (let y : m + 2 + p .zeros ≡ length s = omega arith in y) in
@@ -302,11 +293,11 @@ page-there s rs p =
     (λ (x : Res (List ℕ)).
     bind x (λ (vs : List ℕ) (n : ℕ).
     bind (bodyFrom (length s) (headFrom vs) 0 65535 [] s n) (λ (rs : List Record) (m : ℕ).
-    bind (fields endRows [] s m) (λ (es : List ℕ) (e : ℕ). bind (zerosOf (drop e s) e) (λ (z end : ℕ). ok rs end)))))
+    bind (fields endTable [] s m) (λ (es : List ℕ) (e : ℕ). bind (zerosOf (drop e s) e) (λ (z end : ℕ). ok rs end)))))
     r1
     ∙ ap
     (λ (x : Res (List Record)).
-    bind x (λ (rs : List Record) (m : ℕ). bind (fields endRows [] s m) (λ (es : List ℕ) (e : ℕ). bind (zerosOf (drop e s) e) (λ (z end : ℕ). ok rs end))))
+    bind x (λ (rs : List Record) (m : ℕ). bind (fields endTable [] s m) (λ (es : List ℕ) (e : ℕ). bind (zerosOf (drop e s) e) (λ (z end : ℕ). ok rs end))))
     r2
     ∙ ap (λ (x : Res (List ℕ)). bind x (λ (es : List ℕ) (e : ℕ). bind (zerosOf (drop e s) e) (λ (z end : ℕ). ok rs end))) r3
     ∙ ap (λ (x : Res ℕ). bind x (λ (z end : ℕ). ok rs end)) r4

@@ -18,9 +18,10 @@ use Rattle.sheet_rules.specs.declared.Record.{Record}
 use Rattle.sheet_rules.specs.Sentences.{Listed}
 use Rattle.jpeg_rules.specs.Grammar.{Layer}
 use Rattle.page_rules.specs.declared.Head.{Head}
-use Rattle.page_rules.specs.declared.Coded.{Coded}
-use Rattle.page_rules.specs.declared.Coded.the-variants.{There, Absent}
-use Rattle.page_rules.specs.Kinds.{hasBack, hasMask, hasFore, Colour, Fields, imageRecord, maskRecord}
+use Rattle.page_rules.specs.declared.LayerData.{LayerData}
+use Rattle.page_rules.specs.declared.LayerData.the-variants.{There, Absent}
+use Rattle.page_rules.specs.Kinds.{hasBack, hasMask, hasFore, Fields, imageRecord, maskRecord}
+use Rattle.sheet_rules.specs.declared.Colour.{Colour}
 
 -- ---- the start of page (9.2.1): length 16, version 00, mode 01; then the termination number (9.2.3)
 
@@ -85,12 +86,12 @@ pub record GoodFields (hd : Head) (left : ℕ) (f : Fields) : Type 0 where
   pub mask : (hasMask (f .type) ≡ true → f .maskLength ≡ 0 → ⊥) × (hasMask (f .type) ≡ false → f .maskLength ≡ 0)
 
 -- an image layer that the type names is a JPEG layer at a place of the page; one that it does not name has no octets
-pub data Image (main at : ℕ) : Bool → List ℕ → Coded → Type 0 where
+pub data Image (main at : ℕ) : Bool → List ℕ → LayerData → Type 0 where
   there : {l : List ℕ} {w h r : ℕ} → Layer main l w h r → Image main at true l (There at (length l) w h r)
   absent : Image main at false [] Absent
 
 -- the records of a stripe: the mask's data stands behind the head, then the background's, then the foreground's
-abbrev pub recordsOf : Head → ℕ → Fields → ℕ → Coded → Coded → List Record
+abbrev pub recordsOf : Head → ℕ → Fields → ℕ → LayerData → LayerData → List Record
 recordsOf hd k f at back fore =
     imageRecord hd k 1 (f .back) (f .backX) (f .backY) back
     ∷ maskRecord hd k (f .height) (cond (hasMask (f .type)) (hd .mask) 0) (cond (hasMask (f .type)) at 0) (f .maskLength)
@@ -101,8 +102,8 @@ pub record Stripe (hd : Head) (k left at : ℕ) (l : List ℕ) (height : ℕ) (r
   pub mask : List ℕ
   pub back : List ℕ
   pub fore : List ℕ
-  pub backIs : Coded
-  pub foreIs : Coded
+  pub backIs : LayerData
+  pub foreIs : LayerData
   pub octets : l ≡ headOf fields ++ (mask ++ (back ++ fore))
   pub widths : Widths fields
   pub good : GoodFields hd left fields

@@ -1,18 +1,18 @@
 -- What a page and a stripe say of themselves: coders, types, and the records of a stripe's three layers (01, "The page, Mode 1").
 --
---   Head             what the start of page says: the coder octets, the main resolution, the page's width
 --   typeOk hd t      the type is taken, and names no layer whose coder octet is 0
---   Coded            where a layer's coded data stands, and the size and resolution that it says of itself; or no coded data
---   recordsOf        the three records of a stripe
-use Prim.Native.Nat.{ℕ, _+_, _/_, _%_}
-use mathlib.Core.Bool.{Bool, true, false, _&&_, _||_, not}
-use mathlib.Core.List.{List, [], _∷_}
+--   Fields           the fields of a stripe
+--   imageRecord      the record of an image layer; maskRecord: of layer 2
+use Prim.Native.Nat.{ℕ, _/_, _%_}
+use mathlib.Core.Bool.{Bool, _&&_, _||_, not}
+use mathlib.Core.List.{[], _∷_}
 use lib.Dec.{eqb, leb}
-use Rattle.jpeg_rules.specs.Marker.{among}
+use Rattle.laws.specs.Tests.{among}
+use Rattle.sheet_rules.specs.declared.Colour.{Colour}
 use Rattle.sheet_rules.specs.declared.Record.{Record}
 use Rattle.page_rules.specs.declared.Head.{Head}
-use Rattle.page_rules.specs.declared.Coded.{Coded}
-use Rattle.page_rules.specs.declared.Coded.the-variants.{There, Absent}
+use Rattle.page_rules.specs.declared.LayerData.{LayerData}
+use Rattle.page_rules.specs.declared.LayerData.the-variants.{There, Absent}
 
 -- mask coder octet 0, 1, 2, 4 or 8; image coder octet 0 or 1
 unfoldable pub maskCoder : ℕ → Bool
@@ -38,11 +38,6 @@ unfolding among
 typeOk hd t =
     among (1 ∷ 2 ∷ 3 ∷ 4 ∷ 6 ∷ 7 ∷ []) t && (not (hasMask t) || not (eqb (hd .mask) 0)) && (not (hasBack t || hasFore t) || not (eqb (hd .image) 0))
 
-pub record Colour : Type 0 where
-  pub c0 : ℕ
-  pub c1 : ℕ
-  pub c2 : ℕ
-
 -- the fields of a stripe, 9.3 in its order
 pub record Fields : Type 0 where
   pub type : ℕ
@@ -62,7 +57,7 @@ offsetOk present x y = not present || leb x 65535 && leb y 65535
 -- ---- records
 
 -- an image layer: its own size and resolution where it is coded, and else nothing but its base colour
-unfoldable pub imageRecord : Head → ℕ → ℕ → Colour → ℕ → ℕ → Coded → Record
+unfoldable pub imageRecord : Head → ℕ → ℕ → Colour → ℕ → ℕ → LayerData → Record
 imageRecord hd k l base x y (There start size width height res) =
     record {
       stripe = k;

@@ -20,14 +20,14 @@ use lib.ListN.{length, getD, drop}
 use lib.Dec.{eqb}
 use Rattle.octets.specs.Octets.{standsAt}
 use Rattle.answers.specs.declared.Answer.{Answer}
-use Rattle.answers.specs.declared.Answer.the-variants.{Done, Short, BadMark, BadLength, BadVersion, BadMode, BadCoder, BadRes, BadWidth, BadType, BadStripe, BadLayer, Trailing, NoRoom, BadSheet, BadPlane, Mismatch, BadLine, TooLong}
+use Rattle.answers.specs.Answers.{numberOf}
 use Rattle.field_rules.specs.Field.{Res, ok, no, fields, reach}
 use Rattle.sheet_rules.specs.declared.Record.{Record}
 use Rattle.jpeg_rules.specs.Look.{walkLook}
 use Rattle.page_rules.specs.declared.Head.{Head}
-use Rattle.page_rules.specs.declared.Coded.{Coded}
+use Rattle.page_rules.specs.declared.LayerData.{LayerData}
 use Rattle.page_rules.specs.Kinds.{hasBack, hasFore, Fields}
-use Rattle.page_rules.specs.Reading.{startRows, headFrom, segmentRows, stripeRows, fieldsFrom, spanOf, walked, layersOf, bodyFrom, endRows}
+use Rattle.page_rules.specs.Reading.{startTable, headFrom, segmentTable, stripeTable, fieldsFrom, spanOf, walked, layersOf, bodyFrom, endTable}
 
 abbrev pub onward : {A : Type 0} → Res A → ℕ → (A → ℕ → ℕ) → ℕ
 onward (ok x n) looked go = go x n
@@ -42,8 +42,8 @@ unfoldable pub layersLook : Head → Fields → List ℕ → ℕ → ℕ
 unfolding layerLook
 layersLook hd f s at =
     onward (spanOf s at (f .maskLength)) (at + f .maskLength) (λ (n p : ℕ).
-    onward (walked s (hd .main) (hasBack (f .type)) p) (layerLook s (hd .main) (hasBack (f .type)) p) (λ (back : Coded) (q : ℕ).
-    onward (walked s (hd .main) (hasFore (f .type)) q) (layerLook s (hd .main) (hasFore (f .type)) q) (λ (fore : Coded) (e : ℕ). e)))
+    onward (walked s (hd .main) (hasBack (f .type)) p) (layerLook s (hd .main) (hasBack (f .type)) p) (λ (back : LayerData) (q : ℕ).
+    onward (walked s (hd .main) (hasFore (f .type)) q) (layerLook s (hd .main) (hasFore (f .type)) q) (λ (fore : LayerData) (e : ℕ). e)))
 
 -- a 65th stripe is faulted at its ident, and a wrong length judged behind the ident: both show at the ident's end
 unfoldable pub stripeLook : Head → ℕ → ℕ → ℕ → List ℕ → ℕ → (ℕ → List Record → ℕ → ℕ) → ℕ
@@ -51,7 +51,7 @@ unfolding layersLook
 stripeLook hd k left size s at go =
     cond (eqb k 64) (at + 8)
     (cond (eqb size 37)
-    (onward (fields (stripeRows hd left) [] s (at + 8)) (reach (stripeRows hd left) [] s (at + 8)) (λ (vs : List ℕ) (n : ℕ).
+    (onward (fields (stripeTable hd left) [] s (at + 8)) (reach (stripeTable hd left) [] s (at + 8)) (λ (vs : List ℕ) (n : ℕ).
     onward (layersOf hd k (fieldsFrom vs) s n) (layersLook hd (fieldsFrom vs) s n) (λ (rs : List Record) (e : ℕ). go (fieldsFrom vs .height) rs e)))
     (at + 8))
 
@@ -62,7 +62,7 @@ unfolding stripeLook
 bodyLook zero hd k left s at = at
 bodyLook (suc fuel) hd k left s at =
     cond (standsAt s at (0xFF ∷ 0xD9 ∷ [])) (at + 2)
-    (onward (fields (segmentRows k) [] s at) (reach (segmentRows k) [] s at) (λ (vs : List ℕ) (n : ℕ).
+    (onward (fields (segmentTable k) [] s at) (reach (segmentTable k) [] s at) (λ (vs : List ℕ) (n : ℕ).
     cond (eqb (getD vs 4 0) 0x01)
     (stripeLook hd k left (getD vs 0 0) s at (λ (height : ℕ) (rs : List Record) (e : ℕ). bodyLook fuel hd (suc k) (left - height) s e))
     (onward (spanOf s n (getD vs 0 0 - 6)) (n + (getD vs 0 0 - 6)) (λ (m e : ℕ). bodyLook fuel hd k left s e))))
@@ -75,30 +75,16 @@ zerosLook (x ∷ l) at = cond (eqb x 0) (zerosLook l (suc at)) (at + 1)
 unfoldable pub pageLook : List ℕ → ℕ
 unfolding bodyLook zerosLook
 pageLook s =
-    onward (fields startRows [] s 0) (reach startRows [] s 0) (λ (vs : List ℕ) (n : ℕ).
+    onward (fields startTable [] s 0) (reach startTable [] s 0) (λ (vs : List ℕ) (n : ℕ).
     onward (bodyFrom (length s) (headFrom vs) 0 65535 [] s n) (bodyLook (length s) (headFrom vs) 0 65535 s n) (λ (rs : List Record) (m : ℕ).
-    onward (fields endRows [] s m) (reach endRows [] s m) (λ (es : List ℕ) (e : ℕ). zerosLook (drop e s) e)))
+    onward (fields endTable [] s m) (reach endTable [] s m) (λ (es : List ℕ) (e : ℕ). zerosLook (drop e s) e)))
 
 -- ---- from the place of a refusal on: the widest field of its kind, of a length up to the end of the ident, and in a JPEG body up to its end
 
+-- by number, from BadMark to Trailing; of Short nothing is said, and reading gives none of the others a place
+abbrev widest : List ℕ
+widest = 4 ∷ 6 ∷ 1 ∷ 1 ∷ 1 ∷ 65525 ∷ 4 ∷ 1 ∷ 8 ∷ 65532 ∷ 1 ∷ []
+
 unfoldable pub beyond : Answer → ℕ
-beyond (BadMark p) = 4
-beyond (BadLength p) = 6
-beyond (BadVersion p) = 1
-beyond (BadMode p) = 1
-beyond (BadCoder p) = 1
-beyond (BadRes p) = 65525
-beyond (BadWidth p) = 4
-beyond (BadType p) = 1
-beyond (BadStripe p) = 8
-beyond (BadLayer p) = 65532
-beyond (Trailing p) = 1
--- of Short nothing is said, and reading gives none of the others a place
-beyond (Short p) = 0
-beyond (Done n) = 0
-beyond NoRoom = 0
-beyond (BadSheet p) = 0
-beyond (BadPlane p) = 0
-beyond (Mismatch p) = 0
-beyond BadLine = 0
-beyond TooLong = 0
+unfolding numberOf
+beyond a = getD (0 ∷ 0 ∷ widest) (numberOf a) 0

@@ -1,8 +1,8 @@
 -- Reading a Mode 1 page (01, "The page, Mode 1" and "Numbers that a call returns"): the first fault in page order, or the records of its sheet.
 --
---   startRows        the start of page segment and the termination, field by field
---   segmentRows      a segment behind them: FF ED, a length of at least 6, and an ident that may stand there
---   stripeRows       the fields of a stripe behind its ident
+--   startTable        the start of page segment and the termination, field by field
+--   segmentTable      a segment behind them: FF ED, a length of at least 6, and an ident that may stand there
+--   stripeTable       the fields of a stripe behind its ident
 --   walked           an image layer where the type names one
 --   layersOf         the coded layers of a stripe, and its records
 --   bodyFrom         optional segments and stripes, up to the first FF D9
@@ -12,14 +12,14 @@
 --   Reads s d a e    the call's promise: it answers a, and the buffer d is then e
 use Prim.Native.Nat.{ℕ, zero, suc, _+_, _-_, _*_}
 use mathlib.Core.Path.{_≡_}
-use mathlib.Core.Bool.{Bool, true, false, _&&_, _||_, not, cond}
+use mathlib.Core.Bool.{Bool, true, _&&_, _||_, not, cond}
 use mathlib.Core.List.{List, [], _∷_, _++_}
 use lib.ListN.{length, getD, drop}
 use lib.Dec.{eqb, leb, ltb}
 use Rattle.octets.specs.Octets.{putAt, standsAt}
 use Rattle.answers.specs.declared.Answer.{Answer}
 use Rattle.answers.specs.declared.Answer.the-variants.{Done, Short, BadMark, BadLength, BadVersion, BadMode, BadCoder, BadRes, BadWidth, BadType, BadStripe, BadLayer, Trailing, NoRoom, TooLong}
-use Rattle.field_rules.specs.Field.{Res, ok, no, bind, Width, one, two, four, Row, mark, val, again, fields}
+use Rattle.field_rules.specs.Field.{Res, ok, no, bind, one, two, four, Field, mark, val, again, fields}
 use Rattle.sheet_rules.specs.declared.Record.{Record}
 use Rattle.sheet_rules.specs.Record.{recordSize, sheetOf}
 use Rattle.sheet_rules.specs.Judge.{listed}
@@ -27,12 +27,12 @@ use Rattle.jpeg_rules.specs.declared.Fault.{Fault}
 use Rattle.jpeg_rules.specs.declared.Fault.the-variants as F
 use Rattle.jpeg_rules.specs.declared.Walk.{Walk}
 use Rattle.jpeg_rules.specs.declared.Walk.the-variants.{Ends, Refused}
-use Rattle.jpeg_rules.specs.Marker.{within}
+use Rattle.laws.specs.Tests.{within}
 use Rattle.jpeg_rules.specs.Walk.{walkOf}
 use Rattle.page_rules.specs.declared.Head.{Head}
-use Rattle.page_rules.specs.declared.Coded.{Coded}
-use Rattle.page_rules.specs.declared.Coded.the-variants.{There, Absent}
-use Rattle.page_rules.specs.Kinds.{maskCoder, imageCoder, hasBack, hasMask, hasFore, typeOk, Colour, Fields, offsetOk}
+use Rattle.page_rules.specs.declared.LayerData.{LayerData}
+use Rattle.page_rules.specs.declared.LayerData.the-variants.{There, Absent}
+use Rattle.page_rules.specs.Kinds.{maskCoder, imageCoder, hasBack, hasMask, hasFore, typeOk, Fields, offsetOk}
 use Rattle.page_rules.specs.Grammar.{recordsOf}
 
 -- a rule on a field of one number
@@ -44,8 +44,8 @@ any before vs = true
 
 -- ---- the start of page: the ident is judged before the length that depends on it, a length below 6 at once
 
-unfoldable pub startRows : List Row
-startRows =
+unfoldable pub startTable : List Field
+startTable =
     mark (0xFF ∷ 0xD8 ∷ []) BadMark
     ∷ mark (0xFF ∷ 0xED ∷ []) BadMark
     ∷ val (two ∷ []) (is (leb 6)) BadLength
@@ -72,8 +72,8 @@ identOk k n = eqb n 0x01 || eqb k 0 && within 0x03 0xFE n
 abbrev pub mrc : (ℕ → Bool) → List ℕ → List ℕ → Bool
 mrc good before vs = eqb (getD vs 0 0) 0x4D && eqb (getD vs 1 0) 0x52 && eqb (getD vs 2 0) 0x43 && good (getD vs 3 0)
 
-unfoldable pub segmentRows : ℕ → List Row
-segmentRows k =
+unfoldable pub segmentTable : ℕ → List Field
+segmentTable k =
     mark (0xFF ∷ 0xED ∷ []) BadMark
     ∷ val (two ∷ []) (is (leb 6)) BadLength
     ∷ val (one ∷ one ∷ one ∷ one ∷ []) (mrc (identOk k)) BadMark
@@ -84,8 +84,8 @@ segmentRows k =
 abbrev pub maskLengthOk : ℕ → ℕ → Bool
 maskLengthOk t n = cond (hasMask t) (not (eqb n 0)) (eqb n 0)
 
-unfoldable pub stripeRows : Head → ℕ → List Row
-stripeRows hd left =
+unfoldable pub stripeTable : Head → ℕ → List Field
+stripeTable hd left =
     val (one ∷ []) (is (typeOk hd)) BadType
     ∷ val (one ∷ one ∷ one ∷ []) any BadStripe
     ∷ val (one ∷ one ∷ one ∷ []) any BadStripe
@@ -122,12 +122,12 @@ faultOf (F.BadLength p) = BadLength p
 faultOf (F.BadRes p) = BadRes p
 faultOf (F.BadLayer p) = BadLayer p
 
-unfoldable pub onWalk : Walk → ℕ → Res Coded
+unfoldable pub onWalk : Walk → ℕ → Res LayerData
 unfolding faultOf
 onWalk (Ends next w h r) at = ok (There at (next - at) w h r) next
 onWalk (Refused f) at = no (faultOf f)
 
-unfoldable pub walked : List ℕ → ℕ → Bool → ℕ → Res Coded
+unfoldable pub walked : List ℕ → ℕ → Bool → ℕ → Res LayerData
 unfolding onWalk
 walked s main present at = cond present (onWalk (walkOf s at main) at) (ok Absent at)
 
@@ -137,8 +137,8 @@ unfoldable pub layersOf : Head → ℕ → Fields → List ℕ → ℕ → Res (
 unfolding bind spanOf walked
 layersOf hd k f s at =
     bind (spanOf s at (f .maskLength)) (λ (n p : ℕ).
-    bind (walked s (hd .main) (hasBack (f .type)) p) (λ (back : Coded) (q : ℕ).
-    bind (walked s (hd .main) (hasFore (f .type)) q) (λ (fore : Coded) (e : ℕ).
+    bind (walked s (hd .main) (hasBack (f .type)) p) (λ (back : LayerData) (q : ℕ).
+    bind (walked s (hd .main) (hasFore (f .type)) q) (λ (fore : LayerData) (e : ℕ).
     ok (recordsOf hd k f at back fore) e)))
 
 -- a 65th stripe is faulted at its ident; then the length, then the fields and the layers
@@ -147,7 +147,7 @@ unfolding bind layersOf
 stripeFrom hd k left size s at go =
     cond (eqb k 64) (no (BadStripe (at + 4)))
     (cond (eqb size 37)
-    (bind (fields (stripeRows hd left) [] s (at + 8)) (λ (vs : List ℕ) (n : ℕ).
+    (bind (fields (stripeTable hd left) [] s (at + 8)) (λ (vs : List ℕ) (n : ℕ).
     bind (layersOf hd k (fieldsFrom vs) s n) (λ (rs : List Record) (e : ℕ). go (fieldsFrom vs .height) rs e)))
     (no (BadLength (at + 2))))
 
@@ -160,7 +160,7 @@ bodyFrom (suc fuel) hd k left acc s at =
     cond (ltb (length s) (at + 2)) (no (Short at))
     (cond (standsAt s at (0xFF ∷ 0xD9 ∷ []))
     (cond (eqb k 0) (no (BadStripe at)) (ok acc (at + 2)))
-    (bind (fields (segmentRows k) [] s at) (λ (vs : List ℕ) (n : ℕ).
+    (bind (fields (segmentTable k) [] s at) (λ (vs : List ℕ) (n : ℕ).
     cond (eqb (getD vs 4 0) 0x01)
     (stripeFrom hd k left (getD vs 0 0) s at (λ (height : ℕ) (rs : List Record) (e : ℕ). bodyFrom fuel hd (suc k) (left - height) (acc ++ rs) s e))
     (bind (spanOf s n (getD vs 0 0 - 6)) (λ (m e : ℕ). bodyFrom fuel hd k left acc s e)))))
@@ -171,15 +171,15 @@ zerosOf [] at = ok 0 at
 zerosOf (x ∷ l) at = cond (eqb x 0) (zerosOf l (suc at)) (no (Trailing at))
 
 -- the second FF D9 of the end
-unfoldable pub endRows : List Row
-endRows = mark (0xFF ∷ 0xD9 ∷ []) BadMark ∷ []
+unfoldable pub endTable : List Field
+endTable = mark (0xFF ∷ 0xD9 ∷ []) BadMark ∷ []
 
 unfoldable pub pageOf : List ℕ → Res (List Record)
 unfolding bind bodyFrom zerosOf
 pageOf s =
-    bind (fields startRows [] s 0) (λ (vs : List ℕ) (n : ℕ).
+    bind (fields startTable [] s 0) (λ (vs : List ℕ) (n : ℕ).
     bind (bodyFrom (length s) (headFrom vs) 0 65535 [] s n) (λ (rs : List Record) (m : ℕ).
-    bind (fields endRows [] s m) (λ (es : List ℕ) (e : ℕ).
+    bind (fields endTable [] s m) (λ (es : List ℕ) (e : ℕ).
     bind (zerosOf (drop e s) e) (λ (z end : ℕ). ok rs end))))
 
 -- ---- the call: TooLong first, then the page, NoRoom last

@@ -22,7 +22,7 @@ pub struct Head {
 }
 
 // Where a layer's coded data stands, and the size and resolution that it says of itself; or no coded data.
-pub enum Coded {
+pub enum LayerData {
     There {
         start: u32,
         size: u32,

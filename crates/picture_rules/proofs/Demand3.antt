@@ -10,12 +10,12 @@ use lib.ListN.{length, take, drop}
 use lib.Seq.{take-at}
 use lib.Dec.{ltb}
 use borrow.Author.Tests.{ltb-false, le-ltb}
-use Rattle.cases.proofs.Cases.{cond-with, cond-both, clash}
+use Rattle.laws.proofs.Cases.{cond-with, cond-both, clash}
 use Rattle.octets.specs.Octets.{putAt}
 use Rattle.octets.proofs.Laws.{put-rest, put-length}
 use Rattle.answers.specs.declared.Answer.{Answer}
 use Rattle.answers.specs.declared.Answer.the-variants.{Done}
-use Rattle.picture_rules.specs.declared.Colour.{Colour}
+use Rattle.sheet_rules.specs.declared.Colour.{Colour}
 use Rattle.picture_rules.specs.declared.Sample.{Sample}
 use Rattle.picture_rules.specs.declared.Sample.the-variants.{Known, Unknown}
 use Rattle.picture_rules.specs.Planes.{PlaneList}
@@ -23,7 +23,8 @@ use Rattle.picture_rules.specs.Samples.{Scene, widthOf}
 use Rattle.picture_rules.specs.Decide.{pixelAt}
 use Rattle.picture_rules.specs.Line.{unseen, fourOf, linePixels, Ruling, shows, refuses, rulingOf, lineAnswer, lineOf, lineHolds, lineInto, Lines}
 use Rattle.picture_rules.specs.Demand.{fourAt, seenIn, unseenFour, at, Tells, Shown}
-use Rattle.picture_rules.specs.Sentences.{Accepted, HasLine, sceneOf, AllFine}
+use Rattle.picture_rules.specs.Sentences.{HasLine, sceneOf, AllFine}
+use Rattle.sheet_rules.specs.Sentences.{Accepted}
 use Rattle.picture_rules.proofs.Ruled.{ruling-cases}
 use Rattle.picture_rules.proofs.Seen.{seen-known-as, unseen-unknown}
 use Rattle.picture_rules.proofs.Fours.{four-known, known-four, four-unknown, unknown-four, length-line, put-four}

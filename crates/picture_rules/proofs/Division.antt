@@ -7,7 +7,7 @@ use mathlib.Core.Path.{_≡_, ap, _∙_}
 use mathlib.Core.Logic.{⊎-elim}
 use mathlib.Core.Bool.{Bool, true, cond}
 use borrow.Author.Tests.{eq-eqb, ne-eqb}
-use Rattle.cases.proofs.Says.{Says, says-le, says-lt, says-and, says-eq, says-else}
+use Rattle.laws.proofs.Says.{Says, says-le, says-lt, says-and, says-eq, says-else}
 use Rattle.sheet_rules.specs.declared.Record.{Record}
 use Rattle.picture_rules.specs.declared.MainPos.{MainPos}
 use Rattle.picture_rules.specs.declared.SamplePos.{SamplePos}

@@ -9,31 +9,31 @@ use mathlib.Core.Bool.{Bool, true}
 use mathlib.Core.List.{List, [], _∷_}
 use lib.ListN.{length, take}
 use lib.Seq.{take-all}
-use Rattle.cases.proofs.Says.{says-and, says-lt, says-le, says-true, says-else}
-use Rattle.cases.proofs.Cases.{cond-with, cond-both, clash}
+use Rattle.laws.proofs.Says.{says-and, says-lt, says-le, says-true, says-else}
+use Rattle.laws.proofs.Cases.{cond-with, cond-both, clash}
 use Rattle.answers.specs.declared.Answer.{Answer}
-use Rattle.sheet_rules.specs.declared.Stripe.{Stripe}
+use Rattle.sheet_rules.specs.declared.Extent.{Extent}
 use Rattle.sheet_rules.specs.declared.FoundStripe.{FoundStripe}
-use Rattle.sheet_rules.specs.declared.FoundStripe.the-variants.{Row, NoStripe}
+use Rattle.sheet_rules.specs.declared.FoundStripe.the-variants.{Has, NoStripe}
 use Rattle.sheet_rules.specs.declared.Verdict.{Verdict}
-use Rattle.sheet_rules.specs.declared.Verdict.the-variants.{Good, Bad}
+use Rattle.sheet_rules.specs.declared.Verdict.the-variants.{Good}
 use Rattle.sheet_rules.specs.Record.{records}
 use Rattle.sheet_rules.specs.Judge.{judgeOf}
-use Rattle.sheet_rules.specs.Stripe.{rowOf, findStripe}
+use Rattle.sheet_rules.specs.StripeTable.{extentOf, findStripe}
 use Rattle.sheet_rules.proofs.Theorems.{sheet-accepted}
 use Rattle.sheet_rules.proofs.Table.{sheet-table, stripe-found, stripe-missing}
 use Rattle.picture_rules.specs.declared.Plane.{Plane}
-use Rattle.picture_rules.specs.declared.Judged.{Judged}
-use Rattle.picture_rules.specs.declared.Judged.the-variants.{Fine, Fault}
+use Rattle.picture_rules.specs.declared.ListVerdict.{ListVerdict}
+use Rattle.picture_rules.specs.declared.ListVerdict.the-variants.{Fine}
 use Rattle.picture_rules.specs.Planes.{PlaneList}
 use Rattle.picture_rules.specs.Samples.{Scene, recordOf}
 use Rattle.picture_rules.specs.Line.{planeOk, planesJudged, shows, planeRuling, sceneRuling, stripeRuling, sheetRuling, rulingOf, lineAnswer, lineOf, lineHolds, lineInto, Lines}
 
 -- ---- the entries of one stripe, judged
 
-module _ (s d : List ℕ) (row : Stripe) (part : Bool) where
+module _ (s d : List ℕ) (extent : Extent) (part : Bool) where
   abbrev scene : List Plane → Scene
-  scene ps = record { sheet = s; row = row; planes = ps; samples = d }
+  scene ps = record { sheet = s; extent = extent; planes = ps; samples = d }
 
   -- the judge looks at no entry but the one it judges
   ok-same : (ps qs : List Plane) (last : ℕ) (p : Plane) → planeOk (scene ps) last p ≡ planeOk (scene qs) last p
@@ -47,32 +47,32 @@ module _ (s d : List ℕ) (row : Stripe) (part : Bool) where
 
   module _ (ps : List Plane) where
     -- an entry that is kept is above the last and present
-    ok-rises : (last : ℕ) (p : Plane) → planeOk (scene ps) last p ≡ true → (last < p .layer) × (p .layer ≤ row .layers)
+    ok-rises : (last : ℕ) (p : Plane) → planeOk (scene ps) last p ≡ true → (last < p .layer) × (p .layer ≤ extent .layers)
     unfolding planeOk
-    ok-rises last p e = says-and (says-and (says-and (says-lt last (p .layer)) (says-le (p .layer) (row .layers))) (says-true _)) (says-true _) .told e .0 .0
+    ok-rises last p e = says-and (says-and (says-and (says-lt last (p .layer)) (says-le (p .layer) (extent .layers))) (says-true _)) (says-true _) .told e .0 .0
 
-    judged-first : (m last i : ℕ) (ts : List Plane) → last ≤ row .layers → row .layers < last + m → planesJudged (scene ps) part last i (take m ts) ≡ planesJudged (scene ps) part last i ts
+    judged-first : (m last i : ℕ) (ts : List Plane) → last ≤ extent .layers → extent .layers < last + m → planesJudged (scene ps) part last i (take m ts) ≡ planesJudged (scene ps) part last i ts
     unfolding planesJudged
     judged-first zero last i ts h g = absurd (omega arith)
     judged-first (suc m) last i [] h g = refl
     judged-first (suc m) last i (t ∷ ts) h g =
-        cond-both (λ (a b : Judged). a ≡ b) (planeOk (scene ps) last t)
+        cond-both (λ (a b : ListVerdict). a ≡ b) (planeOk (scene ps) last t)
         (λ e. let r = ok-rises last t e in judged-first m (t .layer) (i + 1) ts (r .1) (omega arith))
         (λ e. refl)
 
-    fine-short : (last i : ℕ) (ts : List Plane) → last ≤ row .layers → planesJudged (scene ps) part last i ts ≡ Fine → last + length ts ≤ row .layers
+    fine-short : (last i : ℕ) (ts : List Plane) → last ≤ extent .layers → planesJudged (scene ps) part last i ts ≡ Fine → last + length ts ≤ extent .layers
     unfolding planesJudged
     fine-short last i [] h = λ e. omega arith
     fine-short last i (t ∷ ts) h =
-        cond-with (λ (a : Judged). a ≡ Fine → last + suc (length ts) ≤ row .layers) (planeOk (scene ps) last t)
+        cond-with (λ (a : ListVerdict). a ≡ Fine → last + suc (length ts) ≤ extent .layers) (planeOk (scene ps) last t)
         (λ k e. let r = ok-rises last t k in let f = fine-short (t .layer) (i + 1) ts (r .1) e in omega arith)
         (λ k e. clash cc)
 
-  same-if : row .layers ≤ 15 → (ps : List Plane) (j : Judged) → planesJudged (scene ps) part 0 0 ps ≡ j → planeRuling (scene (take 16 ps)) j ≡ planeRuling (scene ps) j
+  same-if : extent .layers ≤ 15 → (ps : List Plane) (j : ListVerdict) → planesJudged (scene ps) part 0 0 ps ≡ j → planeRuling (scene (take 16 ps)) j ≡ planeRuling (scene ps) j
   same-if h ps Fine e = let f = fine-short ps 0 0 ps (omega arith) e in ap (λ (qs : List Plane). shows (scene qs)) (take-all 16 ps (omega arith))
-  same-if h ps (Fault i) e = refl
+  same-if h ps (ListVerdict.Refused i) e = refl
 
-  scene-first : row .layers ≤ 15 → (ps : List Plane) → sceneRuling (scene (take 16 ps)) part ≡ sceneRuling (scene ps) part
+  scene-first : extent .layers ≤ 15 → (ps : List Plane) → sceneRuling (scene (take 16 ps)) part ≡ sceneRuling (scene ps) part
   unfolding sceneRuling
   scene-first h ps =
       ap (planeRuling (scene (take 16 ps))) (judged-same (take 16 ps) ps 0 0 (take 16 ps) ∙ judged-first ps 16 0 0 ps (omega arith) (omega arith))
@@ -80,20 +80,20 @@ module _ (s d : List ℕ) (row : Stripe) (part : Bool) where
 
 -- ---- a stripe of a good sheet has at most 15 layers
 
-rowIn : FoundStripe → Stripe → Stripe
-rowIn (Row r) z = r
+rowIn : FoundStripe → Extent → Extent
+rowIn (Has r) z = r
 rowIn NoStripe z = z
 
-layers-few : (s : List ℕ) (n m k : ℕ) (row : Stripe) → judgeOf s ≡ Good n m → findStripe s k ≡ Row row → row .layers ≤ 15
+layers-few : (s : List ℕ) (n m k : ℕ) (extent : Extent) → judgeOf s ≡ Good n m → findStripe s k ≡ Has extent → extent .layers ≤ 15
 unfolding rowIn
-layers-few s n m k row e f =
+layers-few s n m k extent e f =
     ⊎-elim
     (λ (h : k < m).
     let g = sheet-accepted s n m .0 e in
     let st = g .stripes in
     let c = sheet-table (records s) (g .sheet) .layers k (omega arith) in
-    let q : row ≡ rowOf k (records s) = ap (λ (x : FoundStripe). rowIn x row) (sym f ∙ stripe-found s n m e k h) in
-    let b : row .layers ≡ rowOf k (records s) .layers = ap (λ (r : Stripe). r .layers) q in
+    let q : extent ≡ extentOf k (records s) = ap (λ (x : FoundStripe). rowIn x extent) (sym f ∙ stripe-found s n m e k h) in
+    let b : extent .layers ≡ extentOf k (records s) .layers = ap (λ (r : Extent). r .layers) q in
     omega arith)
     (λ (h : k < m → ⊥). let w = stripe-missing s n m e k (omega arith) in clash cc)
     (says-else (says-lt k m))
@@ -110,11 +110,11 @@ module _ (s d : List ℕ) (k y : ℕ) (ps : List Plane) (part : Bool) where
   in-stripe : (n m : ℕ) → judgeOf s ≡ Good n m → (x : FoundStripe) → findStripe s k ≡ x → stripeRuling s first d y x ≡ stripeRuling s all d y x
   unfolding stripeRuling
   in-stripe n m e NoStripe f = refl
-  in-stripe n m e (Row row) f = rw (scene-first s d row part (layers-few s n m k row e f) ps) refl
+  in-stripe n m e (Has extent) f = rw (scene-first s d extent part (layers-few s n m k extent e f) ps) refl
 
   in-sheet : (v : Verdict) → judgeOf s ≡ v → sheetRuling s first d k y v ≡ sheetRuling s all d k y v
   unfolding sheetRuling
-  in-sheet (Bad i) e = refl
+  in-sheet (Verdict.Refused i) e = refl
   in-sheet (Good n m) e = in-stripe n m e (findStripe s k) refl
 
   pub ruling-first : rulingOf s first d k y ≡ rulingOf s all d k y

@@ -7,11 +7,11 @@ use mathlib.Core.Logic.{⊎-elim}
 use mathlib.Core.List.{List}
 use lib.ListN.{length, getD, take, drop, length-append, length-drop}
 use lib.Seq.{take-all, take-append-le, drop-append-le, drop-at}
-use Rattle.cases.proofs.Cases.{clash}
-use Rattle.cases.proofs.Says.{says-lt, says-else}
+use Rattle.laws.proofs.Cases.{clash}
+use Rattle.laws.proofs.Says.{says-lt, says-else}
 use Rattle.octets.specs.Octets.{putAt}
 use Rattle.picture_rules.specs.declared.MainPos.{MainPos}
-use Rattle.picture_rules.specs.declared.Colour.{Colour}
+use Rattle.sheet_rules.specs.declared.Colour.{Colour}
 use Rattle.picture_rules.specs.declared.Sample.{Sample}
 use Rattle.picture_rules.specs.declared.Sample.the-variants.{Known, Unknown}
 use Rattle.picture_rules.specs.Samples.{Scene, widthOf}

@@ -5,10 +5,10 @@ use native.Mathlib.Omega.{arith}
 use mathlib.Core.Path.{_≡_, refl, sym, ap, subst, _∙_}
 use mathlib.Core.Logic.{_⊎_, inl, inr, ⊎-elim}
 use mathlib.Core.Bool.{Bool, true, false}
-use Rattle.cases.proofs.Cases.{bool-else}
-use Rattle.cases.proofs.Says.{says-eq, says-else}
+use Rattle.laws.proofs.Cases.{bool-else}
+use Rattle.laws.proofs.Says.{says-eq, says-else}
 use Rattle.picture_rules.specs.declared.MainPos.{MainPos}
-use Rattle.picture_rules.specs.declared.Colour.{Colour}
+use Rattle.sheet_rules.specs.declared.Colour.{Colour}
 use Rattle.picture_rules.specs.Samples.{Scene}
 use Rattle.picture_rules.specs.Decide.{pairsOf}
 use Rattle.picture_rules.specs.Content.{Content, maskUnder, imageUnder, colourFrom, colourUnder}
@@ -75,10 +75,10 @@ highest-or-none mask (suc n) =
 -- ---- the pairs of a stripe are all that its layers make
 
 module _ (v : Scene) where
-  pub pairs-all : (l : ℕ) → l ≤ v .row .layers → l ≤ pairsOf v * 2 + 1
+  pub pairs-all : (l : ℕ) → l ≤ v .extent .layers → l ≤ pairsOf v * 2 + 1
   pairs-all l h = omega arith
 
-  pub pairs-only : (j : ℕ) → j ≤ pairsOf v → j * 2 ≤ v .row .layers
+  pub pairs-only : (j : ℕ) → j ≤ pairsOf v → j * 2 ≤ v .extent .layers
   pairs-only j h = omega arith
 
 -- ---- at a place of a scene, under a content

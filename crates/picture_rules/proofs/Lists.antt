@@ -6,7 +6,7 @@ use native.Mathlib.Omega.{arith}
 use mathlib.Core.Path.{_≡_, refl, sym, ap, _∙_}
 use mathlib.Core.List.{List}
 use lib.ListN.{length}
-use Rattle.cases.proofs.Says.{Says, says-eq, says-not}
+use Rattle.laws.proofs.Says.{Says, says-eq, says-not}
 use Rattle.picture_rules.specs.Planes.{planeSize, planeAt, planesFrom, listOf}
 use Rattle.picture_rules.specs.Sentences.{plane}
 

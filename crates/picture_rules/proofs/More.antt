@@ -7,12 +7,12 @@ use mathlib.Core.Bool.{Bool, true, false, cond, _&&_}
 use mathlib.Core.List.{List}
 use lib.ListN.{length, getD}
 use lib.Dec.{eqb}
-use Rattle.cases.proofs.Cases.{cond-with, cond-both, clash}
-use Rattle.cases.proofs.Says.{says-and, says-true, says-not, says-eq}
+use Rattle.laws.proofs.Cases.{cond-with, cond-both, clash}
+use Rattle.laws.proofs.Says.{says-and, says-true, says-not, says-eq}
 use Rattle.answers.specs.declared.Answer.the-variants.{Done}
 use Rattle.sheet_rules.specs.Judge.{coded}
 use Rattle.picture_rules.specs.declared.MainPos.{MainPos}
-use Rattle.picture_rules.specs.declared.Colour.{Colour}
+use Rattle.sheet_rules.specs.declared.Colour.{Colour}
 use Rattle.picture_rules.specs.declared.Plane.{Plane}
 use Rattle.picture_rules.specs.declared.Sample.{Sample}
 use Rattle.picture_rules.specs.declared.Sample.the-variants.{Known, Unknown}
@@ -21,7 +21,7 @@ use Rattle.picture_rules.specs.declared.Mask.the-variants.{Zero, One, Hi
 use Rattle.picture_rules.specs.Place.{inside}
 use Rattle.picture_rules.specs.declared.Start.{Start}
 use Rattle.picture_rules.specs.declared.Start.the-variants.{From, Unread}
-use Rattle.picture_rules.specs.Planes.{PlaneList, startOf}
+use Rattle.picture_rules.specs.Planes.{PlaneList, planeStart}
 use Rattle.picture_rules.specs.Samples.{Scene, recordOf, mainOf, widthOf, indexOf, bitOf, virtual, maskRead, imageRead, maskAt, imageAt}
 use Rattle.picture_rules.specs.Decide.{sameColour, agree, pairStep, Stack, decide, stackAt, pairsOf, pixelAt}
 use Rattle.picture_rules.specs.Line.{unseen, fourOf, planeSpan, lineOf, lineInto}
@@ -95,28 +95,28 @@ module _ (s : List ℕ) (k y : ℕ) (pl qm : PlaneList) (d e : List ℕ) (g : St
   new = sceneOf s qm e k
 
   -- a start in the first list has one in the second, and the octets from there are the same
-  again-start : (l a : ℕ) → startOf (pl .entries) l ≡ From a
-      → (b : ℕ) × (startOf (qm .entries) l ≡ From b) × ((i : ℕ) → i < planeSpan (recordOf old l) → getD e (b + i) 0 ≡ getD d (a + i) 0)
+  again-start : (l a : ℕ) → planeStart (pl .entries) l ≡ From a
+      → (b : ℕ) × (planeStart (qm .entries) l ≡ From b) × ((i : ℕ) → i < planeSpan (recordOf old l) → getD e (b + i) 0 ≡ getD d (a + i) 0)
   again-start l a f =
       let n = start-among (pl .entries) l a f in
       let r = again (n .p) (n .among) in
       let q : Plane = r .0 in (
         q .start,
-        subst (λ (j : ℕ). startOf (qm .entries) j ≡ From (q .start)) (r .2 ∙ n .layer) (start-entry new qm fine q (r .1)),
+        subst (λ (j : ℕ). planeStart (qm .entries) j ≡ From (q .start)) (r .2 ∙ n .layer) (start-entry new qm fine q (r .1)),
         λ i h.
             r .3 i (subst (λ (j : ℕ). i < planeSpan (recordOf old j)) (sym (n .layer)) h)
             ∙ ap (λ (j : ℕ). getD d (j + i) 0) (n .start),
       )
 
-  mask-read : (l i : ℕ) → i < planeSpan (recordOf old l) → (z : Start) → startOf (pl .entries) l ≡ z → MaskGrows (maskRead d z i) (maskRead e (startOf (qm .entries) l) i)
+  mask-read : (l i : ℕ) → i < planeSpan (recordOf old l) → (z : Start) → planeStart (pl .entries) l ≡ z → MaskGrows (maskRead d z i) (maskRead e (planeStart (qm .entries) l) i)
   unfolding maskRead
   mask-read l i h (From a) f =
       let r = again-start l a f in
-      let same : maskRead e (startOf (qm .entries) l) i ≡ bitOf (getD d (a + i) 0) = ap (λ (x : Start). maskRead e x i) (r .1) ∙ ap bitOf (r .2 i h) in
+      let same : maskRead e (planeStart (qm .entries) l) i ≡ bitOf (getD d (a + i) 0) = ap (λ (x : Start). maskRead e x i) (r .1) ∙ ap bitOf (r .2 i h) in
       subst (MaskGrows (bitOf (getD d (a + i) 0))) (sym same) (mask-self (bitOf (getD d (a + i) 0)))
   mask-read l i h Unread f = tt
 
-  image-read : (l i : ℕ) → i * 3 + 3 ≤ planeSpan (recordOf old l) → (z : Start) → startOf (pl .entries) l ≡ z → ImageGrows (imageRead d z i) (imageRead e (startOf (qm .entries) l) i)
+  image-read : (l i : ℕ) → i * 3 + 3 ≤ planeSpan (recordOf old l) → (z : Start) → planeStart (pl .entries) l ≡ z → ImageGrows (imageRead d z i) (imageRead e (planeStart (qm .entries) l) i)
   unfolding imageRead
   image-read l i h (From a) f =
       let r = again-start l a f in
@@ -135,7 +135,7 @@ module _ (s : List ℕ) (k y : ℕ) (pl qm : PlaneList) (d e : List ℕ) (g : St
   image-read l i h Unread f = tt
 
   module _ (x z : MainPos) where
-    mask-grows : (l : ℕ) → 1 ≤ l → l ≤ old .row .layers → l % 2 ≡ 0 → MaskGrows (maskAt old l x z) (maskAt new l x z)
+    mask-grows : (l : ℕ) → 1 ≤ l → l ≤ old .extent .layers → l % 2 ≡ 0 → MaskGrows (maskAt old l x z) (maskAt new l x z)
     unfolding maskAt recordOf virtual
     mask-grows l a b even =
         let p = stage-placed g l a b .layer in
@@ -143,18 +143,18 @@ module _ (s : List ℕ) (k y : ℕ) (pl qm : PlaneList) (d e : List ℕ) (g : St
         (λ t.
         cond-both MaskGrows (inside (mainOf old) (recordOf old l) x z)
         (λ u.
-        mask-read l (indexOf (mainOf old) (recordOf old l) x z) (mask-within (mainOf old) (recordOf old l) x z (ap (λ (n : ℕ). n % 2) p ∙ even) u) (startOf (pl .entries) l) refl)
+        mask-read l (indexOf (mainOf old) (recordOf old l) x z) (mask-within (mainOf old) (recordOf old l) x z (ap (λ (n : ℕ). n % 2) p ∙ even) u) (planeStart (pl .entries) l) refl)
         (λ u. refl))
         (λ t. mask-self (virtual old l))
 
-    image-grows : (l : ℕ) → 1 ≤ l → l ≤ old .row .layers → l % 2 ≡ 1 → ImageGrows (imageAt old l x z) (imageAt new l x z)
+    image-grows : (l : ℕ) → 1 ≤ l → l ≤ old .extent .layers → l % 2 ≡ 1 → ImageGrows (imageAt old l x z) (imageAt new l x z)
     unfolding imageAt recordOf
     image-grows l a b odd =
         let p = stage-placed g l a b .layer in
         cond-both ImageGrows (coded (recordOf old l) && inside (mainOf old) (recordOf old l) x z)
         (λ t.
         let u = says-and (says-true (coded (recordOf old l))) (says-true (inside (mainOf old) (recordOf old l) x z)) .told t .1 in
-        image-read l (indexOf (mainOf old) (recordOf old l) x z) (image-within (mainOf old) (recordOf old l) x z (ap (λ (n : ℕ). n % 2) p ∙ odd) u) (startOf (pl .entries) l) refl)
+        image-read l (indexOf (mainOf old) (recordOf old l) x z) (image-within (mainOf old) (recordOf old l) x z (ap (λ (n : ℕ). n % 2) p ∙ odd) u) (planeStart (pl .entries) l) refl)
         (λ t. refl)
 
     pixel-grows : ImageGrows (pixelAt old x z) (pixelAt new x z)
@@ -219,10 +219,10 @@ known-all s (suc n) m i =
     (i (suc n) (omega arith))
 
 module _ (v : Scene) (all : AllRead v) (x z : MainPos) where
-  read-start : (l : ℕ) → 1 ≤ l → l ≤ v .row .layers → coded (recordOf v l) ≡ true → (a : ℕ) × (startOf (v .planes) l ≡ From a)
+  read-start : (l : ℕ) → 1 ≤ l → l ≤ v .extent .layers → coded (recordOf v l) ≡ true → (a : ℕ) × (planeStart (v .planes) l ≡ From a)
   read-start l a b t =
       let p = all l a b (says-not (says-eq (recordOf v l .len) 0) .told t) in
-      subst (λ (j : ℕ). (c : ℕ) × (startOf (v .planes) j ≡ From c)) (p .2) (start-some (v .planes) (p .0) (p .1))
+      subst (λ (j : ℕ). (c : ℕ) × (planeStart (v .planes) j ≡ From c)) (p .2) (start-some (v .planes) (p .0) (p .1))
 
   bit-is : (n : ℕ) → IsBit (bitOf n)
   unfolding bitOf
@@ -232,7 +232,7 @@ module _ (v : Scene) (all : AllRead v) (x z : MainPos) where
   unfolding virtual
   virtual-is l = cond-with IsBit (eqb l 2 && coded (recordOf v 3)) (λ t. tt) (λ t. tt)
 
-  mask-known : (l : ℕ) → 1 ≤ l → l ≤ v .row .layers → IsBit (maskAt v l x z)
+  mask-known : (l : ℕ) → 1 ≤ l → l ≤ v .extent .layers → IsBit (maskAt v l x z)
   unfolding maskAt maskRead
   mask-known l a b =
       cond-with IsBit (coded (recordOf v l))
@@ -245,7 +245,7 @@ module _ (v : Scene) (all : AllRead v) (x z : MainPos) where
       (λ u. tt))
       (λ t. virtual-is l)
 
-  image-known : (l : ℕ) → 1 ≤ l → l ≤ v .row .layers → IsKnown (imageAt v l x z)
+  image-known : (l : ℕ) → 1 ≤ l → l ≤ v .extent .layers → IsKnown (imageAt v l x z)
   unfolding imageAt imageRead
   image-known l a b =
       cond-with IsKnown (coded (recordOf v l) && inside (mainOf v) (recordOf v l) x z)
@@ -255,7 +255,7 @@ module _ (v : Scene) (all : AllRead v) (x z : MainPos) where
       subst (λ (q : Start). IsKnown (imageRead (v .samples) q (indexOf (mainOf v) (recordOf v l) x z))) (sym (r .1)) tt)
       (λ t. tt)
 
-  pixel-known : v .row .layers % 2 ≡ 1 → 3 ≤ v .row .layers → IsKnown (pixelAt v x z)
+  pixel-known : v .extent .layers % 2 ≡ 1 → 3 ≤ v .extent .layers → IsKnown (pixelAt v x z)
   unfolding pixelAt
   pixel-known odd some =
       known-all (stackAt v x z) (pairsOf v) (λ j a b. mask-known (j * 2) (omega arith) (omega arith)) (λ j a. image-known (j * 2 + 1) (omega arith) (omega arith))

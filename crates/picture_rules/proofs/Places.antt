@@ -6,8 +6,8 @@ use mathlib.Core.Logic.{_≢_}
 use mathlib.Core.Bool.{true, false, _&&_, false≢true}
 use lib.ListN.{getD}
 use borrow.Author.Tests.{eq-eqb, ne-eqb}
-use Rattle.cases.proofs.Cases.{cond-with}
-use Rattle.cases.proofs.Says.{says-and, says-true}
+use Rattle.laws.proofs.Cases.{cond-with}
+use Rattle.laws.proofs.Says.{says-and, says-true}
 use Rattle.sheet_rules.specs.declared.Record.{Record}
 use Rattle.sheet_rules.specs.Judge.{coded}
 use Rattle.sheet_rules.specs.Sentences.{Coded, Uncoded}
@@ -16,8 +16,9 @@ use Rattle.picture_rules.specs.declared.Sample.the-variants.{Known, Unkn
 use Rattle.picture_rules.specs.declared.Mask.the-variants.{Zero, One, Hidden}
 use Rattle.picture_rules.specs.Place.{inside}
 use Rattle.picture_rules.specs.declared.Start.the-variants.{From, Unread}
-use Rattle.picture_rules.specs.Planes.{startOf}
-use Rattle.picture_rules.specs.Samples.{Scene, recordOf, mainOf, indexOf, bitOf, colourAt, baseOf, virtual, maskRead, imageRead, maskAt, imageAt}
+use Rattle.picture_rules.specs.Planes.{planeStart}
+use Rattle.picture_rules.specs.Samples.{Scene, recordOf, mainOf, indexOf, bitOf, baseOf, virtual, maskRead, imageRead, maskAt, imageAt}
+use Rattle.sheet_rules.specs.Record.{colourAt}
 
 pub coded-true : (r : Record) → Coded r → coded r ≡ true
 coded-true r h = simp (ne-eqb (r .len) 0 h)
@@ -59,23 +60,23 @@ module _ (v : Scene) (l : ℕ) (x y : MainPos) where
   -- ---- inside it is what was read at its sample, and not known where the layer is unread
 
   module _ (h : Coded (recordOf v l)) (o : inside (mainOf v) (recordOf v l) x y ≡ true) where
-    pub image-read-at : (a : ℕ) → startOf (v .planes) l ≡ From a → imageAt v l x y ≡ Known (colourAt (v .samples) (a + indexOf (mainOf v) (recordOf v l) x y * 3))
+    pub image-read-at : (a : ℕ) → planeStart (v .planes) l ≡ From a → imageAt v l x y ≡ Known (colourAt (v .samples) (a + indexOf (mainOf v) (recordOf v l) x y * 3))
     unfolding imageAt imageRead
     image-read-at a e = simp (coded-true (recordOf v l) h, o, e)
 
-    pub image-unread : startOf (v .planes) l ≡ Unread → imageAt v l x y ≡ Unknown
+    pub image-unread : planeStart (v .planes) l ≡ Unread → imageAt v l x y ≡ Unknown
     unfolding imageAt imageRead
     image-unread e = simp (coded-true (recordOf v l) h, o, e)
 
     -- 0 is 0, all else 1
-    pub mask-read-0 : (a : ℕ) → startOf (v .planes) l ≡ From a → getD (v .samples) (a + indexOf (mainOf v) (recordOf v l) x y) 0 ≡ 0 → maskAt v l x y ≡ Zero
+    pub mask-read-0 : (a : ℕ) → planeStart (v .planes) l ≡ From a → getD (v .samples) (a + indexOf (mainOf v) (recordOf v l) x y) 0 ≡ 0 → maskAt v l x y ≡ Zero
     unfolding maskAt maskRead bitOf
     mask-read-0 a e z = simp (coded-true (recordOf v l) h, o, e, z)
 
-    pub mask-read-1 : (a : ℕ) → startOf (v .planes) l ≡ From a → getD (v .samples) (a + indexOf (mainOf v) (recordOf v l) x y) 0 ≢ 0 → maskAt v l x y ≡ One
+    pub mask-read-1 : (a : ℕ) → planeStart (v .planes) l ≡ From a → getD (v .samples) (a + indexOf (mainOf v) (recordOf v l) x y) 0 ≢ 0 → maskAt v l x y ≡ One
     unfolding maskAt maskRead bitOf
     mask-read-1 a e z = simp (coded-true (recordOf v l) h, o, e, ne-eqb _ 0 z)
 
-    pub mask-unread : startOf (v .planes) l ≡ Unread → maskAt v l x y ≡ Hidden
+    pub mask-unread : planeStart (v .planes) l ≡ Unread → maskAt v l x y ≡ Hidden
     unfolding maskAt maskRead
     mask-unread e = simp (coded-true (recordOf v l) h, o, e)

@@ -4,9 +4,9 @@ use Prim.Native.Nat.{ℕ, zero, suc}
 use mathlib.Core.Path.{_≡_, refl, sym, ap, _∙_}
 use mathlib.Core.Bool.{Bool, true, false, cond}
 use borrow.Author.Tests.{eq-eqb}
-use Rattle.cases.proofs.Cases.{clash}
-use Rattle.cases.proofs.Says.{Says, says-eq, says-and}
-use Rattle.picture_rules.specs.declared.Colour.{Colour}
+use Rattle.laws.proofs.Cases.{clash}
+use Rattle.laws.proofs.Says.{Says, says-eq, says-and}
+use Rattle.sheet_rules.specs.declared.Colour.{Colour}
 use Rattle.picture_rules.specs.declared.Sample.{Sample}
 use Rattle.picture_rules.specs.declared.Sample.the-variants.{Known, Unknown}
 use Rattle.picture_rules.specs.declared.Mask.the-variants.{Zero, One, Hidden}

@@ -10,26 +10,26 @@ use mathlib.Core.List.{List}
 use lib.ListN.{length}
 use lib.Dec.{eqb, ltb, lit<, lit≤}
 use borrow.Author.Tests.{lt-ltb, ltb-true, eq-eqb}
-use Rattle.cases.proofs.Cases.{cond-with, clash}
-use Rattle.cases.proofs.Says.{Says, says-eq, says-lt, says-or, says-else}
+use Rattle.laws.proofs.Cases.{cond-with, clash}
+use Rattle.laws.proofs.Says.{Says, says-eq, says-lt, says-or, says-else}
 use Rattle.sheet_rules.specs.declared.Record.{Record}
-use Rattle.sheet_rules.specs.declared.Stripe.{Stripe}
+use Rattle.sheet_rules.specs.declared.Extent.{Extent}
 use Rattle.sheet_rules.specs.declared.FoundStripe.{FoundStripe}
-use Rattle.sheet_rules.specs.declared.FoundStripe.the-variants.{Row, NoStripe}
+use Rattle.sheet_rules.specs.declared.FoundStripe.the-variants.{Has, NoStripe}
 use Rattle.sheet_rules.specs.declared.Verdict.{Verdict}
-use Rattle.sheet_rules.specs.declared.Verdict.the-variants.{Good, Bad}
+use Rattle.sheet_rules.specs.declared.Verdict.the-variants.{Good}
 use Rattle.sheet_rules.specs.Record.{recordSize, recordAt, records, nth}
 use Rattle.sheet_rules.specs.Judge.{judgeOf, divides}
 use Rattle.sheet_rules.specs.Sentences.{Among, Listed, Sheet}
-use Rattle.sheet_rules.specs.Stripe.{rowOf, findStripe}
+use Rattle.sheet_rules.specs.StripeTable.{extentOf, findStripe}
 use Rattle.sheet_rules.proofs.Among.{nth-among}
 use Rattle.sheet_rules.proofs.Cut.{length-records, nth-records}
-use Rattle.sheet_rules.proofs.Rows.{LayerCount}
+use Rattle.sheet_rules.proofs.Extents.{LayerCount}
 use Rattle.sheet_rules.proofs.Theorems.{sheet-accepted}
 use Rattle.sheet_rules.proofs.Table.{sheet-table, stripe-found, stripe-missing, layer-found}
 use Rattle.picture_rules.specs.Place.{ratio}
-use Rattle.picture_rules.specs.declared.Judged.{Judged}
-use Rattle.picture_rules.specs.declared.Judged.the-variants.{Fine, Fault}
+use Rattle.picture_rules.specs.declared.ListVerdict.{ListVerdict}
+use Rattle.picture_rules.specs.declared.ListVerdict.the-variants.{Fine}
 use Rattle.picture_rules.specs.Planes.{PlaneList}
 use Rattle.picture_rules.specs.Samples.{Scene, recordOf, mainOf, widthOf}
 use Rattle.picture_rules.specs.Line.{planesJudged, shows, planeRuling, sceneRuling, stripeRuling, sheetRuling, rulingOf}
@@ -39,47 +39,47 @@ pub record Stage (s : List ℕ) (pl : PlaneList) (d : List ℕ) (k y : ℕ) (v :
   pub records : ℕ
   pub stripes : ℕ
   pub good : judgeOf s ≡ Good records stripes
-  pub found : findStripe s k ≡ Row (v .row)
-  pub line : y < v .row .height
+  pub found : findStripe s k ≡ Has (v .extent)
+  pub line : y < v .extent .height
   pub sheet : v .sheet ≡ s
   pub planes : v .planes ≡ pl .entries
   pub samples : v .samples ≡ d
   pub judged : planesJudged v (pl .part) 0 0 (v .planes) ≡ Fine
 
 module _ (s : List ℕ) (pl : PlaneList) (d : List ℕ) (k y : ℕ) where
-  abbrev staged : Stripe → Scene
-  staged row = record { sheet = s; row = row; planes = pl .entries; samples = d }
+  abbrev staged : Extent → Scene
+  staged extent = record { sheet = s; extent = extent; planes = pl .entries; samples = d }
 
   pub shows-stage : (v : Scene) → rulingOf s pl d k y ≡ shows v → Stage s pl d k y v
   unfolding rulingOf sheetRuling stripeRuling sceneRuling
   shows-stage v = by (judgeOf s) refl
     where
-      of-planes : (n m : ℕ) → judgeOf s ≡ Good n m → (row : Stripe) → findStripe s k ≡ Row row → y < row .height
-          → (j : Judged) → planesJudged (staged row) (pl .part) 0 0 (pl .entries) ≡ j → planeRuling (staged row) j ≡ shows v → Stage s pl d k y v
-      of-planes n m g row f l Fine e q =
-          let z : staged row ≡ v = cc in
+      of-planes : (n m : ℕ) → judgeOf s ≡ Good n m → (extent : Extent) → findStripe s k ≡ Has extent → y < extent .height
+          → (j : ListVerdict) → planesJudged (staged extent) (pl .part) 0 0 (pl .entries) ≡ j → planeRuling (staged extent) j ≡ shows v → Stage s pl d k y v
+      of-planes n m g extent f l Fine e q =
+          let z : staged extent ≡ v = cc in
           subst (Stage s pl d k y) z
           (record { records = n; stripes = m; good = g; found = f; line = l; sheet = refl; planes = refl; samples = refl; judged = e })
-      of-planes n m g row f l (Fault i) e q = clash cc
+      of-planes n m g extent f l (ListVerdict.Refused i) e q = clash cc
 
       of-stripe : (n m : ℕ) → judgeOf s ≡ Good n m → (x : FoundStripe) → findStripe s k ≡ x → stripeRuling s pl d y x ≡ shows v → Stage s pl d k y v
-      of-stripe n m g (Row row) f =
-          cond-with (λ x. x ≡ shows v → Stage s pl d k y v) (ltb y (row .height))
-          (λ t q. of-planes n m g row f (ltb-true y (row .height) t) (planesJudged (staged row) (pl .part) 0 0 (pl .entries)) refl q)
+      of-stripe n m g (Has extent) f =
+          cond-with (λ x. x ≡ shows v → Stage s pl d k y v) (ltb y (extent .height))
+          (λ t q. of-planes n m g extent f (ltb-true y (extent .height) t) (planesJudged (staged extent) (pl .part) 0 0 (pl .entries)) refl q)
           (λ t q. clash cc)
       of-stripe n m g NoStripe f = λ q. clash cc
 
       by : (x : Verdict) → judgeOf s ≡ x → sheetRuling s pl d k y x ≡ shows v → Stage s pl d k y v
       by (Good n m) g q = of-stripe n m g (findStripe s k) refl q
-      by (Bad i) g q = clash cc
+      by (Verdict.Refused i) g q = clash cc
 
   pub stage-shows : (v : Scene) → Stage s pl d k y v → rulingOf s pl d k y ≡ shows v
   unfolding rulingOf sheetRuling stripeRuling sceneRuling
   stage-shows v g =
-      let same : staged (v .row) ≡ v = sym (λ i. record { sheet = g .sheet i; row = v .row; planes = g .planes i; samples = g .samples i }) in
-      let j : planesJudged (staged (v .row)) (pl .part) 0 0 (pl .entries) ≡ Fine =
+      let same : staged (v .extent) ≡ v = sym (λ i. record { sheet = g .sheet i; extent = v .extent; planes = g .planes i; samples = g .samples i }) in
+      let j : planesJudged (staged (v .extent)) (pl .part) 0 0 (pl .entries) ≡ Fine =
       ap (λ (w : Scene). planesJudged w (pl .part) 0 0 (w .planes)) same ∙ g .judged in
-      simp (g .good, g .found, lt-ltb y (v .row .height) (g .line), j) (ap shows same)
+      simp (g .good, g .found, lt-ltb y (v .extent .height) (g .line), j) (ap shows same)
 
 -- ---- the records of its stripe
 
@@ -107,7 +107,7 @@ six P a b c d e f n (inr (inr (inr (inl z)))) = subst P (sym z) d
 six P a b c d e f n (inr (inr (inr (inr (inl z))))) = subst P (sym z) e
 six P a b c d e f n (inr (inr (inr (inr (inr z))))) = subst P (sym z) f
 
--- a, unless it divides no b, goes a listed number of times into it
+-- a, unless it divides no b, goes a wholeList number of times into it
 fits : ℕ → ℕ → Bool
 fits a b = not (eqb (b % a) 0) || isRatio (b / a)
 
@@ -157,26 +157,26 @@ module _ {s : List ℕ} {pl : PlaneList} {d : List ℕ} {k y : ℕ} {v : Scene} 
       (λ (h : k < g .stripes → ⊥). let m = stripe-missing s (g .records) (g .stripes) (g .good) k (omega arith) in let f = g .found in clash cc)
       (says-else (says-lt k (g .stripes)))
 
-  pub stage-row : v .row ≡ rowOf k (records s)
-  stage-row = let f = g .found in let e = stripe-found s (g .records) (g .stripes) (g .good) k stage-stripe in cc
+  pub stage-extent : v .extent ≡ extentOf k (records s)
+  stage-extent = let f = g .found in let e = stripe-found s (g .records) (g .stripes) (g .good) k stage-stripe in cc
 
   -- layers 1 to N, N odd, 3 to 15
-  pub stage-layers : LayerCount (v .row .layers)
+  pub stage-layers : LayerCount (v .extent .layers)
   stage-layers =
       let c = sheet-accepted s (g .records) (g .stripes) .0 (g .good) .stripes in
       let h = stage-stripe in
-      subst (λ (row : Stripe). LayerCount (row .layers)) (sym stage-row) (sheet-table (records s) stage-sheet .layers k (omega arith))
+      subst (λ (extent : Extent). LayerCount (extent .layers)) (sym stage-extent) (sheet-table (records s) stage-sheet .layers k (omega arith))
 
-  pub stage-record : (l : ℕ) → recordOf v l ≡ recordAt s (rowOf k (records s) .first + (l - 1))
+  pub stage-record : (l : ℕ) → recordOf v l ≡ recordAt s (extentOf k (records s) .first + (l - 1))
   unfolding recordOf
-  stage-record l = let a = stage-row in let b = g .sheet in cc
+  stage-record l = let a = stage-extent in let b = g .sheet in cc
 
   -- layer l of the stripe is a record of the sheet with these numbers
-  pub stage-placed : (l : ℕ) → 1 ≤ l → l ≤ v .row .layers → Placed v k l
+  pub stage-placed : (l : ℕ) → 1 ≤ l → l ≤ v .extent .layers → Placed v k l
   unfolding records
   stage-placed l a b =
-      let i : ℕ = rowOf k (records s) .first + (l - 1) in
-      let b′ : l ≤ rowOf k (records s) .layers = subst (λ (row : Stripe). l ≤ row .layers) stage-row b in
+      let i : ℕ = extentOf k (records s) .first + (l - 1) in
+      let b′ : l ≤ extentOf k (records s) .layers = subst (λ (extent : Extent). l ≤ extent .layers) stage-extent b in
       let f = layer-found s (g .records) (g .stripes) (g .good) k l a b′ in
       let e = stage-record l in
       let w = f .3 in
@@ -190,11 +190,11 @@ module _ {s : List ℕ} {pl : PlaneList} {d : List ℕ} {k y : ℕ} {v : Scene} 
         layer = ap (λ (r : Record). r .layer) e ∙ f .2;
       }
 
-  stage-among : (l : ℕ) → 1 ≤ l → l ≤ v .row .layers → Among (recordOf v l) (records s)
+  stage-among : (l : ℕ) → 1 ≤ l → l ≤ v .extent .layers → Among (recordOf v l) (records s)
   stage-among l a b = subst (λ (t : List ℕ). Among (recordOf v l) (records t)) (g .sheet) (stage-placed l a b .among)
 
   -- the ratio of each layer: one of six, and as often as it says the layer's resolution is the main one
-  pub scene-ratio : (l : ℕ) → 1 ≤ l → l ≤ v .row .layers → Ratio (ratio (mainOf v) (recordOf v l)) × (ratio (mainOf v) (recordOf v l) * recordOf v l .res ≡ mainOf v)
+  pub scene-ratio : (l : ℕ) → 1 ≤ l → l ≤ v .extent .layers → Ratio (ratio (mainOf v) (recordOf v l)) × (ratio (mainOf v) (recordOf v l) * recordOf v l .res ≡ mainOf v)
   scene-ratio l a b =
       let c = stage-layers in
       let u = stage-sheet .unbroken in
@@ -205,10 +205,10 @@ module _ {s : List ℕ} {pl : PlaneList} {d : List ℕ} {k y : ℕ} {v : Scene} 
       let dv = u .divides (recordOf v l) (recordOf v 2) q two′ (p .stripe ∙ sym (two .stripe), two .layer) in
       (listed-ratio (recordOf v l .res) (mainOf v) (u .listed (recordOf v l) q) (u .listed (recordOf v 2) two′) dv, div-mul-cancel (recordOf v l .res) dv)
 
-  pub scene-ratio-some : (l : ℕ) → 1 ≤ l → l ≤ v .row .layers → 0 < ratio (mainOf v) (recordOf v l)
+  pub scene-ratio-some : (l : ℕ) → 1 ≤ l → l ≤ v .extent .layers → 0 < ratio (mainOf v) (recordOf v l)
   scene-ratio-some l a b = ratio-some (ratio (mainOf v) (recordOf v l)) (scene-ratio l a b .0)
 
-  pub scene-res : (l : ℕ) → 1 ≤ l → l ≤ v .row .layers → 0 < recordOf v l .res
+  pub scene-res : (l : ℕ) → 1 ≤ l → l ≤ v .extent .layers → 0 < recordOf v l .res
   scene-res l a b = listed-some (recordOf v l .res) (stage-sheet .unbroken .listed (recordOf v l) (stage-among l a b))
 
   -- the page's width, and the stripe's height: those of layer 2
@@ -217,18 +217,18 @@ module _ {s : List ℕ} {pl : PlaneList} {d : List ℕ} {k y : ℕ} {v : Scene} 
       let c = stage-layers in
       stage-sheet .unbroken .wide (recordOf v 2) (stage-among 2 (omega arith) (omega arith)) (stage-placed 2 (omega arith) (omega arith) .layer)
 
-  pub scene-height : v .row .height ≡ recordOf v 2 .height
+  pub scene-height : v .extent .height ≡ recordOf v 2 .height
   unfolding records
   scene-height =
       let c = sheet-accepted s (g .records) (g .stripes) .0 (g .good) .stripes in
       let h = stage-stripe in
       let m = stage-layers in
       let m1 = m .1 in
-      let two : 2 ≤ rowOf k (records s) .layers = subst (λ (row : Stripe). 2 ≤ row .layers) stage-row (omega arith) in
-      let i : ℕ = rowOf k (records s) .first + 1 in
+      let two : 2 ≤ extentOf k (records s) .layers = subst (λ (extent : Extent). 2 ≤ extent .layers) stage-extent (omega arith) in
+      let i : ℕ = extentOf k (records s) .first + 1 in
       let w = layer-found s (g .records) (g .stripes) (g .good) k 2 (lit≤ tt) two .3 in
       let n = sheet-accepted s (g .records) (g .stripes) .0 (g .good) .count in
       let z : 0 + i ≡ i = omega arith in
       let l = length-records s (length s / recordSize) 0 in
       let r : nth (records s) i ≡ recordOf v 2 = nth-records s (length s / recordSize) 0 i (omega arith) ∙ ap (recordAt s) z ∙ sym (stage-record 2) in
-      ap (λ (row : Stripe). row .height) stage-row ∙ sheet-table (records s) stage-sheet .height k (omega arith) ∙ ap (λ (x : Record). x .height) r
+      ap (λ (extent : Extent). extent .height) stage-extent ∙ sheet-table (records s) stage-sheet .height k (omega arith) ∙ ap (λ (x : Record). x .height) r

@@ -8,9 +8,9 @@ use mathlib.Core.Logic.{_↔_}
 use mathlib.Core.Bool.{Bool, true, false, cond}
 use lib.Dec.{eqb, lit<}
 use borrow.Author.Tests.{eq-eqb, ne-eqb}
-use Rattle.cases.proofs.Cases.{clash}
+use Rattle.laws.proofs.Cases.{clash}
 use Rattle.picture_rules.specs.declared.MainPos.{MainPos}
-use Rattle.picture_rules.specs.declared.Colour.{Colour}
+use Rattle.sheet_rules.specs.declared.Colour.{Colour}
 use Rattle.picture_rules.specs.declared.Sample.{Sample}
 use Rattle.picture_rules.specs.declared.Sample.the-variants.{Known, Unknown}
 use Rattle.picture_rules.specs.declared.Mask.{Mask}

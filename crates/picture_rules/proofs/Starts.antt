@@ -1,4 +1,4 @@
--- Where a layer's samples start: found in the plane list exactly if it is listed, and a list without fault lists it once.
+-- Where a layer's samples start: found in the plane list exactly if it is wholeList, and a list without fault lists it once.
 -- Assumes nothing.
 use Prim.Native.Nat.{ℕ, zero, suc, _<_}
 use native.Mathlib.Omega.{arith}
@@ -9,11 +9,11 @@ use mathlib.Core.List.{List, [], _∷_, List·Memᴰ, List·Memᴰ·not-nil, Lis
 use lib.ListN.{length}
 use lib.Dec.{eqb}
 use borrow.Author.Tests.{eqb-true, eq-eqb, ne-eqb}
-use Rattle.cases.proofs.Cases.{cond-with, clash}
+use Rattle.laws.proofs.Cases.{cond-with, clash}
 use Rattle.picture_rules.specs.declared.Plane.{Plane}
 use Rattle.picture_rules.specs.declared.Start.{Start}
 use Rattle.picture_rules.specs.declared.Start.the-variants.{From}
-use Rattle.picture_rules.specs.Planes.{PlaneList, startOf}
+use Rattle.picture_rules.specs.Planes.{PlaneList, planeStart}
 use Rattle.picture_rules.specs.Samples.{Scene}
 use Rattle.picture_rules.specs.Sentences.{plane, FineEntry, AllFine}
 
@@ -29,17 +29,17 @@ entry-more : (q : Plane) (ps : List Plane) (l a : ℕ) → Entry ps l a → Entr
 entry-more q ps l a e = record { p = e .p; among = List·Memᴰ·tail (e .among); layer = e .layer; start = e .start }
 
 -- a start that is found is that of an entry of the layer
-pub start-among : (ps : List Plane) (l a : ℕ) → startOf ps l ≡ From a → Entry ps l a
-unfolding startOf
+pub start-among : (ps : List Plane) (l a : ℕ) → planeStart ps l ≡ From a → Entry ps l a
+unfolding planeStart
 start-among [] l a = λ e. clash cc
 start-among (q ∷ ps) l a =
     cond-with (λ (x : Start). x ≡ From a → Entry (q ∷ ps) l a) (eqb (q .layer) l)
     (λ t e. let z : q .start ≡ a = cc in record { p = q; among = List·Memᴰ·head refl; layer = eqb-true (q .layer) l t; start = z })
     (λ t e. entry-more q ps l a (start-among ps l a e))
 
--- a layer that is listed has a start
-pub start-some : (ps : List Plane) (p : Plane) → List·Memᴰ p ps → (a : ℕ) × (startOf ps (p .layer) ≡ From a)
-unfolding startOf
+-- a layer that is wholeList has a start
+pub start-some : (ps : List Plane) (p : Plane) → List·Memᴰ p ps → (a : ℕ) × (planeStart ps (p .layer) ≡ From a)
+unfolding planeStart
 start-some [] p m = absurd (List·Memᴰ·not-nil m)
 start-some (q ∷ ps) p m =
     cond-with (λ (x : Start). (a : ℕ) × (x ≡ From a)) (eqb (q .layer) (p .layer))
@@ -62,17 +62,17 @@ rises-above (q ∷ ps) last p r m =
     (List·Memᴰ·cases-cons m)
 
 -- each layer once: an entry's layer starts where the entry says
-rises-start : (ps : List Plane) (last : ℕ) (p : Plane) → Rises last ps → List·Memᴰ p ps → startOf ps (p .layer) ≡ From (p .start)
-unfolding startOf
+rises-start : (ps : List Plane) (last : ℕ) (p : Plane) → Rises last ps → List·Memᴰ p ps → planeStart ps (p .layer) ≡ From (p .start)
+unfolding planeStart
 rises-start [] last p r m = absurd (List·Memᴰ·not-nil m)
 rises-start (q ∷ ps) last p r m =
     ⊎-elim
     (λ (e : p ≡ q).
     let z = eq-eqb (q .layer) (p .layer) (ap (λ (x : Plane). x .layer) (sym e)) in
-    ap (λ (b : Bool). cond b (From (q .start)) (startOf ps (p .layer))) z ∙ ap (λ (x : Plane). From (x .start)) (sym e))
+    ap (λ (b : Bool). cond b (From (q .start)) (planeStart ps (p .layer))) z ∙ ap (λ (x : Plane). From (x .start)) (sym e))
     (λ (k : List·Memᴰ p ps).
     let h = rises-above ps (q .layer) p (r .1) k in
-    ap (λ (b : Bool). cond b (From (q .start)) (startOf ps (p .layer))) (ne-eqb (q .layer) (p .layer) (λ z. omega arith)) ∙ rises-start ps (q .layer) p (r .1) k)
+    ap (λ (b : Bool). cond b (From (q .start)) (planeStart ps (p .layer))) (ne-eqb (q .layer) (p .layer) (λ z. omega arith)) ∙ rises-start ps (q .layer) p (r .1) k)
     (List·Memᴰ·cases-cons m)
 
 -- each entry is above the one before it
@@ -92,5 +92,5 @@ fine-last : (v : Scene) (ps : List Plane) (i : ℕ) → FineEntry v ps i → las
 fine-last v ps zero k = k .rises
 fine-last v ps (suc i) k = k .rises
 
-pub start-entry : (v : Scene) (pl : PlaneList) → AllFine v pl → (p : Plane) → List·Memᴰ p (pl .entries) → startOf (pl .entries) (p .layer) ≡ From (p .start)
+pub start-entry : (v : Scene) (pl : PlaneList) → AllFine v pl → (p : Plane) → List·Memᴰ p (pl .entries) → planeStart (pl .entries) (p .layer) ≡ From (p .start)
 start-entry v pl f p m = rises-start (pl .entries) 0 p (rises-from (pl .entries) 0 (λ i h. fine-last v (pl .entries) i (f .entries i h))) m

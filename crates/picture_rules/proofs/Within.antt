@@ -8,15 +8,15 @@ use mathlib.Core.Logic.{⊎-elim}
 use mathlib.Core.Bool.{true}
 use mathlib.Core.List.{List, [], _∷_, List·Memᴰ, List·Memᴰ·not-nil, List·Memᴰ·cases-cons}
 use lib.ListN.{length}
-use Rattle.cases.proofs.Cases.{clash}
+use Rattle.laws.proofs.Cases.{clash}
 use Rattle.sheet_rules.specs.declared.Record.{Record}
 use Rattle.sheet_rules.specs.Sentences.{Coded}
 use Rattle.picture_rules.specs.declared.MainPos.{MainPos}
 use Rattle.picture_rules.specs.declared.Plane.{Plane}
-use Rattle.picture_rules.specs.declared.Judged.the-variants.{Fine}
+use Rattle.picture_rules.specs.declared.ListVerdict.the-variants.{Fine}
 use Rattle.picture_rules.specs.declared.Start.the-variants.{From}
 use Rattle.picture_rules.specs.Place.{inside, alongOf, downOf}
-use Rattle.picture_rules.specs.Planes.{PlaneList, startOf}
+use Rattle.picture_rules.specs.Planes.{PlaneList, planeStart}
 use Rattle.picture_rules.specs.Samples.{Scene, recordOf, mainOf, indexOf}
 use Rattle.picture_rules.specs.Line.{planeSpan, planesJudged}
 use Rattle.picture_rules.specs.Sentences.{plane, layerBefore, AllFine}
@@ -50,11 +50,11 @@ before-some ps i l h = omega arith
 
 pub record Read (v : Scene) (l a : ℕ) : Type 0 where
   pub least : 1 ≤ l
-  pub most : l ≤ v .row .layers
+  pub most : l ≤ v .extent .layers
   pub coded : Coded (recordOf v l)
   pub room : a + planeSpan (recordOf v l) ≤ length (v .samples)
 
-pub start-read : (v : Scene) (pl : PlaneList) → AllFine v pl → (l a : ℕ) → startOf (pl .entries) l ≡ From a → Read v l a
+pub start-read : (v : Scene) (pl : PlaneList) → AllFine v pl → (l a : ℕ) → planeStart (pl .entries) l ≡ From a → Read v l a
 start-read v pl f l a e =
     let n = start-among (pl .entries) l a e in
     let i = among-plane (pl .entries) (n .p) (n .among) in
@@ -63,7 +63,7 @@ start-read v pl f l a e =
     let b : plane (pl .entries) (i .0) .start ≡ a = ap (λ (p : Plane). p .start) (i .2) ∙ n .start in
     record {
       least = before-some (pl .entries) (i .0) l (subst (λ (j : ℕ). layerBefore (pl .entries) (i .0) < j) z (g .rises));
-      most = subst (λ (j : ℕ). j ≤ v .row .layers) z (g .present);
+      most = subst (λ (j : ℕ). j ≤ v .extent .layers) z (g .present);
       coded = subst (λ (j : ℕ). Coded (recordOf v j)) z (g .coded);
       room = subst (λ (j : ℕ). j + planeSpan (recordOf v l) ≤ length (v .samples)) b (subst (λ (j : ℕ). plane (pl .entries) (i .0) .start + planeSpan (recordOf v j) ≤ length (v .samples)) z (g .within));
     }
@@ -76,9 +76,9 @@ module _ {s : List ℕ} {pl : PlaneList} {d : List ℕ} {k y : ℕ} {v : Scene} 
       planes-answers v pl (λ j. j ≡ Fine → AllFine v pl) (λ f e. f) (λ i f e. clash cc)
       (ap (λ (ps : List Plane). planesJudged v (pl .part) 0 0 ps) (sym (g .planes)) ∙ g .judged)
 
-  module _ (l a : ℕ) (e : startOf (v .planes) l ≡ From a) (x z : MainPos) (o : inside (mainOf v) (recordOf v l) x z ≡ true) where
+  module _ (l a : ℕ) (e : planeStart (v .planes) l ≡ From a) (x z : MainPos) (o : inside (mainOf v) (recordOf v l) x z ≡ true) where
     stage-read : Read v l a
-    stage-read = start-read v pl stage-fine l a (ap (λ (ps : List Plane). startOf ps l) (sym (g .planes)) ∙ e)
+    stage-read = start-read v pl stage-fine l a (ap (λ (ps : List Plane). planeStart ps l) (sym (g .planes)) ∙ e)
 
     pub mask-there : l % 2 ≡ 0 → a + indexOf (mainOf v) (recordOf v l) x z < length (v .samples)
     mask-there even =

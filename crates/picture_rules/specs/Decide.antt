@@ -12,7 +12,7 @@ use Prim.Native.Nat.{ℕ, zero, suc, _+_, _*_, _/_}
 use mathlib.Core.Bool.{Bool, _&&_, cond}
 use lib.Dec.{eqb}
 use Rattle.picture_rules.specs.declared.MainPos.{MainPos}
-use Rattle.picture_rules.specs.declared.Colour.{Colour}
+use Rattle.sheet_rules.specs.declared.Colour.{Colour}
 use Rattle.picture_rules.specs.declared.Sample.{Sample}
 use Rattle.picture_rules.specs.declared.Sample.the-variants.{Known, Unknown}
 use Rattle.picture_rules.specs.declared.Mask.{Mask}
@@ -50,7 +50,7 @@ abbrev pub stackAt : Scene → MainPos → MainPos → Stack
 stackAt v x y = record { mask = λ k. maskAt v (k * 2) x y; image = λ k. imageAt v (k * 2 + 1) x y }
 
 abbrev pub pairsOf : Scene → ℕ
-pairsOf v = v .row .layers / 2
+pairsOf v = v .extent .layers / 2
 
 unfoldable pub pixelAt : Scene → MainPos → MainPos → Sample
 unfolding decide

@@ -14,13 +14,14 @@ use mathlib.Core.List.{List, [], _∷_, List·Memᴰ}
 use lib.ListN.{length, getD, take, drop}
 use Rattle.sheet_rules.specs.Sentences.{Coded}
 use Rattle.picture_rules.specs.declared.MainPos.{MainPos}
-use Rattle.picture_rules.specs.declared.Colour.{Colour}
+use Rattle.sheet_rules.specs.declared.Colour.{Colour}
 use Rattle.picture_rules.specs.declared.Plane.{Plane}
 use Rattle.picture_rules.specs.Planes.{PlaneList}
 use Rattle.picture_rules.specs.Samples.{Scene, recordOf, widthOf}
 use Rattle.picture_rules.specs.Content.{SeenAs}
 use Rattle.picture_rules.specs.Line.{planeSpan}
-use Rattle.picture_rules.specs.Sentences.{Accepted, HasLine, sceneOf, AllFine}
+use Rattle.picture_rules.specs.Sentences.{HasLine, sceneOf, AllFine}
+use Rattle.sheet_rules.specs.Sentences.{Accepted}
 
 abbrev pub fourAt : List ℕ → ℕ → List ℕ
 fourAt l x = take 4 (drop (x * 4) l)
@@ -66,7 +67,7 @@ Reread v w =
     → (q : Plane) × List·Memᴰ q (w .planes) × (q .layer ≡ p .layer)
     × ((i : ℕ) → i < planeSpan (recordOf v (p .layer)) → getD (w .samples) (q .start + i) 0 ≡ getD (v .samples) (p .start + i) 0)
 
--- each coded layer of the stripe is listed
+-- each coded layer of the stripe is wholeList
 abbrev pub AllRead : Scene → Type 0
 AllRead v =
-    (l : ℕ) → 1 ≤ l → l ≤ v .row .layers → Coded (recordOf v l) → (p : Plane) × List·Memᴰ p (v .planes) × (p .layer ≡ l)
+    (l : ℕ) → 1 ≤ l → l ≤ v .extent .layers → Coded (recordOf v l) → (p : Plane) × List·Memᴰ p (v .planes) × (p .layer ≡ l)

@@ -6,7 +6,7 @@
 --   linePixels v y     the octets of line y of a scene
 --   depth l            octets a sample: one in a mask, three in an image layer
 --   planeSpan r        octets of all samples of a layer
---   planeOk            an entry, behind the layer listed last: the layer is above it, present, coded, and within the sample buffer
+--   planeOk            an entry, behind the layer wholeList last: the layer is above it, present, coded, and within the sample buffer
 --   planesJudged       BadPlane at the first entry at fault, or at a part entry behind whole ones
 --   Ruling             the scene to be composed, or the refusal
 --   rulingOf           BadSheet, BadLine, BadPlane
@@ -15,7 +15,7 @@
 --   Lines              the call's promise: it answers a, and the buffer is then e
 use Prim.Native.Nat.{ℕ, zero, suc, _+_, _*_, _%_}
 use mathlib.Core.Path.{_≡_}
-use mathlib.Core.Bool.{Bool, true, false, _&&_, cond}
+use mathlib.Core.Bool.{Bool, _&&_, cond}
 use mathlib.Core.List.{List, [], _∷_, _++_}
 use lib.ListN.{length}
 use lib.Dec.{eqb, leb, ltb}
@@ -23,18 +23,17 @@ use Rattle.octets.specs.Octets.{putAt}
 use Rattle.answers.specs.declared.Answer.{Answer}
 use Rattle.answers.specs.declared.Answer.the-variants.{Done, NoRoom, BadPlane, BadLine}
 use Rattle.sheet_rules.specs.declared.Record.{Record}
-use Rattle.sheet_rules.specs.declared.Stripe.{Stripe}
 use Rattle.sheet_rules.specs.declared.FoundStripe.{FoundStripe}
-use Rattle.sheet_rules.specs.declared.FoundStripe.the-variants.{Row, NoStripe}
+use Rattle.sheet_rules.specs.declared.FoundStripe.the-variants.{Has, NoStripe}
 use Rattle.sheet_rules.specs.declared.Verdict.{Verdict}
-use Rattle.sheet_rules.specs.declared.Verdict.the-variants.{Good, Bad}
+use Rattle.sheet_rules.specs.declared.Verdict.the-variants.{Good}
 use Rattle.sheet_rules.specs.Judge.{coded, judgeOf, answerOf}
-use Rattle.sheet_rules.specs.Stripe.{findStripe}
+use Rattle.sheet_rules.specs.StripeTable.{findStripe}
 use Rattle.picture_rules.specs.declared.MainPos.{MainPos}
 use Rattle.picture_rules.specs.declared.Plane.{Plane}
-use Rattle.picture_rules.specs.declared.Judged.{Judged}
-use Rattle.picture_rules.specs.declared.Judged.the-variants.{Fine, Fault}
-use Rattle.picture_rules.specs.declared.Colour.{Colour}
+use Rattle.picture_rules.specs.declared.ListVerdict.{ListVerdict}
+use Rattle.picture_rules.specs.declared.ListVerdict.the-variants.{Fine}
+use Rattle.sheet_rules.specs.declared.Colour.{Colour}
 use Rattle.picture_rules.specs.declared.Sample.{Sample}
 use Rattle.picture_rules.specs.declared.Sample.the-variants.{Known, Unknown}
 use Rattle.picture_rules.specs.Planes.{PlaneList}
@@ -72,15 +71,15 @@ planeSpan r = r .width * r .height * depth (r .layer)
 unfoldable pub planeOk : Scene → ℕ → Plane → Bool
 unfolding planeSpan
 planeOk v last p =
-    ltb last (p .layer) && leb (p .layer) (v .row .layers)
+    ltb last (p .layer) && leb (p .layer) (v .extent .layers)
     && coded (recordOf v (p .layer))
     && leb (p .start + planeSpan (recordOf v (p .layer))) (length (v .samples))
 
 -- entry i on, behind an entry of layer `last`
-unfoldable pub planesJudged : Scene → Bool → ℕ → ℕ → List Plane → Judged
+unfoldable pub planesJudged : Scene → Bool → ℕ → ℕ → List Plane → ListVerdict
 unfolding planeOk
-planesJudged v part last i [] = cond part (Fault i) Fine
-planesJudged v part last i (p ∷ ps) = cond (planeOk v last p) (planesJudged v part (p .layer) (i + 1) ps) (Fault i)
+planesJudged v part last i [] = cond part (ListVerdict.Refused i) Fine
+planesJudged v part last i (p ∷ ps) = cond (planeOk v last p) (planesJudged v part (p .layer) (i + 1) ps) (ListVerdict.Refused i)
 
 -- ---- the call
 
@@ -88,11 +87,11 @@ pub data Ruling : Type 0 where
   shows : Scene → Ruling
   refuses : Answer → Ruling
 
-abbrev pub planeRuling : Scene → Judged → Ruling
+abbrev pub planeRuling : Scene → ListVerdict → Ruling
 planeRuling v Fine = shows v
-planeRuling v (Fault i) = refuses (BadPlane i)
+planeRuling v (ListVerdict.Refused i) = refuses (BadPlane i)
 
--- no layer is listed before the first entry
+-- no layer is wholeList before the first entry
 unfoldable pub sceneRuling : Scene → Bool → Ruling
 unfolding planesJudged
 sceneRuling v part = planeRuling v (planesJudged v part 0 0 (v .planes))
@@ -100,14 +99,14 @@ sceneRuling v part = planeRuling v (planesJudged v part 0 0 (v .planes))
 unfoldable pub stripeRuling : List ℕ → PlaneList → List ℕ → ℕ → FoundStripe → Ruling
 unfolding sceneRuling
 stripeRuling s pl d y NoStripe = refuses BadLine
-stripeRuling s pl d y (Row row) =
-    cond (ltb y (row .height))
-    (sceneRuling (record { sheet = s; row = row; planes = pl .entries; samples = d }) (pl .part))
+stripeRuling s pl d y (Has extent) =
+    cond (ltb y (extent .height))
+    (sceneRuling (record { sheet = s; extent = extent; planes = pl .entries; samples = d }) (pl .part))
     (refuses BadLine)
 
 unfoldable pub sheetRuling : List ℕ → PlaneList → List ℕ → ℕ → ℕ → Verdict → Ruling
 unfolding stripeRuling
-sheetRuling s pl d k y (Bad i) = refuses (answerOf (Bad i))
+sheetRuling s pl d k y (Verdict.Refused i) = refuses (answerOf (Verdict.Refused i))
 sheetRuling s pl d k y (Good n m) = stripeRuling s pl d y (findStripe s k)
 
 -- line y of stripe k

@@ -4,8 +4,8 @@
 --   planeAt s i        entry i of a list in that form: the layer, and four octets of start
 --   planesFrom s k i   so many entries from entry i on
 --   PlaneList          the entries, and whether a part entry stands behind them
---   listOf s           the list of these octets; listed ps: the list of these entries, which has no part
---   startOf            where a layer's samples start, or that it is unread
+--   listOf s           the list of these octets; wholeList ps: the list of these entries, which has no part
+--   planeStart            where a layer's samples start, or that it is unread
 use Prim.Native.Nat.{ℕ, zero, suc, _+_, _*_, _/_, _%_}
 use mathlib.Core.Bool.{Bool, false, not, cond}
 use mathlib.Core.List.{List, [], _∷_}
@@ -33,9 +33,9 @@ pub record PlaneList : Type 0 where
 abbrev pub listOf : List ℕ → PlaneList
 listOf s = record { entries = planesFrom s (length s / planeSize) 0; part = not (eqb (length s % planeSize) 0) }
 
-abbrev pub listed : List Plane → PlaneList
-listed ps = record { entries = ps; part = false }
+abbrev pub wholeList : List Plane → PlaneList
+wholeList ps = record { entries = ps; part = false }
 
-unfoldable pub startOf : List Plane → ℕ → Start
-startOf [] l = Unread
-startOf (p ∷ ps) l = cond (eqb (p .layer) l) (From (p .start)) (startOf ps l)
+unfoldable pub planeStart : List Plane → ℕ → Start
+planeStart [] l = Unread
+planeStart (p ∷ ps) l = cond (eqb (p .layer) l) (From (p .start)) (planeStart ps l)

@@ -6,39 +6,38 @@
 --   widthOf v       the page's width, that of layer 2
 --   indexOf         a sample's number in its layer, row by row
 --   bitOf           a mask octet's value: 0 is 0, all else 1
---   colourAt d i    the colour of the three octets from i on
 --   virtual v l     what an uncoded mask gives
---   maskAt, imageAt the sample of a mask and of an image layer at a place
+--   maskAt          the sample of a mask at a place; imageAt: of an image layer
 use Prim.Native.Nat.{ℕ, _+_, _-_, _*_}
 use mathlib.Core.Bool.{_&&_, cond}
 use mathlib.Core.List.{List}
 use lib.ListN.{getD}
 use lib.Dec.{eqb}
 use Rattle.sheet_rules.specs.declared.Record.{Record}
-use Rattle.sheet_rules.specs.declared.Stripe.{Stripe}
-use Rattle.sheet_rules.specs.Record.{recordAt}
+use Rattle.sheet_rules.specs.declared.Extent.{Extent}
+use Rattle.sheet_rules.specs.Record.{colourAt, recordAt}
 use Rattle.sheet_rules.specs.Judge.{coded}
 use Rattle.picture_rules.specs.declared.MainPos.{MainPos}
 use Rattle.picture_rules.specs.declared.Plane.{Plane}
 use Rattle.picture_rules.specs.declared.Start.{Start}
 use Rattle.picture_rules.specs.declared.Start.the-variants.{From, Unread}
-use Rattle.picture_rules.specs.declared.Colour.{Colour}
+use Rattle.sheet_rules.specs.declared.Colour.{Colour}
 use Rattle.picture_rules.specs.declared.Sample.{Sample}
 use Rattle.picture_rules.specs.declared.Sample.the-variants.{Known, Unknown}
 use Rattle.picture_rules.specs.declared.Mask.{Mask}
 use Rattle.picture_rules.specs.declared.Mask.the-variants.{Zero, One, Hidden}
 use Rattle.picture_rules.specs.Place.{inside, alongOf, downOf}
-use Rattle.picture_rules.specs.Planes.{startOf}
+use Rattle.picture_rules.specs.Planes.{planeStart}
 
 pub record Scene : Type 0 where
   pub sheet : List ℕ
-  pub row : Stripe
+  pub extent : Extent
   pub planes : List Plane
   pub samples : List ℕ
 
 -- layer 1 has the stripe's first record
 unfoldable pub recordOf : Scene → ℕ → Record
-recordOf v l = recordAt (v .sheet) (v .row .first + (l - 1))
+recordOf v l = recordAt (v .sheet) (v .extent .first + (l - 1))
 
 abbrev pub mainOf : Scene → ℕ
 mainOf v = recordOf v 2 .res
@@ -52,9 +51,6 @@ indexOf main r x y = downOf main r y .0 * r .width + alongOf main r x .0
 
 unfoldable pub bitOf : ℕ → Mask
 bitOf v = cond (eqb v 0) Zero One
-
-abbrev pub colourAt : List ℕ → ℕ → Colour
-colourAt d i = record { c0 = getD d i 0; c1 = getD d (i + 1) 0; c2 = getD d (i + 2) 0 }
 
 abbrev pub baseOf : Record → Colour
 baseOf r = record { c0 = r .base0; c1 = r .base1; c2 = r .base2 }
@@ -74,17 +70,17 @@ imageRead d (From a) i = Known (colourAt d (a + i * 3))
 imageRead d Unread i = Unknown
 
 unfoldable pub maskAt : Scene → ℕ → MainPos → MainPos → Mask
-unfolding virtual maskRead startOf inside indexOf
+unfolding virtual maskRead planeStart inside indexOf
 maskAt v l x y =
     cond (coded (recordOf v l))
     (cond (inside (mainOf v) (recordOf v l) x y)
-    (maskRead (v .samples) (startOf (v .planes) l) (indexOf (mainOf v) (recordOf v l) x y))
+    (maskRead (v .samples) (planeStart (v .planes) l) (indexOf (mainOf v) (recordOf v l) x y))
     Zero)
     (virtual v l)
 
 unfoldable pub imageAt : Scene → ℕ → MainPos → MainPos → Sample
-unfolding imageRead startOf inside indexOf
+unfolding imageRead planeStart inside indexOf
 imageAt v l x y =
     cond (coded (recordOf v l) && inside (mainOf v) (recordOf v l) x y)
-    (imageRead (v .samples) (startOf (v .planes) l) (indexOf (mainOf v) (recordOf v l) x y))
+    (imageRead (v .samples) (planeStart (v .planes) l) (indexOf (mainOf v) (recordOf v l) x y))
     (Known (baseOf (recordOf v l)))

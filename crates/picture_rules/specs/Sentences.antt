@@ -1,6 +1,5 @@
 -- The line call as sentences: when each answer is given (01, "Numbers that a call returns": BadSheet, BadLine, BadPlane, NoRoom), without the steps of Line.antt.
 --
---   Accepted s          the octets s are a sheet
 --   HasLine s k y       the sheet has a stripe k, and that a line y
 --   sceneOf s pl d k    stripe k of the sheet, the entries of the plane list, and the samples
 --   layerBefore ps i    the layer of the entry before entry i; 0 before the first
@@ -15,24 +14,21 @@ use mathlib.Core.Bool.{true, false}
 use mathlib.Core.List.{List}
 use lib.ListN.{length, getD}
 use Rattle.answers.specs.declared.Answer.{Answer}
-use Rattle.answers.specs.declared.Answer.the-variants.{Done, Short, BadMark, BadLength, BadVersion, BadMode, BadCoder, BadRes, BadWidth, BadType, BadStripe, BadLayer, Trailing, NoRoom, BadSheet, BadPlane, Mismatch, BadLine, TooLong}
-use Rattle.sheet_rules.specs.Record.{records, rest}
-use Rattle.sheet_rules.specs.Sentences.{Coded, Sheet, stripeCount, BadSheetAt}
-use Rattle.sheet_rules.specs.Stripe.{rowOf}
+use Rattle.answers.specs.declared.Answer.the-variants.{Done, NoRoom, BadSheet, BadPlane, BadLine}
+use Rattle.sheet_rules.specs.Record.{records}
+use Rattle.sheet_rules.specs.Sentences.{Coded, stripeCount, Accepted, BadSheetAt}
+use Rattle.sheet_rules.specs.StripeTable.{extentOf}
 use Rattle.picture_rules.specs.declared.Plane.{Plane}
 use Rattle.picture_rules.specs.Planes.{PlaneList}
 use Rattle.picture_rules.specs.Samples.{Scene, recordOf, widthOf}
 use Rattle.picture_rules.specs.Line.{planeSpan}
 
-abbrev pub Accepted : List ℕ → Type 0
-Accepted s = Sheet (records s) × (rest s ≡ 0)
-
 pub record HasLine (s : List ℕ) (k y : ℕ) : Type 0 where
   pub stripe : k < stripeCount (records s)
-  pub line : y < rowOf k (records s) .height
+  pub line : y < extentOf k (records s) .height
 
 abbrev pub sceneOf : List ℕ → PlaneList → List ℕ → ℕ → Scene
-sceneOf s pl d k = record { sheet = s; row = rowOf k (records s); planes = pl .entries; samples = d }
+sceneOf s pl d k = record { sheet = s; extent = extentOf k (records s); planes = pl .entries; samples = d }
 
 abbrev pub noPlane : Plane
 noPlane = record { layer = 0; start = 0 }
@@ -46,7 +42,7 @@ layerBefore ps (suc i) = plane ps i .layer
 
 pub record FineEntry (v : Scene) (ps : List Plane) (i : ℕ) : Type 0 where
   pub rises : layerBefore ps i < plane ps i .layer
-  pub present : plane ps i .layer ≤ v .row .layers
+  pub present : plane ps i .layer ≤ v .extent .layers
   pub coded : Coded (recordOf v (plane ps i .layer))
   pub within : plane ps i .start + planeSpan (recordOf v (plane ps i .layer)) ≤ length (v .samples)
 
@@ -71,25 +67,11 @@ PlaneAt v pl i = PlaneBreaks v (pl .entries) i ⊎ PlaneStops v pl i
 
 -- ---- the answers, in the paper's order
 
-unfoldable pub Gives : List ℕ → PlaneList → List ℕ → ℕ → ℕ → ℕ → Answer → Type 0
-Gives s pl d k y room (BadSheet i) = BadSheetAt s i
-Gives s pl d k y room BadLine = Accepted s × (HasLine s k y → ⊥)
-Gives s pl d k y room (BadPlane i) = Accepted s × HasLine s k y × PlaneAt (sceneOf s pl d k) pl i
-Gives s pl d k y room NoRoom = Accepted s × HasLine s k y × AllFine (sceneOf s pl d k) pl × (room < widthOf (sceneOf s pl d k) * 4)
-Gives s pl d k y room (Done n) =
-    Accepted s × HasLine s k y × AllFine (sceneOf s pl d k) pl × (n ≡ widthOf (sceneOf s pl d k) * 4) × (n ≤ room)
--- a line call gives no other
-Gives s pl d k y room (Short i) = ⊥
-Gives s pl d k y room (BadMark i) = ⊥
-Gives s pl d k y room (BadLength i) = ⊥
-Gives s pl d k y room (BadVersion i) = ⊥
-Gives s pl d k y room (BadMode i) = ⊥
-Gives s pl d k y room (BadCoder i) = ⊥
-Gives s pl d k y room (BadRes i) = ⊥
-Gives s pl d k y room (BadWidth i) = ⊥
-Gives s pl d k y room (BadType i) = ⊥
-Gives s pl d k y room (BadStripe i) = ⊥
-Gives s pl d k y room (BadLayer i) = ⊥
-Gives s pl d k y room (Trailing i) = ⊥
-Gives s pl d k y room (Mismatch i) = ⊥
-Gives s pl d k y room TooLong = ⊥
+-- one line for each answer that a line call gives; it gives no other
+pub data Gives (s : List ℕ) (pl : PlaneList) (d : List ℕ) (k y room : ℕ) : Answer → Type 0 where
+  no-sheet : {i : ℕ} → BadSheetAt s i → Gives s pl d k y room (BadSheet i)
+  no-line : Accepted s → (HasLine s k y → ⊥) → Gives s pl d k y room BadLine
+  no-plane : {i : ℕ} → Accepted s → HasLine s k y → PlaneAt (sceneOf s pl d k) pl i → Gives s pl d k y room (BadPlane i)
+  no-room : Accepted s → HasLine s k y → AllFine (sceneOf s pl d k) pl → room < widthOf (sceneOf s pl d k) * 4 → Gives s pl d k y room NoRoom
+  lined : {n : ℕ} → Accepted s → HasLine s k y → AllFine (sceneOf s pl d k) pl → n ≡ widthOf (sceneOf s pl d k) * 4 → n ≤ room
+      → Gives s pl d k y room (Done n)

@@ -1,17 +1,12 @@
 // The types of a picture: places, samples and the plane list. Its definitions stand in specs/, the theorems about them in proofs/.
 
+use sheet_rules::Colour;
+
 // A place along a line or down a stripe, in main mask pixels from the stripe's corner.
 pub struct MainPos(pub usize);
 
 // A place along or down a layer, in its own samples from the layer's corner. Only the scaling step makes one of a place in main mask pixels.
 pub struct SamplePos(pub usize);
-
-// Three CIELAB code octets, carried as they stand.
-pub struct Colour {
-    pub c0: u8,
-    pub c1: u8,
-    pub c2: u8,
-}
 
 // The sample of an image layer at a pixel.
 pub enum Sample {
@@ -40,7 +35,7 @@ pub enum Start {
 }
 
 // A plane list judged: fine, or the entry at fault.
-pub enum Judged {
+pub enum ListVerdict {
     Fine,
-    Fault(u32),
+    Refused(u32),
 }

@@ -14,9 +14,9 @@ use Rattle.sheet_rules.specs.declared.Record.{Record}
 use Rattle.sheet_rules.specs.declared.Verdict.the-variants.{Good}
 use Rattle.sheet_rules.specs.Record.{recordAt, encode, sheetOf, recordsFrom, records}
 use Rattle.sheet_rules.specs.Judge.{keeps, after, after1, after2, after3, stepOf, endOf, onStep, walk, judge, judgeOf}
-use Rattle.sheet_rules.specs.Stripe.{findStripe}
+use Rattle.sheet_rules.specs.StripeTable.{findStripe}
 use Rattle.sheet_rules.proofs.Make.{made}
-use Rattle.picture_rules.specs.declared.Colour.{Colour}
+use Rattle.sheet_rules.specs.declared.Colour.{Colour}
 use Rattle.picture_rules.specs.Planes.{planeAt, planesFrom, listOf}
 use Rattle.picture_rules.specs.Samples.{recordOf, maskAt, imageAt}
 use Rattle.picture_rules.specs.Place.{scale}

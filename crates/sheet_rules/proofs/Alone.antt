@@ -1,25 +1,25 @@
 -- A stripe by itself: where a stripe begins, the judge goes on as it would from the stripe's number, the height left and the page's
 -- width and resolution alone.
 -- Assumes nothing.
-use Prim.Native.Nat.{ℕ, zero, suc, _+_, _-_, _%_, _≤_, _<_}
+use Prim.Native.Nat.{ℕ, suc, _+_, _-_, _%_, _≤_, _<_}
 use native.Mathlib.Nat.{eq-zero-or-pos}
 use native.Mathlib.Numerals.{add-one}
 use native.Mathlib.Omega.{arith}
-use mathlib.Core.Path.{_≡_, refl, sym, ap, subst, _∙_}
-use mathlib.Core.Logic.{_⊎_, inl, inr, ⊎-elim}
-use mathlib.Core.Bool.{Bool, true, false, _&&_, _||_, cond}
-use mathlib.Core.List.{List, [], _∷_, _++_}
+use mathlib.Core.Path.{_≡_, sym, ap, subst, _∙_}
+use mathlib.Core.Logic.{⊎-elim}
+use mathlib.Core.Bool.{true, false}
+use mathlib.Core.List.{List, _∷_, _++_}
 use lib.ListN.{length}
-use lib.Dec.{eqb, leb}
+use lib.Dec.{eqb}
 use borrow.Author.Tests.{eq-eqb, ne-eqb, le-leb}
 use Rattle.sheet_rules.specs.declared.Record.{Record}
 use Rattle.sheet_rules.specs.declared.State.{State}
 use Rattle.sheet_rules.specs.declared.Step.{Step}
-use Rattle.sheet_rules.specs.declared.Step.the-variants.{Next, Stop}
+use Rattle.sheet_rules.specs.declared.Step.the-variants.{Stop}
 use Rattle.sheet_rules.specs.Record.{nth}
-use Rattle.sheet_rules.specs.Judge.{closes, nextLayer, placed, zerosOk, dataOk, listed, baseOk, layerOk, keeps, begin, after, after1, stepOf, onStep, run}
+use Rattle.sheet_rules.specs.Judge.{closes, keeps, begin, after, after1, stepOf, onStep, run}
 use Rattle.sheet_rules.specs.Sentences.{Closing, Above, Opening, heights, Unbroken, Complete, stripeCount}
-use Rattle.sheet_rules.specs.Stripe.{entering}
+use Rattle.sheet_rules.specs.StripeTable.{entering}
 use Rattle.sheet_rules.proofs.Among.{nth-among}
 use Rattle.sheet_rules.proofs.Agrees.{Agrees}
 use Rattle.sheet_rules.proofs.Fold.{run-append, begun-unbroken, unbroken-begun}

@@ -1,24 +1,22 @@
 -- A record that, with those before it, breaks no sentence is one that the judge keeps; and records unbroken are so up to any of them.
 -- Assumes nothing.
-use Prim.Native.Nat.{ℕ, _+_, _-_, _*_, _%_, _≤_, _<_, _∣_}
+use Prim.Native.Nat.{ℕ, _+_, _-_, _%_, _≤_, _<_, _∣_}
 use native.Mathlib.Nat.{eq-zero-or-pos}
 use native.Mathlib.Omega.{arith}
-use mathlib.Core.Path.{_≡_, refl, sym, ap, subst, subst₂, _∙_}
+use mathlib.Core.Path.{_≡_, sym, ap, subst, subst₂, _∙_}
 use mathlib.Core.Logic.{_⊎_, inl, inr, _≢_, ⊎-elim, ⊎-map}
-use mathlib.Core.Bool.{Bool, true, false, cond}
+use mathlib.Core.Bool.{Bool, cond}
 use mathlib.Core.List.{List, [], _∷_, _++_, Memᴰ·append-left}
 use lib.ListN.{length, length-append, List·getD-append}
-use lib.Dec.{eqb}
 use borrow.Author.Tests.{eq-eqb}
 use Rattle.sheet_rules.specs.declared.Record.{Record}
 use Rattle.sheet_rules.specs.declared.State.{State}
 use Rattle.sheet_rules.specs.Record.{blank, nth, heightIn}
-use Rattle.sheet_rules.specs.Judge.{coded}
-use Rattle.sheet_rules.specs.Sentences.{Among, Coded, Uncoded, Above, Opening, Listed, heights, Unbroken}
-use Rattle.cases.proofs.Says.{Says, says-eq, says-else}
+use Rattle.sheet_rules.specs.Sentences.{Among, Coded, Uncoded, Above, Opening, Listed, Unbroken}
+use Rattle.laws.proofs.Says.{says-eq, says-else}
 use Rattle.sheet_rules.proofs.Among.{heights-append, length-more, nth-old, nth-new, heights-more, among-new, among-old}
-use Rattle.sheet_rules.proofs.New.{NextLayer, NextStripe, CodedFacts, EmptyFacts, UncodedFacts, BaseFacts, ResFacts, PageFacts, ChoiceFacts, UpperFacts, New, says-coded}
-use Rattle.sheet_rules.proofs.Agrees.{Agrees, One, Two}
+use Rattle.sheet_rules.proofs.New.{NextLayer, NextStripe, CodedFacts, EmptyFacts, UncodedFacts, BaseFacts, ResFacts, PageFacts, UpperFacts, New, says-coded}
+use Rattle.sheet_rules.proofs.Agrees.{Agrees}
 
 pub listed-nonzero : (n : ℕ) → Listed n → n ≢ 0
 listed-nonzero n (inl e) z = omega arith

@@ -1,14 +1,13 @@
 -- Sheets that are accepted, so that the rules are no empty ones: the paper's example, and two stripes of different layers, coders,
 -- resolutions and heights.
 -- Assumes nothing.
-use Prim.Native.Nat.{ℕ, _+_}
+use Prim.Native.Nat.{ℕ}
 use mathlib.Core.Path.{_≡_, refl}
-use mathlib.Core.List.{List, [], _∷_, _++_}
+use mathlib.Core.List.{List, [], _∷_}
 use Rattle.sheet_rules.specs.declared.Record.{Record}
 use Rattle.sheet_rules.proofs.Make.{made}
-use Rattle.sheet_rules.specs.declared.Verdict.{Verdict}
-use Rattle.sheet_rules.specs.declared.Verdict.the-variants.{Good, Bad}
-use Rattle.sheet_rules.specs.Record.{recordAt, encode, recordsFrom, records}
+use Rattle.sheet_rules.specs.declared.Verdict.the-variants.{Good, Refused}
+use Rattle.sheet_rules.specs.Record.{recordAt, recordsFrom, records}
 use Rattle.sheet_rules.specs.Judge.{keeps, after, after1, after2, after3, stepOf, endOf, onStep, walk, judge, judgeOf}
 use Rattle.octets.specs.Octets.{be16At, be32At}
 
@@ -44,29 +43,29 @@ stripes-accepted = refl
 -- ---- the paper's exceptions, at their places
 
 -- layer 1 under 300 is no fault by itself; it is met at layer 2, whose 400 it does not divide, in stripe 0 and in a later one
-pub resolution-at-2 : judge (layer 0 1 1 0 0 5 5 300 9 9 ∷ layer 0 2 4 0 0 8 8 400 9 9 ∷ layer 0 3 0 0 0 0 0 400 0 0 ∷ []) 0 ≡ Bad 1
+pub resolution-at-2 : judge (layer 0 1 1 0 0 5 5 300 9 9 ∷ layer 0 2 4 0 0 8 8 400 9 9 ∷ layer 0 3 0 0 0 0 0 400 0 0 ∷ []) 0 ≡ Refused 1
 unfolding judge walk onStep stepOf keeps after after1 after2 after3 endOf layer
 resolution-at-2 = refl
 
 pub resolution-at-2-later : judge (layer 0 1 0 0 0 0 0 400 0 0 ∷ layer 0 2 4 0 0 8 8 400 9 9 ∷ layer 0 3 0 0 0 0 0 400 0 0
-    ∷ layer 1 1 1 0 0 5 5 300 9 9 ∷ layer 1 2 4 0 0 8 8 400 9 9 ∷ layer 1 3 0 0 0 0 0 400 0 0 ∷ []) 0 ≡ Bad 4
+    ∷ layer 1 1 1 0 0 5 5 300 9 9 ∷ layer 1 2 4 0 0 8 8 400 9 9 ∷ layer 1 3 0 0 0 0 0 400 0 0 ∷ []) 0 ≡ Refused 4
 unfolding judge walk onStep stepOf keeps after after1 after2 after3 endOf layer
 resolution-at-2-later = refl
 
 -- the choice of coded layers 1 to 3 is met at layer 3: none, and 1 and 3 without 2
-pub choice-at-3 : judge (layer 0 1 0 0 0 0 0 400 0 0 ∷ layer 0 2 0 0 0 8 8 400 0 0 ∷ layer 0 3 0 0 0 0 0 400 0 0 ∷ []) 0 ≡ Bad 2
+pub choice-at-3 : judge (layer 0 1 0 0 0 0 0 400 0 0 ∷ layer 0 2 0 0 0 8 8 400 0 0 ∷ layer 0 3 0 0 0 0 0 400 0 0 ∷ []) 0 ≡ Refused 2
 unfolding judge walk onStep stepOf keeps after after1 after2 after3 endOf layer
 choice-at-3 = refl
 
-pub mask-at-3 : judge (layer 0 1 1 0 0 5 5 400 9 9 ∷ layer 0 2 0 0 0 8 8 400 0 0 ∷ layer 0 3 1 0 0 5 5 400 9 9 ∷ []) 0 ≡ Bad 2
+pub mask-at-3 : judge (layer 0 1 1 0 0 5 5 400 9 9 ∷ layer 0 2 0 0 0 8 8 400 0 0 ∷ layer 0 3 1 0 0 5 5 400 9 9 ∷ []) 0 ≡ Refused 2
 unfolding judge walk onStep stepOf keeps after after1 after2 after3 endOf layer
 mask-at-3 = refl
 
 -- a part record, and a stripe that stops at an even layer, are at the record that was due
-pub part-due : judge (layer 0 1 0 0 0 0 0 400 0 0 ∷ layer 0 2 4 0 0 8 8 400 9 9 ∷ layer 0 3 0 0 0 0 0 400 0 0 ∷ []) 27 ≡ Bad 3
+pub part-due : judge (layer 0 1 0 0 0 0 0 400 0 0 ∷ layer 0 2 4 0 0 8 8 400 9 9 ∷ layer 0 3 0 0 0 0 0 400 0 0 ∷ []) 27 ≡ Refused 3
 unfolding judge walk onStep stepOf keeps after after1 after2 after3 endOf layer
 part-due = refl
 
-pub even-due : judge (layer 0 1 0 0 0 0 0 400 0 0 ∷ layer 0 2 4 0 0 8 8 400 9 9 ∷ layer 1 1 0 0 0 0 0 400 0 0 ∷ []) 0 ≡ Bad 2
+pub even-due : judge (layer 0 1 0 0 0 0 0 400 0 0 ∷ layer 0 2 4 0 0 8 8 400 9 9 ∷ layer 1 1 0 0 0 0 0 400 0 0 ∷ []) 0 ≡ Refused 2
 unfolding judge walk onStep stepOf keeps after after1 after2 after3 endOf layer
 even-due = refl

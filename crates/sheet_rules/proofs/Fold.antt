@@ -1,23 +1,19 @@
 -- The fold over records: it goes on exactly while no sentence is broken, and what the judge answers by it.
 -- Assumes nothing.
-use Prim.Native.Nat.{ℕ, zero, suc, _+_, _*_, _≤_, _<_}
+use Prim.Native.Nat.{ℕ, suc, _+_}
 use native.Mathlib.Omega.{arith}
 use mathlib.Core.Path.{_≡_, refl, sym, ap, subst, _∙_}
-use mathlib.Core.Logic.{_⊎_, inl, inr, ⊎-elim}
-use mathlib.Core.Bool.{Bool, true, false, _&&_, cond, false≢true}
+use mathlib.Core.Bool.{Bool, true, false, cond}
 use mathlib.Core.List.{List, [], _∷_, _++_, append-nil}
-use lib.ListN.{length, length-append}
+use lib.ListN.{length}
 use lib.Seq.{append-snoc}
-use lib.Dec.{eqb}
 use Rattle.sheet_rules.specs.declared.Record.{Record}
 use Rattle.sheet_rules.specs.declared.State.{State}
 use Rattle.sheet_rules.specs.declared.Step.{Step}
 use Rattle.sheet_rules.specs.declared.Step.the-variants.{Next, Stop}
-use Rattle.sheet_rules.specs.declared.Verdict.{Verdict}
-use Rattle.sheet_rules.specs.declared.Verdict.the-variants.{Good, Bad}
-use Rattle.sheet_rules.specs.Judge.{closes, keeps, begin, after, stepOf, endOf, onStep, run, walk}
+use Rattle.sheet_rules.specs.declared.Verdict.the-variants.{Refused}
+use Rattle.sheet_rules.specs.Judge.{keeps, begin, after, stepOf, onStep, run, walk}
 use Rattle.sheet_rules.specs.Sentences.{Unbroken}
-use Rattle.cases.proofs.Says.{Says}
 use Rattle.sheet_rules.proofs.New.{New, says-new}
 use Rattle.sheet_rules.proofs.Agrees.{Agrees, agrees-begin, agrees-more}
 use Rattle.sheet_rules.proofs.Forward.{unbroken-none, unbroken-more}
@@ -102,7 +98,7 @@ walk-next st t i (p ∷ ps) qs part e =
     let z : i + 1 + length ps ≡ i + suc (length ps) = omega arith in
     step-cases
     (λ x. onStep x Stop (λ (v : State). run v ps) ≡ Next t
-    → onStep x (Bad i) (λ (v : State). walk v (i + 1) (ps ++ qs) part) ≡ walk t (i + suc (length ps)) qs part)
+    → onStep x (Refused i) (λ (v : State). walk v (i + 1) (ps ++ qs) part) ≡ walk t (i + suc (length ps)) qs part)
     st p
     (λ k h. walk-next (after st p) t (i + 1) ps qs part h ∙ ap (λ (n : ℕ). walk t n qs part) z)
     (λ k h. stop-next h)
@@ -115,7 +111,7 @@ walk-stop st i [] qs part part′ e = stop-next (sym e)
 walk-stop st i (p ∷ ps) qs part part′ e =
     step-cases
     (λ x. onStep x Stop (λ (v : State). run v ps) ≡ Stop
-    → onStep x (Bad i) (λ (v : State). walk v (i + 1) (ps ++ qs) part) ≡ onStep x (Bad i) (λ (v : State). walk v (i + 1) ps part′))
+    → onStep x (Refused i) (λ (v : State). walk v (i + 1) (ps ++ qs) part) ≡ onStep x (Refused i) (λ (v : State). walk v (i + 1) ps part′))
     st p
     (λ k h. walk-stop (after st p) (i + 1) ps qs part part′ h)
     (λ k h. refl)

@@ -1,21 +1,20 @@
 -- A record that the judge keeps breaks no sentence: records unbroken so far stay so with it.
 -- Assumes nothing.
-use Prim.Native.Nat.{ℕ, _+_, _*_, _%_, _≤_, _<_, _∣_}
+use Prim.Native.Nat.{ℕ, _+_, _%_, _≤_, _<_, _∣_}
 use native.Mathlib.Nat.{eq-zero-or-pos, dvd-refl}
 use native.Mathlib.Omega.{arith}
 use mathlib.Core.Path.{_≡_, refl, sym, ap, subst, subst₂, _∙_}
 use mathlib.Core.Logic.{_⊎_, inl, inr, _≢_, ⊎-elim, ⊎-map}
-use mathlib.Core.Bool.{Bool, true, false, cond}
+use mathlib.Core.Bool.{Bool, true, cond}
 use mathlib.Core.List.{List, [], _∷_, _++_, List·Memᴰ·not-nil}
 use lib.ListN.{length}
-use lib.Dec.{eqb}
 use borrow.Author.Tests.{eq-eqb, ne-eqb}
 use Rattle.sheet_rules.specs.declared.Record.{Record}
 use Rattle.sheet_rules.specs.declared.State.{State}
 use Rattle.sheet_rules.specs.Record.{nth, heightIn}
 use Rattle.sheet_rules.specs.Judge.{coded}
-use Rattle.sheet_rules.specs.Sentences.{Among, Coded, Uncoded, CoderOf, Above, Opening, Closing, Main, heights, Unbroken}
-use Rattle.cases.proofs.Says.{Says, says-eq, says-else}
+use Rattle.sheet_rules.specs.Sentences.{Among, Coded, Uncoded, CoderOf, Above, Opening, Main, heights, Unbroken}
+use Rattle.laws.proofs.Says.{says-eq, says-else}
 use Rattle.sheet_rules.proofs.Among.{length-more, nth-old, nth-new, heights-more, all-more, pair-more}
 use Rattle.sheet_rules.proofs.New.{NextLayer, NextStripe, CodedFacts, EmptyFacts, UncodedFacts, BaseFacts, PageFacts, ChoiceFacts, UpperFacts, New, says-coded}
 use Rattle.sheet_rules.proofs.Agrees.{Agrees, fresh, upward, stands}

@@ -4,27 +4,27 @@ use Prim.Native.Nat.{ℕ, suc, _+_, _-_, _%_, _≤_, _<_}
 use native.Mathlib.Nat.{eq-zero-or-pos}
 use native.Mathlib.Numerals.{add-one}
 use native.Mathlib.Omega.{arith}
-use mathlib.Core.Path.{_≡_, refl, sym, ap, ap₂, subst, _∙_}
-use mathlib.Core.Logic.{_⊎_, inl, inr, ⊎-elim}
+use mathlib.Core.Path.{_≡_, refl, sym, ap, subst, _∙_}
+use mathlib.Core.Logic.{inl, inr, ⊎-elim}
 use mathlib.Core.Bool.{Bool, true, false, _&&_, cond, false≢true}
 use mathlib.Core.List.{List, [], _∷_, _++_, append-nil}
-use lib.ListN.{length, take, length-take, take-append-drop, drop}
-use lib.Seq.{take-suc, take-take, take-all}
+use lib.ListN.{length, take, take-append-drop, drop}
+use lib.Seq.{take-suc, take-take}
 use lib.Dec.{eqb}
 use Rattle.sheet_rules.specs.declared.Record.{Record}
 use Rattle.sheet_rules.specs.declared.State.{State}
 use Rattle.sheet_rules.specs.declared.Step.{Step}
 use Rattle.sheet_rules.specs.declared.Step.the-variants.{Next, Stop}
 use Rattle.sheet_rules.specs.declared.Verdict.{Verdict}
-use Rattle.sheet_rules.specs.declared.Verdict.the-variants.{Good, Bad}
+use Rattle.sheet_rules.specs.declared.Verdict.the-variants.{Good, Refused}
 use Rattle.sheet_rules.specs.Record.{blank, nth}
 use Rattle.sheet_rules.specs.Judge.{closes, keeps, begin, after, stepOf, endOf, onStep, run, walk, judge}
-use Rattle.sheet_rules.specs.Sentences.{Closing, Unbroken, Complete, Sheet, stripeCount, Breaks, StopsBadly, Fault}
-use Rattle.cases.proofs.Says.{Says, says-eq, says-le, says-and}
-use Rattle.sheet_rules.proofs.New.{New, says-new}
+use Rattle.sheet_rules.specs.Sentences.{Unbroken, Complete, Sheet, stripeCount, Breaks, FaultAt}
+use Rattle.laws.proofs.Says.{Says, says-eq, says-le, says-and}
+use Rattle.sheet_rules.proofs.New.{says-new}
 use Rattle.sheet_rules.proofs.Agrees.{Agrees}
 use Rattle.sheet_rules.proofs.Backward.{unbroken-new, unbroken-front}
-use Rattle.sheet_rules.proofs.Fold.{step-cases, begun-unbroken, unbroken-begun, walk-next}
+use Rattle.sheet_rules.proofs.Fold.{step-cases, begun-unbroken, walk-next}
 
 -- ---- where a fold stops
 
@@ -35,7 +35,7 @@ record StopsAt (st : State) (i : ℕ) (rs : List Record) (part : ℕ) : Type 0 w
   state : State
   passed : run st (take j rs) ≡ Next state
   unkept : keeps state (nth rs j) ≡ false
-  answer : walk st i rs part ≡ Bad (i + j)
+  answer : walk st i rs part ≡ Refused (i + j)
 
 step-true : (st : State) (r : Record) → keeps st r ≡ true → stepOf st r ≡ Next (after st r)
 unfolding stepOf
@@ -57,7 +57,7 @@ stops-later st i r rs part k d =
       state = d .state;
       passed = ap (λ (x : Step). onStep x Stop (λ (t : State). run t (take (d .j) rs))) s ∙ d .passed;
       unkept = d .unkept;
-      answer = ap (λ (x : Step). onStep x (Bad i) (λ (t : State). walk t (i + 1) rs part)) s ∙ d .answer ∙ ap Bad z;
+      answer = ap (λ (x : Step). onStep x (Refused i) (λ (t : State). walk t (i + 1) rs part)) s ∙ d .answer ∙ ap Refused z;
     }
 
 stops-here : (st : State) (i : ℕ) (r : Record) (rs : List Record) (part : ℕ) → keeps st r ≡ false → StopsAt st i (r ∷ rs) part
@@ -70,7 +70,7 @@ stops-here st i r rs part k =
       state = st;
       passed = refl;
       unkept = k;
-      answer = ap (λ (x : Step). onStep x (Bad i) (λ (t : State). walk t (i + 1) rs part)) (step-false st r k) ∙ ap Bad z;
+      answer = ap (λ (x : Step). onStep x (Refused i) (λ (t : State). walk t (i + 1) rs part)) (step-false st r k) ∙ ap Refused z;
     }
 
 stops-at : (st : State) (i : ℕ) (rs : List Record) (part : ℕ) → run st rs ≡ Stop → StopsAt st i rs part
@@ -109,7 +109,7 @@ judge-next rs part t e =
 
 pub judge-cases : (rs : List Record) (part : ℕ) (P : Verdict → Type 0)
     → ((t : State) → Unbroken rs → Agrees rs t → P (endOf t (length rs) part))
-    → ((j : ℕ) → Breaks rs j → P (Bad j))
+    → ((j : ℕ) → Breaks rs j → P (Refused j))
     → P (judge rs part)
 unfolding judge
 judge-cases rs part P on off =
@@ -118,7 +118,7 @@ judge-cases rs part P on off =
     (λ e.
     let d = stops-at begin 0 rs part e in
     let z : 0 + d .j ≡ d .j = omega arith in
-    subst P (sym (d .answer ∙ ap Bad z)) (off (d .j) (stop-breaks rs part d)))
+    subst P (sym (d .answer ∙ ap Refused z)) (off (d .j) (stop-breaks rs part d)))
     (run begin rs) refl
 
 -- ---- the end
@@ -147,14 +147,14 @@ module _ (rs : List Record) (part : ℕ) (st : State) (g : Agrees rs st) where
       )
 
   end-cases : (P : Verdict → Type 0) → (Complete rs × (part ≡ 0) → P (Good (length rs) (stripeCount rs)))
-      → ((Complete rs × (part ≡ 0) → ⊥) → P (Bad (length rs))) → P (endOf st (length rs) part)
+      → ((Complete rs × (part ≡ 0) → ⊥) → P (Refused (length rs))) → P (endOf st (length rs) part)
   unfolding endOf
   end-cases P good bad = go (closes (st .layer) && eqb part 0) refl
     where
       stripes : Complete rs → stripeCount rs ≡ st .stripe + 1
       stripes c = let n = c .count in let l = g .last (length rs - 1) (omega arith) in omega arith
 
-      go : (b : Bool) → closes (st .layer) && eqb part 0 ≡ b → P (cond b (Good (length rs) (st .stripe + 1)) (Bad (length rs)))
+      go : (b : Bool) → closes (st .layer) && eqb part 0 ≡ b → P (cond b (Good (length rs) (st .stripe + 1)) (Refused (length rs)))
       go true e =
           let c = closes-complete e in
           subst (λ (m : ℕ). P (Good (length rs) m)) (stripes (c .0)) (good c)
@@ -164,7 +164,7 @@ module _ (rs : List Record) (part : ℕ) (st : State) (g : Agrees rs st) where
 
 pub judge-answers : (rs : List Record) (part : ℕ) (P : Verdict → Type 0)
     → (Sheet rs → part ≡ 0 → P (Good (length rs) (stripeCount rs)))
-    → ((i : ℕ) → Fault rs part i → P (Bad i))
+    → ((i : ℕ) → FaultAt rs part i → P (Refused i))
     → P (judge rs part)
 judge-answers rs part P good bad =
     judge-cases rs part P
@@ -188,7 +188,7 @@ module _ (rs : List Record) (part : ℕ) where
   order : (i j : ℕ) → Breaks rs i → Breaks rs j → i < j → ⊥
   order i j b d h = b .broken (unbroken-take (i + 1) j (omega arith) (d .before))
 
-  pub fault-once : (i j : ℕ) → Fault rs part i → Fault rs part j → i ≡ j
+  pub fault-once : (i j : ℕ) → FaultAt rs part i → FaultAt rs part j → i ≡ j
   fault-once i j (inl b) (inl d) = let p = order i j b d in let q = order j i d b in only-equal i j p q
     where
       only-equal : (i j : ℕ) → (i < j → ⊥) → (j < i → ⊥) → i ≡ j
@@ -197,6 +197,6 @@ module _ (rs : List Record) (part : ℕ) where
   fault-once i j (inr b) (inl d) = absurd (d .broken (unbroken-any (j + 1) (b .before)))
   fault-once i j (inr b) (inr d) = b .due ∙ sym (d .due)
 
-  pub fault-no-sheet : (i : ℕ) → Fault rs part i → Sheet rs → part ≡ 0 → ⊥
+  pub fault-no-sheet : (i : ℕ) → FaultAt rs part i → Sheet rs → part ≡ 0 → ⊥
   fault-no-sheet i (inl b) s e = b .broken (unbroken-any (i + 1) (s .unbroken))
   fault-no-sheet i (inr b) s e = b .broken (s .complete, e)

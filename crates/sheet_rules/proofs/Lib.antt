@@ -5,7 +5,7 @@ pub mod Forward
 pub mod Backward
 pub mod Fold
 pub mod Judged
-pub mod Rows
+pub mod Extents
 pub mod Cut
 pub mod Alone
 pub mod Theorems

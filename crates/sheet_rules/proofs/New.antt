@@ -2,17 +2,16 @@
 -- Assumes nothing.
 use Prim.Native.Nat.{ℕ, _+_, _%_, _≤_, _<_, _∣_}
 use native.Mathlib.Nat.{dvd-iff-mod-eq-zero}
-use native.Mathlib.Omega.{arith}
 use mathlib.Core.Path.{_≡_, refl, sym, ap, _∙_}
-use mathlib.Core.Logic.{_⊎_, inl, inr, _≢_}
+use mathlib.Core.Logic.{_⊎_, _≢_}
 use mathlib.Core.Bool.{Bool, true, false, _&&_, cond, false≢true}
 use lib.Dec.{eqb}
 use borrow.Author.Tests.{eqb-true, eq-eqb, ne-eqb}
 use Rattle.sheet_rules.specs.declared.Record.{Record}
 use Rattle.sheet_rules.specs.declared.State.{State}
-use Rattle.sheet_rules.specs.Judge.{closes, placed, coded, coderOk, codedOk, uncodedOk, dataOk, listed, divides, resOk, baseOk, pageOk, choiceOk, upperOk, layerOk, keeps, zerosOk}
+use Rattle.sheet_rules.specs.Judge.{closes, placed, coded, coderOk, codedOk, uncodedOk, dataOk, listed, divides, resOk, baseOk, pageOk, choiceOk, upperOk, layerOk, keeps}
 use Rattle.sheet_rules.specs.Sentences.{Coded, Uncoded, CoderOf, Listed}
-use Rattle.cases.proofs.Says.{Says, says-eq, says-le, says-lt, says-true, says-and, says-or, says-not, says-not-not, says-as, says-group}
+use Rattle.laws.proofs.Says.{Says, says-eq, says-le, says-lt, says-true, says-and, says-or, says-not, says-not-not, says-as, says-group}
 
 -- ---- the facts
 

@@ -1,37 +1,26 @@
 -- What is proved of the rules of the sheet. The statements are for the reader; how each is shown stands in the files beside this one.
 -- Assumes nothing.
-use Prim.Native.Nat.{ℕ, _+_, _-_, _*_, _/_, _%_, _≤_, _<_, min}
+use Prim.Native.Nat.{ℕ, _+_, _-_, _*_, _/_, _≤_, _<_}
 use native.Mathlib.Omega.{arith}
-use native.Mathlib.Nat.{min-eq-left}
-use mathlib.Core.Path.{_≡_, refl, sym, ap, ap₂, subst, subst₂, _∙_}
-use mathlib.Core.Logic.{_↔_, _⊎_, inl, inr, _≢_, ⊎-elim}
-use mathlib.Core.Bool.{Bool, true, false, cond}
-use mathlib.Core.List.{List, [], _∷_, _++_}
-use lib.ListN.{length, take, length-take}
+use mathlib.Core.Path.{_≡_, refl, sym, ap, ap₂, subst, _∙_}
+use mathlib.Core.Logic.{_↔_, inl, inr}
+use mathlib.Core.List.{List, _++_}
+use lib.ListN.{length, take}
 use lib.Seq.{length-take-le}
-use lib.Dec.{eqb}
-use borrow.Author.Tests.{eq-eqb, ne-eqb}
 use Rattle.sheet_rules.specs.declared.Record.{Record}
-use Rattle.sheet_rules.specs.declared.State.{State}
 use Rattle.sheet_rules.specs.declared.Step.{Step}
 use Rattle.sheet_rules.specs.declared.Step.the-variants.{Next, Stop}
-use Rattle.sheet_rules.specs.declared.Verdict.{Verdict}
-use Rattle.sheet_rules.specs.declared.Verdict.the-variants.{Good, Bad}
-use Rattle.sheet_rules.specs.declared.Stripe.{Stripe}
-use Rattle.sheet_rules.specs.declared.FoundStripe.{FoundStripe}
-use Rattle.sheet_rules.specs.declared.FoundStripe.the-variants.{Row, NoStripe}
-use Rattle.sheet_rules.specs.Record.{recordSize, recordsFrom, records, rest, nth, heightIn, sumOf}
+use Rattle.sheet_rules.specs.declared.Verdict.the-variants.{Good, Refused}
+use Rattle.sheet_rules.specs.Record.{recordSize, recordsFrom, records, rest, nth}
 use Rattle.sheet_rules.specs.Judge.{begin, run, walk, judge, judgeOf}
-use Rattle.sheet_rules.specs.Sentences.{Closing, Unbroken, Complete, Sheet, stripeCount, Breaks, StopsBadly, Fault, GoodSheet, BadSheetAt}
-use Rattle.sheet_rules.specs.Stripe.{rowOf, few, foundRow, findStripe}
-use Rattle.sheet_rules.proofs.Agrees.{Agrees}
-use Rattle.sheet_rules.proofs.Fold.{begun-unbroken, begun-holds, unbroken-begun, walk-stop}
+use Rattle.sheet_rules.specs.Sentences.{Unbroken, FaultAt, GoodSheet, BadSheetAt}
+use Rattle.sheet_rules.specs.StripeTable.{few}
+use Rattle.sheet_rules.proofs.Fold.{begun-unbroken, unbroken-begun, walk-stop}
 use Rattle.sheet_rules.proofs.Judged.{judge-answers, fault-once, fault-no-sheet}
-use Rattle.sheet_rules.proofs.Rows.{LayerCount, Rows, rows-begin, rows-more, first-next, top-next, first-none, top-none, first-mono}
 use Rattle.sheet_rules.proofs.Among.{nth-among}
 use Rattle.sheet_rules.proofs.Cut.{length-records, records-split, records-take}
 
-good-bad : {A : Type 0} {n m i : ℕ} → Good n m ≡ Bad i → A
+good-bad : {A : Type 0} {n m i : ℕ} → Good n m ≡ Refused i → A
 good-bad e = absurd (let z : _≡_ {A = ℕ} 0 1 = cc in omega arith)
 
 -- ---- the judge answers good exactly if the sentences hold, with the counts of records and stripes
@@ -50,16 +39,16 @@ sheet-accepted s n m = (
 
 -- ---- and otherwise the record at fault: the first that, with those before it, breaks a rule, or the one that was due
 
-pub sheet-refused : (s : List ℕ) (i : ℕ) → judgeOf s ≡ Bad i ↔ BadSheetAt s i
+pub sheet-refused : (s : List ℕ) (i : ℕ) → judgeOf s ≡ Refused i ↔ BadSheetAt s i
 unfolding judgeOf
 sheet-refused s i = (
-  judge-answers (records s) (rest s) (λ v. v ≡ Bad i → BadSheetAt s i)
+  judge-answers (records s) (rest s) (λ v. v ≡ Refused i → BadSheetAt s i)
       (λ k z e. good-bad e)
       (λ j f e. let z : j ≡ i = cc in subst (BadSheetAt s) z f),
   λ f.
-      judge-answers (records s) (rest s) (λ v. v ≡ Bad i)
+      judge-answers (records s) (rest s) (λ v. v ≡ Refused i)
       (λ k z. absurd (fault-no-sheet (records s) (rest s) i f k z))
-      (λ j d. ap Bad (fault-once (records s) (rest s) j i d f)),
+      (λ j d. ap Refused (fault-once (records s) (rest s) j i d f)),
 )
 
 -- ---- at most 64 stripes and 960 records, and nothing but whole records
@@ -88,11 +77,11 @@ sheet-few s n m e =
     (omega arith, omega arith, omega arith, omega arith)
 
 -- a record at fault is one of the first 960, or the one due behind them
-pub refused-few : (s : List ℕ) (i : ℕ) → judgeOf s ≡ Bad i → (i ≤ 960) × (i ≤ length s / recordSize)
+pub refused-few : (s : List ℕ) (i : ℕ) → judgeOf s ≡ Refused i → (i ≤ 960) × (i ≤ length s / recordSize)
 unfolding records
 refused-few s i e = go (sheet-refused s i .0 e)
   where
-    go : Fault (records s) (rest s) i → (i ≤ 960) × (i ≤ length s / recordSize)
+    go : FaultAt (records s) (rest s) i → (i ≤ 960) × (i ≤ length s / recordSize)
     go (inl b) =
         let f = unbroken-few (take i (records s)) (b .before) in
         let w = b .within in

@@ -10,9 +10,8 @@
 --   judge     all records, then the end; a record at which the fold stops is the record at fault
 --   judgeOf   the judge of a sheet's octets; sheetAnswer: its answer in the paper's table
 use Prim.Native.Nat.{ℕ, _+_, _-_, _%_}
-use mathlib.Core.Bool.{Bool, true, false, _&&_, _||_, not, cond}
+use mathlib.Core.Bool.{Bool, false, _&&_, _||_, not, cond}
 use mathlib.Core.List.{List, [], _∷_}
-use lib.ListN.{length}
 use lib.Dec.{leb, ltb, eqb}
 use Rattle.answers.specs.declared.Answer.{Answer}
 use Rattle.answers.specs.declared.Answer.the-variants.{Done, BadSheet}
@@ -21,7 +20,7 @@ use Rattle.sheet_rules.specs.declared.State.{State}
 use Rattle.sheet_rules.specs.declared.Step.{Step}
 use Rattle.sheet_rules.specs.declared.Step.the-variants.{Next, Stop}
 use Rattle.sheet_rules.specs.declared.Verdict.{Verdict}
-use Rattle.sheet_rules.specs.declared.Verdict.the-variants.{Good, Bad}
+use Rattle.sheet_rules.specs.declared.Verdict.the-variants.{Good, Refused}
 use Rattle.sheet_rules.specs.Record.{records, rest}
 
 -- ---- the tests, in the paper's order
@@ -158,7 +157,7 @@ stepOf st r = cond (keeps st r) (Next (after st r)) Stop
 
 -- after n records, with so many octets of a part record behind them
 unfoldable pub endOf : State → ℕ → ℕ → Verdict
-endOf st n part = cond (closes (st .layer) && eqb part 0) (Good n (st .stripe + 1)) (Bad n)
+endOf st n part = cond (closes (st .layer) && eqb part 0) (Good n (st .stripe + 1)) (Refused n)
 
 -- what comes of a step: one thing where it stops, another from the next state
 unfoldable pub onStep : {A : Type 0} → Step → A → (State → A) → A
@@ -174,7 +173,7 @@ run st (r ∷ rs) = onStep (stepOf st r) Stop (λ (t : State). run t rs)
 unfoldable pub walk : State → ℕ → List Record → ℕ → Verdict
 unfolding onStep
 walk st i [] part = endOf st i part
-walk st i (r ∷ rs) part = onStep (stepOf st r) (Bad i) (λ (t : State). walk t (i + 1) rs part)
+walk st i (r ∷ rs) part = onStep (stepOf st r) (Refused i) (λ (t : State). walk t (i + 1) rs part)
 
 unfoldable pub judge : List Record → ℕ → Verdict
 unfolding walk
@@ -187,7 +186,7 @@ judgeOf s = judge (records s) (rest s)
 -- the judge's answer in the paper's table: Done with the number of records, or BadSheet at the record at fault
 unfoldable pub answerOf : Verdict → Answer
 answerOf (Good n m) = Done n
-answerOf (Bad i) = BadSheet i
+answerOf (Refused i) = BadSheet i
 
 unfoldable pub sheetAnswer : List ℕ → Answer
 unfolding answerOf judgeOf

@@ -1,4 +1,4 @@
 pub mod Record
 pub mod Judge
 pub mod Sentences
-pub mod Stripe
+pub mod StripeTable

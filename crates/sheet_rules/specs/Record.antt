@@ -1,6 +1,7 @@
 -- The sheet's records: their octets, their values, and a sheet cut into records (01, "The sheet").
 --
 --   recordSize    the octets of a record
+--   colourAt      the colour of the three octets from a place on
 --   recordFrom    the record of the 28 octets from a place on
 --   recordAt      the record of a number in a sheet
 --   encode        the 28 octets of a record
@@ -9,18 +10,22 @@
 --   records       all whole records of a sheet, in order
 --   rest          the octets behind them: a part record
 --   blank         the record of 28 zeros, and nth: the record of a number in a list, blank past its end
---   sumOf         a number of each record, added up; only: a number where a test holds, and else 0
+--   sumOf         a number of each record, added up
 --   heightIn      what a record adds to the page's height: that of layer 2
 use Prim.Native.Nat.{ℕ, zero, suc, _+_, _*_, _/_, _%_}
-use mathlib.Core.Bool.{Bool, cond}
 use mathlib.Core.List.{List, [], _∷_, _++_}
 use lib.ListN.{length, getD}
 use lib.Dec.{eqb}
+use Rattle.laws.specs.Tests.{only}
 use Rattle.octets.specs.Octets.{be16At, be32At, octets16, octets32}
+use Rattle.sheet_rules.specs.declared.Colour.{Colour}
 use Rattle.sheet_rules.specs.declared.Record.{Record}
 
 abbrev pub recordSize : ℕ
 recordSize = 28
+
+abbrev pub colourAt : List ℕ → ℕ → Colour
+colourAt s at = record { c0 = getD s at 0; c1 = getD s (at + 1) 0; c2 = getD s (at + 2) 0 }
 
 -- the table of the paper, line by line
 abbrev pub recordFrom : List ℕ → ℕ → Record
@@ -98,9 +103,6 @@ nth rs i = getD rs i blank
 unfoldable pub sumOf : (Record → ℕ) → List Record → ℕ
 sumOf f [] = 0
 sumOf f (r ∷ rs) = f r + sumOf f rs
-
-abbrev pub only : Bool → ℕ → ℕ
-only b n = cond b n 0
 
 abbrev pub heightIn : Record → ℕ
 heightIn r = only (eqb (r .layer) 2) (r .height)

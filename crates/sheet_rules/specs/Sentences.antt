@@ -7,8 +7,9 @@
 --   Sheet rs      a whole sheet: both
 --   Breaks rs i   the record i is the first that, with those before it, breaks a rule
 --   StopsBadly    no record breaks a rule, and the record i was due and is not there whole
---   Fault rs part i   one or the other: the record at fault
---   GoodSheet s n m   the octets s are a sheet of n records in m stripes; BadSheetAt s i: they are at fault at the record i
+--   FaultAt rs part i   one or the other: the record at fault
+--   Accepted s        the octets s are a sheet; GoodSheet s n m: of n records in m stripes
+--   BadSheetAt s i    they are at fault at the record i
 --
 -- Two exceptions that the paper names come about by themselves, since a sentence speaks only of records that are there: layer 1's
 -- resolution is matched at layer 2, and the choice of coded layers 1 to 3 at layer 3.
@@ -114,8 +115,12 @@ pub record StopsBadly (rs : List Record) (part i : ℕ) : Type 0 where
   pub before : Unbroken rs
   pub broken : Complete rs × (part ≡ 0) → ⊥
 
-abbrev pub Fault : List Record → ℕ → ℕ → Type 0
-Fault rs part i = Breaks rs i ⊎ StopsBadly rs part i
+abbrev pub FaultAt : List Record → ℕ → ℕ → Type 0
+FaultAt rs part i = Breaks rs i ⊎ StopsBadly rs part i
+
+-- octets that are a sheet
+abbrev pub Accepted : List ℕ → Type 0
+Accepted s = Sheet (records s) × (rest s ≡ 0)
 
 -- octets that are a sheet of n records and m stripes, and octets at fault at a record
 pub record GoodSheet (s : List ℕ) (n m : ℕ) : Type 0 where
@@ -125,4 +130,4 @@ pub record GoodSheet (s : List ℕ) (n m : ℕ) : Type 0 where
   pub stripes : m ≡ stripeCount (records s)
 
 abbrev pub BadSheetAt : List ℕ → ℕ → Type 0
-BadSheetAt s i = Fault (records s) (rest s) i
+BadSheetAt s i = FaultAt (records s) (rest s) i

@@ -3,6 +3,13 @@
 // How many octets a record has.
 pub const RECORD_SIZE: usize = 28;
 
+// Three CIELAB code octets, carried as they stand.
+pub struct Colour {
+    pub c0: u8,
+    pub c1: u8,
+    pub c2: u8,
+}
+
 // A record: the paper's table, field by field.
 pub struct Record {
     pub stripe: u16,
@@ -50,11 +57,11 @@ pub enum Step {
 // What a sheet is judged to be: good with its counts, or the record at fault.
 pub enum Verdict {
     Good { records: usize, stripes: usize },
-    Bad { record: usize },
+    Refused { record: usize },
 }
 
-// A row of the stripe table.
-pub struct Stripe {
+// An entry of the stripe table: which records and lines a stripe has.
+pub struct Extent {
     // its first record and how many it has
     pub first: u32,
     pub layers: u32,
@@ -63,9 +70,9 @@ pub struct Stripe {
     pub height: u32,
 }
 
-// A stripe that was looked for: its row.
+// A stripe that was looked for: its extent.
 pub enum FoundStripe {
-    Row(Stripe),
+    Has(Extent),
     NoStripe,
 }
 

@@ -5,7 +5,7 @@ use mathlib.Core.Path.{_≡_, sym, _∙_}
 use mathlib.Core.List.{List}
 use Rattle.data_report.specs.declared.DataReport.{DataReport}
 use Rattle.spirerook.specs.Calls.{DataCall}
-use Rattle.report.specs.declared.Report.{Report}
+use Rattle.answers_report.specs.declared.Report.{Report}
 use Rattle.spirerook.specs.Calls.{ReadCall, WriteCall, LineCall}
 
 pub read-firm : (page sheet : List ℕ) (r q : Report) (e f : List ℕ) → ReadCall page sheet r e → ReadCall page sheet q f → (r ≡ q) × (e ≡ f)

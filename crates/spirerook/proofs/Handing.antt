@@ -7,19 +7,19 @@ use mathlib.Core.Logic.{_≢_, ⊎-elim}
 use mathlib.Core.List.{List}
 use lib.ListN.{length, take}
 use borrow.Author.Needs.{needs}
-use Rattle.cases.proofs.Cases.{clash}
+use Rattle.laws.proofs.Cases.{clash}
 use Rattle.octets.specs.Octets.{Octets}
 use Rattle.answers.specs.declared.Answer.{Answer}
 use Rattle.answers.specs.declared.Answer.the-variants.{Done}
 use Rattle.answers.specs.Answers.{numberOf, placeOf, countOf, answer-kind}
-use Rattle.report.specs.declared.Report.{Report}
-use Rattle.report.specs.Report.{reportOf}
+use Rattle.answers_report.specs.declared.Report.{Report}
+use Rattle.answers_report.specs.Report.{reportOf}
 use Rattle.data_rules.specs.declared.Source.{Source}
 use Rattle.data_rules.specs.declared.Source.the-variants.{Page, Pencil}
 use Rattle.data_rules.specs.declared.Found.{Found}
 use Rattle.data_rules.specs.Data.{sourceNumber, octetsIn, foundOf, dataOf, partOf, partSource, partStart}
 use Rattle.data_rules.specs.Sentences.{Nothing}
-use Rattle.page_rules.specs.Reading.{readOf, readInto}
+use Rattle.page_rules.specs.Reading.{readOf}
 use Rattle.data_rules.proofs.Own.{OwnParts, read-parts}
 use Rattle.data_rules.proofs.Handed.{Stands, part-stands, part-refused}
 use Rattle.data_report.specs.declared.DataReport.{DataReport}

@@ -5,8 +5,8 @@ use mathlib.Core.Path.{_≡_, ap, _∙_}
 use mathlib.Core.List.{List}
 use borrow.Author.Needs.{needs}
 use Rattle.answers.specs.declared.Answer.{Answer}
-use Rattle.report.specs.declared.Report.{Report}
-use Rattle.report.specs.Report.{reportOf}
+use Rattle.answers_report.specs.declared.Report.{Report}
+use Rattle.answers_report.specs.Report.{reportOf}
 use Rattle.page_rules.specs.Reading.{Reads}
 use Rattle.write_rules.specs.Writing.{Writes}
 use Rattle.picture_rules.specs.Planes.{listOf}

@@ -5,10 +5,10 @@ use mathlib.Core.Path.{_≡_, sym, ap, subst, _∙_}
 use mathlib.Core.List.{List}
 use lib.ListN.{length, getD}
 use Rattle.answers.specs.declared.Answer.the-variants.{Done}
-use Rattle.report.specs.declared.Report.{Report}
+use Rattle.answers_report.specs.declared.Report.{Report}
 use Rattle.picture_rules.specs.Planes.{listOf}
 use Rattle.picture_rules.specs.Samples.{widthOf}
-use Rattle.picture_rules.specs.Line.{lineOf, lineInto}
+use Rattle.picture_rules.specs.Line.{lineOf}
 use Rattle.picture_rules.specs.Sentences.{sceneOf}
 use Rattle.picture_rules.specs.Demand.{fourAt, Shown, Reread, AllRead}
 use Rattle.picture_rules.proofs.Demand3.{demand-3, refused-line}

@@ -6,8 +6,8 @@ use mathlib.Core.List.{List}
 use lib.ListN.{length, take, drop}
 use Rattle.octets.specs.Octets.{Octets}
 use Rattle.answers.specs.declared.Answer.the-variants.{Done}
-use Rattle.report.specs.declared.Report.{Report}
-use Rattle.page_rules.specs.Reading.{readOf, readInto}
+use Rattle.answers_report.specs.declared.Report.{Report}
+use Rattle.page_rules.specs.Reading.{readOf}
 use Rattle.page_rules.proofs.Into.{into-kept, into-rest, Front, into-front}
 use Rattle.spirerook.specs.Calls.{ReadCall}
 use Rattle.spirerook.proofs.Reports.{report-done, report-refused}

@@ -6,8 +6,8 @@ use lib.ListN.{getD}
 use Rattle.answers.specs.declared.Answer.{Answer}
 use Rattle.answers.specs.declared.Answer.the-variants.{Done, TooLong}
 use Rattle.answers.specs.Answers.{numberOf, placeOf, countOf, table, answer-back}
-use Rattle.report.specs.declared.Report.{Report}
-use Rattle.report.specs.Report.{reportOf}
+use Rattle.answers_report.specs.declared.Report.{Report}
+use Rattle.answers_report.specs.Report.{reportOf}
 
 done-is : (a : Answer) → numberOf a ≡ 0 → a ≡ Done (countOf a)
 unfolding table

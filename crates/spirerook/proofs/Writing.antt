@@ -6,9 +6,9 @@ use mathlib.Core.List.{List}
 use lib.ListN.{length, take, drop}
 use Rattle.octets.specs.Octets.{Octets}
 use Rattle.answers.specs.declared.Answer.the-variants.{Done}
-use Rattle.report.specs.declared.Report.{Report}
+use Rattle.answers_report.specs.declared.Report.{Report}
 use Rattle.sheet_rules.specs.Record.{records}
-use Rattle.write_rules.specs.Writing.{writeOf, writeInto}
+use Rattle.write_rules.specs.Writing.{writeOf}
 use Rattle.write_rules.specs.Form.{Lands}
 use Rattle.write_rules.proofs.Theorems.{refused-kept, write-kept, write-page}
 use Rattle.spirerook.specs.Calls.{WriteCall}

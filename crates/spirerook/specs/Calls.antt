@@ -8,8 +8,8 @@ use Prim.Native.Nat.{ℕ}
 use mathlib.Core.Path.{_≡_}
 use mathlib.Core.List.{List}
 use lib.ListN.{length}
-use Rattle.report.specs.declared.Report.{Report}
-use Rattle.report.specs.Report.{reportOf}
+use Rattle.answers_report.specs.declared.Report.{Report}
+use Rattle.answers_report.specs.Report.{reportOf}
 use Rattle.data_report.specs.declared.DataReport.{DataReport}
 use Rattle.data_report.specs.Reported.{dataReport}
 use Rattle.page_rules.specs.Reading.{readOf, readInto}

@@ -1,22 +1,22 @@
 // The calls that a viewer in C links (include/spirerook.h). Each is thin: it calls the library's function and reports its answer.
 ghost use Rattle.spirerook.specs.Calls.{ReadCall, WriteCall, LineCall, DataCall};
+use answers_report::Report;
 use data_report::DataReport;
-use report::Report;
 
 #[no_mangle]
 pub extern "C" fn spirerook_read(page: &[u8], sheet: &mut [u8]) -> Report
     ensures { λ r. ⌜ ReadCall (now (page .entry)) (now (sheet .entry)) r (now (sheet .exit)) ⌝ }
 {
-    let a = page::read_page(page, sheet);
-    report::reported(a)
+    let a = read_page::read_page(page, sheet);
+    answers_report::reported(a)
 }
 
 #[no_mangle]
 pub extern "C" fn spirerook_write(sheet: &[u8], data: &[u8], page: &mut [u8]) -> Report
     ensures { λ r. ⌜ WriteCall (now (sheet .entry)) (now («data» .entry)) (now (page .entry)) r (now (page .exit)) ⌝ }
 {
-    let a = write::write_page(sheet, data, page);
-    report::reported(a)
+    let a = write_page::write_page(sheet, data, page);
+    answers_report::reported(a)
 }
 
 #[no_mangle]
@@ -31,8 +31,8 @@ pub extern "C" fn spirerook_line(
     ensures { λ r.
         ⌜ LineCall (now (sheet .entry)) (now (planes .entry)) (now (samples .entry)) stripe line (now (out .entry)) r (now (out .exit)) ⌝ }
 {
-    let a = line::line_of(sheet, planes, samples, stripe, line, out);
-    report::reported(a)
+    let a = line_compose::line_of(sheet, planes, samples, stripe, line, out);
+    answers_report::reported(a)
 }
 
 #[no_mangle]
@@ -45,6 +45,6 @@ pub extern "C" fn spirerook_data(
 ) -> DataReport
     ensures { λ r. ⌜ DataCall (now (sheet .entry)) (now (page .entry)) (now (pencil .entry)) stripe layer r ⌝ }
 {
-    let f = data::find_data(sheet, page, pencil, stripe, layer);
+    let f = data_find::find_data(sheet, page, pencil, stripe, layer);
     data_report::report_found(f)
 }

@@ -51,7 +51,7 @@ fn print_answer(verdict: Verdict) {
             io::write_all(1, b" ");
             io::print_decimal(1, stripes as u64);
         }
-        Verdict::Bad { record } => {
+        Verdict::Refused { record } => {
             io::write_all(1, b"refused 14 ");
             io::print_decimal(1, record as u64);
         }
@@ -61,7 +61,7 @@ fn print_answer(verdict: Verdict) {
 
 fn judge(s: &[u8], octets: usize) {
     if octets <= s.len() {
-        print_answer(sheet::judge(&s[0..octets]));
+        print_answer(sheet_judge::judge(&s[0..octets]));
     }
 }
 

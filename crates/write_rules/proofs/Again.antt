@@ -3,24 +3,25 @@
 use Prim.Native.Nat.{ℕ, _+_, _-_, _≤_}
 use native.Mathlib.Omega.{arith}
 use mathlib.Core.Path.{_≡_, refl, sym, ap, ap₂, subst, _∙_}
-use mathlib.Core.Logic.{_⊎_, inl, inr, _≢_, ⊎-elim}
+use mathlib.Core.Logic.{inl, inr, _≢_, ⊎-elim}
 use mathlib.Core.Bool.{Bool, false, cond}
 use mathlib.Core.List.{List, [], _∷_, _++_, append-assoc}
 use lib.ListN.{length, drop, length-append, length-drop, replicate}
 use Rattle.octets.proofs.Laws.{drop-next}
-use Rattle.cases.proofs.Says.{says-eq, says-else}
+use Rattle.laws.proofs.Says.{says-eq, says-else}
 use Rattle.sheet_rules.specs.declared.Record.{Record}
 use Rattle.sheet_rules.specs.Judge.{coded}
 use Rattle.sheet_rules.specs.Sentences.{Among}
 use Rattle.page_rules.specs.declared.Head.{Head}
-use Rattle.page_rules.specs.declared.Coded.{Coded as Data}
-use Rattle.page_rules.specs.Kinds.{hasBack, hasMask, hasFore, Colour, Fields, imageRecord, maskRecord}
+use Rattle.page_rules.specs.declared.LayerData.{LayerData as Data}
+use Rattle.page_rules.specs.Kinds.{hasBack, hasMask, hasFore, Fields, imageRecord, maskRecord}
+use Rattle.sheet_rules.specs.declared.Colour.{Colour}
 use Rattle.page_rules.specs.Grammar.{startOf, ImageCoder, headOf, TypeOf, Image, there, absent, Stripe, Stripes, last, next}
 use Rattle.page_rules.proofs.There.{length-start}
 use Rattle.page_rules.proofs.Named.{at-mask, at-back, at-fore}
 use Rattle.write_rules.specs.declared.Tally.{Tally}
-use Rattle.write_rules.specs.Layer.{dataOf}
-use Rattle.write_rules.specs.Writing.{begun, mainOf, typeBy, colourBy, fieldsBy, stripeBy, stripesBy, headBy, pageBy}
+use Rattle.write_rules.specs.Layer.{layerOctets}
+use Rattle.write_rules.specs.Writing.{begun, sheetMain, typeBy, colourBy, fieldsBy, stripeBy, stripesBy, headBy, pageBy}
 use Rattle.write_rules.specs.Form.{TrimStripe, Trim, UsedMask, UsedImage, Formed}
 use Rattle.write_rules.proofs.Passed.{Passed}
 use Rattle.write_rules.proofs.Lent.{Lent, stripes-lent, stripes-main, coded-image, coded-mask, image-data, mask-data}
@@ -95,23 +96,23 @@ module _ (hd : Head) (s : List ℕ) (k left at : ℕ) (l tail : List ℕ) (heigh
   stripe-again : stripeBy s r1 r2 r3 ≡ l
   unfolding stripeBy r1 r2 r3
   stripe-again =
-      ap (λ (f : Fields). headOf f ++ (dataOf s r2 ++ (dataOf s r1 ++ dataOf s r3))) fields-again
-      ∙ ap (λ (x : List ℕ). headOf (z .fields) ++ (x ++ (dataOf s r1 ++ dataOf s r3))) mask-is
-      ∙ ap (λ (x : List ℕ). headOf (z .fields) ++ (z .mask ++ (x ++ dataOf s r3))) back-is
+      ap (λ (f : Fields). headOf f ++ (layerOctets s r2 ++ (layerOctets s r1 ++ layerOctets s r3))) fields-again
+      ∙ ap (λ (x : List ℕ). headOf (z .fields) ++ (x ++ (layerOctets s r1 ++ layerOctets s r3))) mask-is
+      ∙ ap (λ (x : List ℕ). headOf (z .fields) ++ (z .mask ++ (x ++ layerOctets s r3))) back-is
       ∙ ap (λ (x : List ℕ). headOf (z .fields) ++ (z .mask ++ (z .back ++ x))) fore-is
       ∙ sym (z .octets)
     where
-      mask-is : dataOf s r2 ≡ z .mask
+      mask-is : layerOctets s r2 ≡ z .mask
       mask-is =
           mask-data hd s k (z .fields .height) (cond (hasMask (z .fields .type)) (hd .mask) 0) (at + 39) (z .fields .maskLength) (hasMask (z .fields .type)) (z .mask)
           (z .back ++ (z .fore ++ tail)) (z .size) (z .good .mask .1) (at-mask hd s k left at l tail height rs z e h)
 
-      back-is : dataOf s r1 ≡ z .back
+      back-is : layerOctets s r1 ≡ z .back
       back-is =
           image-data hd s k 1 (at + 39 + length (z .mask)) (z .fields .back) (z .fields .backX) (z .fields .backY) (hasBack (z .fields .type)) (z .back) (z .fore ++ tail) (z .backIs) (z .backThere)
           (at-back hd s k left at l tail height rs z e h)
 
-      fore-is : dataOf s r3 ≡ z .fore
+      fore-is : layerOctets s r3 ≡ z .fore
       fore-is =
           image-data hd s k 3 (at + 39 + length (z .mask) + length (z .back)) (z .fields .fore) (z .fields .foreX) (z .fields .foreY) (hasFore (z .fields .type)) (z .fore) tail (z .foreIs) (z .foreThere)
           (at-fore hd s k left at l tail height rs z e h)
@@ -142,7 +143,7 @@ image-one : (c : ℕ) → ImageCoder c → c ≢ 0 → c ≡ 1
 image-one c (inl e) n = absurd (n e)
 image-one c (inr e) n = e
 
-module _ (s : List ℕ) (rs : List Record) (f : Formed s rs) (u : Tally) (p : Passed s (mainOf rs) begun u rs) where
+module _ (s : List ℕ) (rs : List Record) (f : Formed s rs) (u : Tally) (p : Passed s (sheetMain rs) begun u rs) where
   lent : (r : Record) → Among r rs → Lent (f .page .head) r
   lent = stripes-lent (f .page .striped)
 

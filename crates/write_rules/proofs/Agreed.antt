@@ -3,7 +3,7 @@
 use Prim.Native.Nat.{ℕ, _+_, _-_, _≤_, _<_}
 use native.Mathlib.Omega.{arith}
 use mathlib.Core.Path.{_≡_, refl, sym, ap, subst, _∙_}
-use mathlib.Core.Logic.{_⊎_, _≢_}
+use mathlib.Core.Logic.{_⊎_}
 use mathlib.Core.Bool.{Bool, true, false, cond, false≢true}
 use mathlib.Core.List.{List, [], append-nil}
 use lib.ListN.{length, drop, length-drop}
@@ -12,8 +12,8 @@ use lib.Dec.{ltb}
 use borrow.Author.Tests.{ltb-true, ltb-false}
 use Rattle.octets.specs.Octets.{Octets}
 use Rattle.octets.proofs.Laws.{octets-take, octets-drop}
-use Rattle.cases.proofs.Cases.{cond-with, clash}
-use Rattle.cases.proofs.Says.{Says, says-eq, says-true, says-false, says-and, says-or, says-as}
+use Rattle.laws.proofs.Cases.{cond-with, clash}
+use Rattle.laws.proofs.Says.{Says, says-eq, says-true, says-false, says-and, says-or, says-as}
 use Rattle.answers.specs.declared.Answer.the-variants.{Short, Mismatch}
 use Rattle.field_rules.specs.Field.{Res, ok, no}
 use Rattle.sheet_rules.specs.declared.Record.{Record}
@@ -26,7 +26,7 @@ use Rattle.jpeg_rules.specs.Walk.{walkOf}
 use Rattle.jpeg_rules.proofs.There.{layer-walk}
 use Rattle.jpeg_rules.proofs.Theorems.{walk-exactly}
 use Rattle.write_rules.specs.declared.Tally.{Tally}
-use Rattle.write_rules.specs.Layer.{dataOf, endsAs, agrees}
+use Rattle.write_rules.specs.Layer.{layerOctets, endsAs, agrees}
 use Rattle.write_rules.specs.Writing.{counted, matches, recordStep}
 
 -- a choice between two tests
@@ -45,31 +45,31 @@ says-ends (Ends n w h s) r =
 says-ends (Refused f) r = says-as says-false (λ k. absurd k) (λ e. clash cc)
 
 module _ (d : List ℕ) (o : Octets d) (r : Record) (h : r .start + r .len ≤ length d) where
-  pub length-data : length (dataOf d r) ≡ r .len
+  pub length-data : length (layerOctets d r) ≡ r .len
   length-data = length-take-le (r .len) (drop (r .start) d) (let l = length-drop (r .start) d in omega arith)
 
   -- the walk of a record's data ends as the record says exactly if they are such a layer
-  pub says-agrees : (main : ℕ) → Says (agrees d main r) (Layer main (dataOf d r) (r .width) (r .height) (r .res))
+  pub says-agrees : (main : ℕ) → Says (agrees d main r) (Layer main (layerOctets d r) (r .width) (r .height) (r .res))
   unfolding agrees
-  says-agrees main = says-as (says-ends (walkOf (dataOf d r) 0 main) r) to back
+  says-agrees main = says-as (says-ends (walkOf (layerOctets d r) 0 main) r) to back
     where
-      to : walkOf (dataOf d r) 0 main ≡ Ends (r .len) (r .width) (r .height) (r .res) → Layer main (dataOf d r) (r .width) (r .height) (r .res)
+      to : walkOf (layerOctets d r) 0 main ≡ Ends (r .len) (r .width) (r .height) (r .res) → Layer main (layerOctets d r) (r .width) (r .height) (r .res)
       to e =
-          let y = walk-exactly (dataOf d r) (octets-take (r .len) (drop (r .start) d) (octets-drop (r .start) d o)) 0 main (r .len) (r .width) (r .height) (r .res) .0 e in
+          let y = walk-exactly (layerOctets d r) (octets-take (r .len) (drop (r .start) d) (octets-drop (r .start) d o)) 0 main (r .len) (r .width) (r .height) (r .res) .0 e in
           let n = length-data in
-          subst (λ (l : List ℕ). Layer main l (r .width) (r .height) (r .res)) (take-all (r .len - 0) (dataOf d r) (omega arith)) (y .layer)
+          subst (λ (l : List ℕ). Layer main l (r .width) (r .height) (r .res)) (take-all (r .len - 0) (layerOctets d r) (omega arith)) (y .layer)
 
-      back : Layer main (dataOf d r) (r .width) (r .height) (r .res) → walkOf (dataOf d r) 0 main ≡ Ends (r .len) (r .width) (r .height) (r .res)
+      back : Layer main (layerOctets d r) (r .width) (r .height) (r .res) → walkOf (layerOctets d r) 0 main ≡ Ends (r .len) (r .width) (r .height) (r .res)
       back y =
           let n = length-data in
-          let z : 0 + length (dataOf d r) ≡ r .len = omega arith in
-          layer-walk (dataOf d r) 0 main (dataOf d r) [] (r .width) (r .height) (r .res) y (sym (append-nil (dataOf d r)))
+          let z : 0 + length (layerOctets d r) ≡ r .len = omega arith in
+          layer-walk (layerOctets d r) 0 main (layerOctets d r) [] (r .width) (r .height) (r .res) y (sym (append-nil (layerOctets d r)))
           ∙ ap (λ (k : ℕ). Ends k (r .width) (r .height) (r .res)) z
 
   -- what is asked of a record
   abbrev pub Meets : ℕ → Tally → Type 0
   Meets main t =
-      Coded r → (r .layer ≡ 2 → (t .mask ≡ 0) ⊎ (t .mask ≡ r .coder)) × ((r .layer ≡ 2 → ⊥) → Layer main (dataOf d r) (r .width) (r .height) (r .res))
+      Coded r → (r .layer ≡ 2 → (t .mask ≡ 0) ⊎ (t .mask ≡ r .coder)) × ((r .layer ≡ 2 → ⊥) → Layer main (layerOctets d r) (r .width) (r .height) (r .res))
 
   pub says-matches : (main : ℕ) (t : Tally) → Says (matches d main t r) (Meets main t)
   unfolding matches

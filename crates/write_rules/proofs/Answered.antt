@@ -12,13 +12,13 @@ use lib.Seq.{length-take-le, take-suc, split-at}
 use lib.Dec.{ltb}
 use borrow.Author.Tests.{le-ltb, lt-ltb, ltb-true, ltb-false}
 use Rattle.octets.specs.Octets.{Octets}
-use Rattle.cases.proofs.Cases.{cond-with, clash}
+use Rattle.laws.proofs.Cases.{cond-with, clash}
 use Rattle.answers.specs.declared.Answer.{Answer}
-use Rattle.answers.specs.declared.Answer.the-variants.{Short, BadMode, BadSheet, Mismatch}
+use Rattle.answers.specs.declared.Answer.the-variants.{Done, Short, BadMode, BadSheet, Mismatch}
 use Rattle.field_rules.specs.Field.{Res, ok, no, bind}
 use Rattle.sheet_rules.specs.declared.Record.{Record}
 use Rattle.sheet_rules.specs.declared.Verdict.{Verdict}
-use Rattle.sheet_rules.specs.declared.Verdict.the-variants.{Good, Bad}
+use Rattle.sheet_rules.specs.declared.Verdict.the-variants.{Good, Refused}
 use Rattle.sheet_rules.specs.Record.{blank, records, rest, nth}
 use Rattle.sheet_rules.specs.Judge.{judgeOf, answerOf}
 use Rattle.sheet_rules.specs.Sentences.{Among, Coded, Sheet, stripeCount, BadSheetAt}
@@ -27,9 +27,9 @@ use Rattle.sheet_rules.proofs.Fold.{begun-unbroken, unbroken-begun}
 use Rattle.sheet_rules.proofs.Theorems.{sheet-accepted, sheet-refused}
 use Rattle.jpeg_rules.specs.Grammar.{Layer}
 use Rattle.write_rules.specs.declared.Tally.{Tally}
-use Rattle.write_rules.specs.Layer.{dataOf}
-use Rattle.write_rules.specs.Writing.{modeFrom, begun, recordsPass, mainOf, verdictBy, verdictOf}
-use Rattle.write_rules.specs.Sentences.{Fine, Low, ModeAt, ShortAt, MismatchAt, Sound, Gives}
+use Rattle.write_rules.specs.Layer.{layerOctets}
+use Rattle.write_rules.specs.Writing.{modeFrom, begun, recordsPass, sheetMain, verdictBy, verdictOf}
+use Rattle.write_rules.specs.Sentences.{Fine, Low, ModeAt, ShortAt, MismatchAt, Sound, Gives, no-sheet, above-3, passing, differing}
 use Rattle.write_rules.specs.Form.{UsedMask}
 use Rattle.write_rules.proofs.Agreed.{Meets, says-matches, step-cases}
 use Rattle.write_rules.proofs.Passed.{Plain, coder-nonzero, Passed, pass-back, pass-there, passed-fine, pass-stops, pass-fault}
@@ -100,11 +100,11 @@ mode-at i (x ∷ rs) a =
 
 -- ---- the verdict
 
-pub record Accepted (s d : List ℕ) (u : Tally) : Type 0 where
+pub record Tallied (s d : List ℕ) (u : Tally) : Type 0 where
   pub sheet : Sheet (records s)
   pub whole : rest s ≡ 0
   pub three : Low (records s)
-  pub passed : Passed d (mainOf (records s)) begun u (records s)
+  pub passed : Passed d (sheetMain (records s)) begun u (records s)
 
 pub sheet-plain : (rs : List Record) → Sheet rs → Low rs → Plain rs
 sheet-plain rs s low =
@@ -121,25 +121,25 @@ plain-take : (rs : List Record) (i : ℕ) → Plain rs → Plain (take i rs)
 plain-take rs i p =
     record { low = λ r m. p .low r (among-take rs i r m); coder = λ r m. p .coder r (among-take rs i r m); start = λ r m. p .start r (among-take rs i r m) }
 
-pub verdict-back : (s d : List ℕ) → Octets d → (u : Tally) (n : ℕ) → verdictOf s d ≡ ok u n → Accepted s d u
+pub verdict-back : (s d : List ℕ) → Octets d → (u : Tally) (n : ℕ) → verdictOf s d ≡ ok u n → Tallied s d u
 unfolding verdictOf verdictBy bind
 verdict-back s d o u n q = by (judgeOf s) refl q
   where
     pass : (m k : ℕ) → judgeOf s ≡ Good m k → (x : Res ℕ) → modeFrom 0 (records s) ≡ x
-        → bind x (λ (j e : ℕ). recordsPass d (mainOf (records s)) begun 0 (records s)) ≡ ok u n → Accepted s d u
+        → bind x (λ (j e : ℕ). recordsPass d (sheetMain (records s)) begun 0 (records s)) ≡ ok u n → Tallied s d u
     pass m k g (ok j e) h q =
         let y = sheet-accepted s m k .0 g in
         let low = mode-low 0 (records s) j e h in
-        record { sheet = y .sheet; whole = y .whole; three = low; passed = pass-back d o (mainOf (records s)) begun u 0 n (records s) (sheet-plain (records s) (y .sheet) low) q }
+        record { sheet = y .sheet; whole = y .whole; three = low; passed = pass-back d o (sheetMain (records s)) begun u 0 n (records s) (sheet-plain (records s) (y .sheet) low) q }
     pass m k g (no a) h q = clash cc
 
-    by : (v : Verdict) → judgeOf s ≡ v → verdictBy v d (records s) ≡ ok u n → Accepted s d u
+    by : (v : Verdict) → judgeOf s ≡ v → verdictBy v d (records s) ≡ ok u n → Tallied s d u
     by (Good m k) g q = pass m k g (modeFrom 0 (records s)) refl q
-    by (Bad i) g q = clash cc
+    by (Refused i) g q = clash cc
 
-pub accepted-sound : (s d : List ℕ) (u : Tally) → Accepted s d u → Sound s d
+pub accepted-sound : (s d : List ℕ) (u : Tally) → Tallied s d u → Sound s d
 accepted-sound s d u k =
-    record { sheet = k .sheet; whole = k .whole; low = k .three; fine = passed-fine d (mainOf (records s)) begun u (records s) (k .passed) }
+    record { sheet = k .sheet; whole = k .whole; low = k .three; fine = passed-fine d (sheetMain (records s)) begun u (records s) (k .passed) }
 
 -- ---- from the sentences to the verdict
 
@@ -151,13 +151,13 @@ module _ (s d : List ℕ) (sh : Sheet (records s)) (w : rest s ≡ 0) where
   unfolding verdictOf verdictBy bind
   verdict-mode i k =
       ap (λ (v : Verdict). verdictBy v d (records s)) judged
-      ∙ ap (λ (x : Res ℕ). bind x (λ (j e : ℕ). recordsPass d (mainOf (records s)) begun 0 (records s))) (mode-fault (records s) i k)
+      ∙ ap (λ (x : Res ℕ). bind x (λ (j e : ℕ). recordsPass d (sheetMain (records s)) begun 0 (records s))) (mode-fault (records s) i k)
 
-  pub verdict-passes : Low (records s) → verdictOf s d ≡ recordsPass d (mainOf (records s)) begun 0 (records s)
+  pub verdict-passes : Low (records s) → verdictOf s d ≡ recordsPass d (sheetMain (records s)) begun 0 (records s)
   unfolding verdictOf verdictBy bind
   verdict-passes low =
       ap (λ (v : Verdict). verdictBy v d (records s)) judged
-      ∙ ap (λ (x : Res ℕ). bind x (λ (j e : ℕ). recordsPass d (mainOf (records s)) begun 0 (records s))) (mode-there (records s) low)
+      ∙ ap (λ (x : Res ℕ). bind x (λ (j e : ℕ). recordsPass d (sheetMain (records s)) begun 0 (records s))) (mode-there (records s) low)
 
 pub verdict-sheet : (s d : List ℕ) (i : ℕ) → BadSheetAt s i → verdictOf s d ≡ no (BadSheet i)
 unfolding verdictOf verdictBy answerOf
@@ -165,7 +165,7 @@ verdict-sheet s d i k = ap (λ (v : Verdict). verdictBy v d (records s)) (sheet-
 
 pub verdict-there : (s d : List ℕ) → Octets d → Sound s d → (u : Tally) × (verdictOf s d ≡ ok u (length (records s)))
 verdict-there s d o k =
-    let y = pass-there d o (mainOf (records s)) begun 0 (records s) (sheet-plain (records s) (k .sheet) (k .low)) (k .fine) (λ r m c e. inl refl) in
+    let y = pass-there d o (sheetMain (records s)) begun 0 (records s) (sheet-plain (records s) (k .sheet) (k .low)) (k .fine) (λ r m c e. inl refl) in
     let z : 0 + length (records s) ≡ length (records s) = omega arith in
     (y .0, verdict-passes s d (k .sheet) (k .whole) (k .low) ∙ y .1 ∙ ap (ok (y .0)) z)
 
@@ -188,7 +188,7 @@ module _ (d : List ℕ) (o : Octets d) (main : ℕ) (rs : List Record) (p : Plai
       (record {
         fits = all-more (take i rs) (nth rs i) (λ r. Coded r → r .start + r .len ≤ length d) (λ r k c. q .inside r k) (λ c. h);
         layers =
-            all-more (take i rs) (nth rs i) (λ r. Coded r → r .layer ≢ 2 → Layer main (dataOf d r) (r .width) (r .height) (r .res)) (q .layer) (λ c. m c .1);
+            all-more (take i rs) (nth rs i) (λ r. Coded r → r .layer ≢ 2 → Layer main (layerOctets d r) (r .width) (r .height) (r .res)) (q .layer) (λ c. m c .1);
         coders =
             pair-more (take i rs) (nth rs i) (λ r q. Coded r → Coded q → r .layer ≡ 2 → q .layer ≡ 2 → r .coder ≡ q .coder)
             (λ r x j k c v e f. sym (q .mask r j c e) ∙ q .mask x k v f)
@@ -263,35 +263,35 @@ module _ (d : List ℕ) (o : Octets d) (main : ℕ) (rs : List Record) (p : Plai
 -- ---- a refusal of the verdict: of the sheet, of the mode or of a record
 
 pub record Refusal (s d : List ℕ) (room : ℕ) (a : Answer) : Type 0 where
-  pub place : ℕ
-  pub is : ((a ≡ BadSheet place) × Gives s d room (BadSheet place)) ⊎ ((a ≡ BadMode place) × Gives s d room (BadMode place))
-      ⊎ ((a ≡ Short place) × Gives s d room (Short place)) ⊎ ((a ≡ Mismatch place) × Gives s d room (Mismatch place))
+  pub gives : Gives s d room a
+  pub not-done : (n : ℕ) → a ≡ Done n → ⊥
 
 pub verdict-refused : (s d : List ℕ) → Octets d → (room : ℕ) (a : Answer) → verdictOf s d ≡ no a → Refusal s d room a
-unfolding verdictOf verdictBy bind answerOf Gives
+unfolding verdictOf verdictBy bind answerOf
 verdict-refused s d o room a q = by (judgeOf s) refl q
   where
+    told : (a b : Answer) → a ≡ b → Gives s d room b → ((n : ℕ) → b ≡ Done n → ⊥) → Refusal s d room a
+    told a b e g not = record { gives = subst (Gives s d room) (sym e) g; not-done = λ n h. not n (sym e ∙ h) }
+
     pass : (m k : ℕ) → judgeOf s ≡ Good m k → (x : Res ℕ) → modeFrom 0 (records s) ≡ x
-        → bind x (λ (j e : ℕ). recordsPass d (mainOf (records s)) begun 0 (records s)) ≡ no a → Refusal s d room a
+        → bind x (λ (j e : ℕ). recordsPass d (sheetMain (records s)) begun 0 (records s)) ≡ no a → Refusal s d room a
     pass m k g (ok j e) h q =
         let y = sheet-accepted s m k .0 g in
         let low = mode-low 0 (records s) j e h in
-        let f = fault-at d o (mainOf (records s)) (records s) (sheet-plain (records s) (y .sheet) low) a q in
-        record {
-          place = f .0;
-          is =
-              ⊎-elim
-              (λ (z : (a ≡ Short (f .0)) × ShortAt (mainOf (records s)) d (records s) (f .0)). inr (inr (inl (z .0, (y .sheet, y .whole, low, z .1)))))
-              (λ (z : (a ≡ Mismatch (f .0)) × MismatchAt (mainOf (records s)) d (records s) (f .0)). inr (inr (inr (z .0, (y .sheet, y .whole, low, z .1)))))
-              (f .1);
-        }
+        let f = fault-at d o (sheetMain (records s)) (records s) (sheet-plain (records s) (y .sheet) low) a q in
+        ⊎-elim
+        (λ (z : (a ≡ Short (f .0)) × ShortAt (sheetMain (records s)) d (records s) (f .0)).
+        told a (Short (f .0)) (z .0) (passing (y .sheet, y .whole) low (z .1)) (λ n e. clash cc))
+        (λ (z : (a ≡ Mismatch (f .0)) × MismatchAt (sheetMain (records s)) d (records s) (f .0)).
+        told a (Mismatch (f .0)) (z .0) (differing (y .sheet, y .whole) low (z .1)) (λ n e. clash cc))
+        (f .1)
     pass m k g (no b) h q =
         let y = sheet-accepted s m k .0 g in
         let f = mode-at 0 (records s) b h in
         let e : b ≡ a = cc in
         let z : 0 + f .0 ≡ f .0 = omega arith in
-        record { place = f .0; is = inr (inl (sym e ∙ f .1 ∙ ap BadMode z, (y .sheet, y .whole, f .2))) }
+        told a (BadMode (f .0)) (sym e ∙ f .1 ∙ ap BadMode z) (above-3 (y .sheet, y .whole) (f .2)) (λ n e. clash cc)
 
     by : (v : Verdict) → judgeOf s ≡ v → verdictBy v d (records s) ≡ no a → Refusal s d room a
     by (Good m k) g q = pass m k g (modeFrom 0 (records s)) refl q
-    by (Bad i) g q = let e : BadSheet i ≡ a = cc in record { place = i; is = inl (sym e, sheet-refused s i .0 g) }
+    by (Refused i) g q = let e : BadSheet i ≡ a = cc in told a (BadSheet i) (sym e) (no-sheet (sheet-refused s i .0 g)) (λ n e. clash cc)

@@ -12,7 +12,8 @@ use Rattle.sheet_rules.specs.Judge.{keeps, after, after1, after2, after3, stepO
 use Rattle.jpeg_rules.specs.Marker.{classOf, markerOf}
 use Rattle.jpeg_rules.specs.Walk.{segOf, scanOf, tagOf, frameBodyOf, frameOf, scanStepOf, segmentOf, turnOf, walkOf}
 use Rattle.jpeg_rules.specs.Walk as W
-use Rattle.page_rules.specs.Kinds.{Colour, Fields}
+use Rattle.page_rules.specs.Kinds.{Fields}
+use Rattle.sheet_rules.specs.declared.Colour.{Colour}
 use Rattle.page_rules.specs.Grammar.{startOf, colourOf, headOf}
 use Rattle.page_rules.proofs.Examples.{page, picture}
 use Rattle.page_rules.proofs.Many.{coded-mask}

@@ -3,7 +3,6 @@
 use Prim.Native.Nat.{ℕ, _+_, _≤_}
 use native.Mathlib.Omega.{arith}
 use mathlib.Core.Path.{_≡_, refl, sym, ap, ap₂, subst, _∙_}
-use mathlib.Core.Logic.{_⊎_, ⊎-elim}
 use mathlib.Core.List.{List}
 use lib.ListN.{length, take, drop}
 use lib.Seq.{take-at}
@@ -11,9 +10,8 @@ use lib.Dec.{ltb}
 use borrow.Author.Tests.{le-ltb, ltb-false}
 use Rattle.octets.specs.Octets.{Octets, putAt}
 use Rattle.octets.proofs.Laws.{put-rest, put-length}
-use Rattle.cases.proofs.Cases.{cond-with, clash}
-use Rattle.answers.specs.declared.Answer.{Answer}
-use Rattle.answers.specs.declared.Answer.the-variants.{Done, Short, BadMode, BadSheet, Mismatch}
+use Rattle.laws.proofs.Cases.{cond-with, clash}
+use Rattle.answers.specs.declared.Answer.the-variants.{Done}
 use Rattle.field_rules.specs.Field.{Res, ok, no}
 use Rattle.sheet_rules.specs.declared.Record.{Record}
 use Rattle.sheet_rules.specs.Record.{records}
@@ -23,14 +21,14 @@ use Rattle.page_rules.proofs.Theorems.{page-once}
 use Rattle.write_rules.specs.declared.Tally.{Tally}
 use Rattle.write_rules.specs.Writing.{headBy, verdictOf, pageBy, sizeAnswer, answerBy, writeOf, intoBy, writeInto}
 use Rattle.write_rules.specs.Form.{Lands, Formed}
-use Rattle.write_rules.specs.Sentences.{sizeOf, Gives}
+use Rattle.write_rules.specs.Sentences.{sizeOf}
 use Rattle.write_rules.proofs.Threes.{sheet-threes}
-use Rattle.write_rules.proofs.Answered.{Accepted, verdict-back, Refusal, verdict-refused}
+use Rattle.write_rules.proofs.Answered.{Tallied, verdict-back, verdict-refused}
 use Rattle.write_rules.proofs.Sizes.{size-threes}
 use Rattle.write_rules.proofs.Lands.{Sized, movedBy}
 use Rattle.write_rules.proofs.Written.{written-same, written-formed, written-layers, length-written, written-octets}
 
-pub tally-size : (s d : List ℕ) (u : Tally) → Accepted s d u → u .size ≡ sizeOf (records s)
+pub tally-size : (s d : List ℕ) (u : Tally) → Tallied s d u → u .size ≡ sizeOf (records s)
 tally-size s d u k =
     k .passed .size ∙ size-threes (sheet-threes (records s) (k .sheet) (k .three) (headBy (records s) u) refl refl) (k .sheet .complete .count)
 
@@ -41,17 +39,9 @@ size-done room size n =
     cond-with (λ x. x ≡ Done n → (n ≡ size) × (size ≤ 16777215) × (size ≤ room)) (ltb room size) (λ u q. clash cc)
     (λ u q. let z : size ≡ n = cc in (sym z, ltb-false 16777215 size t, ltb-false room size u))
 
-pub refusal-not-done : {A : Type 0} (s d : List ℕ) (room n : ℕ) (a : Answer) → Refusal s d room a → a ≡ Done n → A
-refusal-not-done s d room n a k q =
-    ⊎-elim (λ (y : (a ≡ BadSheet (k .place)) × Gives s d room (BadSheet (k .place))). let e = y .0 in clash cc)
-    (⊎-elim (λ (y : (a ≡ BadMode (k .place)) × Gives s d room (BadMode (k .place))). let e = y .0 in clash cc)
-    (⊎-elim (λ (y : (a ≡ Short (k .place)) × Gives s d room (Short (k .place))). let e = y .0 in clash cc)
-    (λ (y : (a ≡ Mismatch (k .place)) × Gives s d room (Mismatch (k .place))). let e = y .0 in clash cc)))
-    (k .is)
-
 pub record Into (s d p : List ℕ) (n : ℕ) : Type 0 where
   pub u : Tally
-  pub accepted : Accepted s d u
+  pub accepted : Tallied s d u
   pub size : u .size ≡ n
   pub short : n ≤ 16777215
   pub fits : n ≤ length p
@@ -75,7 +65,7 @@ done-into s d p o n = by (verdictOf s d) refl
           fits = omega arith;
           into = ap (intoBy p d (records s)) e ∙ simp (le-ltb 16777215 (u .size) z1, le-ltb (length p) (u .size) z2);
         }
-    by (no a) e q = refusal-not-done s d (length p) n a (verdict-refused s d o (length p) a e) q
+    by (no a) e q = absurd (verdict-refused s d o (length p) a e .not-done n q)
 
 module _ (s d p : List ℕ) (o : Octets d) (sized : (r : Record) → Among r (records s) → Sized r) (n : ℕ) (k : Into s d p n) where
   pub into-length : length (pageBy d (records s) (k .u)) ≡ n

@@ -1,9 +1,9 @@
 -- The stripes that are written are stripes of the grammar, with the records that were lent but for their starts, and with their data.
 -- Assumes nothing.
-use Prim.Native.Nat.{ℕ, _+_, _-_, _≤_, _<_}
+use Prim.Native.Nat.{ℕ, _+_, _≤_, _<_}
 use native.Mathlib.Omega.{arith}
 use mathlib.Core.Path.{_≡_, refl, sym, ap, subst, _∙_}
-use mathlib.Core.Logic.{_⊎_, _≢_, ⊎-elim}
+use mathlib.Core.Logic.{_≢_, ⊎-elim}
 use mathlib.Core.Bool.{Bool, true, cond}
 use mathlib.Core.List.{List, [], _∷_, _++_, map, append-assoc, List·Memᴰ·head, List·Memᴰ·tail}
 use lib.ListN.{length, drop, length-append}
@@ -18,7 +18,7 @@ use Rattle.page_rules.specs.declared.Head.{Head}
 use Rattle.page_rules.specs.Kinds.{hasBack, hasMask, hasFore, maskRecord}
 use Rattle.page_rules.specs.Grammar.{headOf, Widths, GoodFields, Image, recordsOf, Stripe, Stripes, last, next}
 use Rattle.page_rules.proofs.Accepted.{length-head}
-use Rattle.write_rules.specs.Layer.{dataOf}
+use Rattle.write_rules.specs.Layer.{layerOctets}
 use Rattle.write_rules.specs.Writing.{typeBy, fieldsBy, stripeBy, stripesBy}
 use Rattle.write_rules.specs.Form.{bare, TrimStripe, Trim}
 use Rattle.write_rules.proofs.Passed.{sizeIn, coder-nonzero}
@@ -35,8 +35,8 @@ pub record Sized (r : Record) : Type 0 where
 -- what a page's start says of the records that are written under it, and what is known of their data
 pub record Ready (d : List ℕ) (hd : Head) (rs : List Record) : Type 0 where
   pub sized : (r : Record) → Among r rs → Sized r
-  pub long : (r : Record) → Among r rs → length (dataOf d r) ≡ r .len
-  pub layer : (r : Record) → Among r rs → Coded r → r .layer ≢ 2 → Layer (hd .main) (dataOf d r) (r .width) (r .height) (r .res)
+  pub long : (r : Record) → Among r rs → length (layerOctets d r) ≡ r .len
+  pub layer : (r : Record) → Among r rs → Coded r → r .layer ≢ 2 → Layer (hd .main) (layerOctets d r) (r .width) (r .height) (r .res)
   pub mask : (r : Record) → Among r rs → Coded r → r .layer ≡ 2 → hd .mask ≡ r .coder
   pub image : (r : Record) → Among r rs → Coded r → r .layer ≢ 2 → hd .image ≡ 1
 
@@ -56,18 +56,18 @@ movedBy d at [] = []
 movedBy d at (a ∷ []) = []
 movedBy d at (a ∷ b ∷ []) = []
 movedBy d at (a ∷ b ∷ c ∷ rs) =
-    placedAt a (at + 39 + length (dataOf d b))
+    placedAt a (at + 39 + length (layerOctets d b))
     ∷ placedAt b (at + 39)
-    ∷ placedAt c (at + 39 + length (dataOf d b) + length (dataOf d a))
+    ∷ placedAt c (at + 39 + length (layerOctets d b) + length (layerOctets d a))
     ∷ movedBy d (at + length (stripeBy d a b c)) rs
 
 -- ---- one stripe
 
 module _ (d : List ℕ) (hd : Head) (k left at : ℕ) (a b c : Record) (t : Three hd k left a b c)
     (za : Sized a) (zb : Sized b) (zc : Sized c)
-    (na : length (dataOf d a) ≡ a .len) (nb : length (dataOf d b) ≡ b .len) (nc : length (dataOf d c) ≡ c .len)
-    (ya : Coded a → Layer (hd .main) (dataOf d a) (a .width) (a .height) (a .res))
-    (yc : Coded c → Layer (hd .main) (dataOf d c) (c .width) (c .height) (c .res))
+    (na : length (layerOctets d a) ≡ a .len) (nb : length (layerOctets d b) ≡ b .len) (nc : length (layerOctets d c) ≡ c .len)
+    (ya : Coded a → Layer (hd .main) (layerOctets d a) (a .width) (a .height) (a .res))
+    (yc : Coded c → Layer (hd .main) (layerOctets d c) (c .width) (c .height) (c .res))
     (mb : Coded b → hd .mask ≡ b .coder) (ia : Coded a → hd .image ≡ 1) (ic : Coded c → hd .image ≡ 1) where
   backIs : hasBack (typeBy (coded a) (coded b) (coded c)) ≡ coded a
   backIs = back-bit (coded a) (coded b) (coded c)
@@ -107,44 +107,44 @@ module _ (d : List ℕ) (hd : Head) (k left at : ℕ) (a b c : Record) (t : Thre
         mask = (λ e. says-coded b .told (sym maskIs ∙ e), λ e. uncoded-is b (sym maskIs ∙ e));
       }
 
-  made : recordsOf hd k (fieldsBy a b c) (at + 39) (imageIs (coded a) a (dataOf d a) (at + 39 + length (dataOf d b)))
-      (imageIs (coded c) c (dataOf d c) (at + 39 + length (dataOf d b) + length (dataOf d a)))
-      ≡ placedAt a (at + 39 + length (dataOf d b)) ∷ placedAt b (at + 39) ∷ placedAt c (at + 39 + length (dataOf d b) + length (dataOf d a)) ∷ []
+  made : recordsOf hd k (fieldsBy a b c) (at + 39) (imageIs (coded a) a (layerOctets d a) (at + 39 + length (layerOctets d b)))
+      (imageIs (coded c) c (layerOctets d c) (at + 39 + length (layerOctets d b) + length (layerOctets d a)))
+      ≡ placedAt a (at + 39 + length (layerOctets d b)) ∷ placedAt b (at + 39) ∷ placedAt c (at + 39 + length (layerOctets d b) + length (layerOctets d a)) ∷ []
   made =
       let s = t .stripes in
       let l = t .layers in
-      let e1 = image-record hd k 1 (at + 39 + length (dataOf d b)) d a (s .0) (l .0) refl (t .zeros .0) (t .contents .0) (t .backRes) na in
+      let e1 = image-record hd k 1 (at + 39 + length (layerOctets d b)) d a (s .0) (l .0) refl (t .zeros .0) (t .contents .0) (t .backRes) na in
       let e2 =
       ap (λ (y : Bool). maskRecord hd k (b .height) (cond y (hd .mask) 0) (cond y (at + 39) 0) (b .len)) maskIs
       ∙ mask-record hd k (at + 39) b (coded b) refl (s .1) (l .1) (t .zeros .1) (t .contents .1) (t .corner) (t .base) (t .width) (t .main) mb in
-      let e3 = image-record hd k 3 (at + 39 + length (dataOf d b) + length (dataOf d a)) d c (s .2) (l .2) refl (t .zeros .2) (t .contents .2) (t .foreRes) nc in
+      let e3 = image-record hd k 3 (at + 39 + length (layerOctets d b) + length (layerOctets d a)) d c (s .2) (l .2) refl (t .zeros .2) (t .contents .2) (t .foreRes) nc in
       cons-same e1 (cons-same e2 (cons-same e3 refl))
 
   pub stripe-lands : Stripe hd k left at (stripeBy d a b c) (b .height)
-      (placedAt a (at + 39 + length (dataOf d b)) ∷ placedAt b (at + 39) ∷ placedAt c (at + 39 + length (dataOf d b) + length (dataOf d a)) ∷ [])
+      (placedAt a (at + 39 + length (layerOctets d b)) ∷ placedAt b (at + 39) ∷ placedAt c (at + 39 + length (layerOctets d b) + length (layerOctets d a)) ∷ [])
   unfolding stripeBy
   stripe-lands =
       record {
         fields = fieldsBy a b c;
-        mask = dataOf d b;
-        back = dataOf d a;
-        fore = dataOf d c;
-        backIs = imageIs (coded a) a (dataOf d a) (at + 39 + length (dataOf d b));
-        foreIs = imageIs (coded c) c (dataOf d c) (at + 39 + length (dataOf d b) + length (dataOf d a));
+        mask = layerOctets d b;
+        back = layerOctets d a;
+        fore = layerOctets d c;
+        backIs = imageIs (coded a) a (layerOctets d a) (at + 39 + length (layerOctets d b));
+        foreIs = imageIs (coded c) c (layerOctets d c) (at + 39 + length (layerOctets d b) + length (layerOctets d a));
         octets = refl;
         widths = widths;
         good = good;
         size = nb;
         backThere =
-            subst (λ (y : Bool). Image (hd .main) (at + 39 + length (dataOf d b)) y (dataOf d a) (imageIs (coded a) a (dataOf d a) (at + 39 + length (dataOf d b)))) (sym backIs)
-            (image-made (hd .main) (at + 39 + length (dataOf d b)) d a ya);
+            subst (λ (y : Bool). Image (hd .main) (at + 39 + length (layerOctets d b)) y (layerOctets d a) (imageIs (coded a) a (layerOctets d a) (at + 39 + length (layerOctets d b)))) (sym backIs)
+            (image-made (hd .main) (at + 39 + length (layerOctets d b)) d a ya);
         foreThere =
             subst
             (λ (y : Bool).
-            Image (hd .main) (at + 39 + length (dataOf d b) + length (dataOf d a)) y (dataOf d c)
-            (imageIs (coded c) c (dataOf d c) (at + 39 + length (dataOf d b) + length (dataOf d a))))
+            Image (hd .main) (at + 39 + length (layerOctets d b) + length (layerOctets d a)) y (layerOctets d c)
+            (imageIs (coded c) c (layerOctets d c) (at + 39 + length (layerOctets d b) + length (layerOctets d a))))
             (sym foreIs)
-            (image-made (hd .main) (at + 39 + length (dataOf d b) + length (dataOf d a)) d c yc);
+            (image-made (hd .main) (at + 39 + length (layerOctets d b) + length (layerOctets d a)) d c yc);
         tall = refl;
         records = sym made;
       }
@@ -174,8 +174,8 @@ stripes-land {hd} {k} {left} (another {a = a} {b = b} {c = c} {rs = rs} t more) 
     let mc : Among c (a ∷ b ∷ c ∷ rs) = List·Memᴰ·tail (List·Memᴰ·tail (List·Memᴰ·head refl)) in
     let na : a .layer ≢ 2 = λ z. omega arith in
     let nc : c .layer ≢ 2 = λ z. omega arith in
-    let ca : Coded a → Layer (hd .main) (dataOf d a) (a .width) (a .height) (a .res) = λ e. y .layer a ma e na in
-    let cf : Coded c → Layer (hd .main) (dataOf d c) (c .width) (c .height) (c .res) = λ e. y .layer c mc e nc in
+    let ca : Coded a → Layer (hd .main) (layerOctets d a) (a .width) (a .height) (a .res) = λ e. y .layer a ma e na in
+    let cf : Coded c → Layer (hd .main) (layerOctets d c) (c .width) (c .height) (c .res) = λ e. y .layer c mc e nc in
     let r = stripes-land more d (at + length (stripeBy d a b c)) (ready-tail (ready-tail (ready-tail y))) in
     record {
       striped =
@@ -197,42 +197,42 @@ unfolding movedBy
 moved-same (ended p) d at = refl
 moved-same (another {a = a} {b = b} {c = c} {rs = rs} t more) d at =
     let k = t .contents in
-    cons-same (bare-placed a (at + 39 + length (dataOf d b)) (k .0))
+    cons-same (bare-placed a (at + 39 + length (layerOctets d b)) (k .0))
     (cons-same (bare-placed b (at + 39) (k .1))
-    (cons-same (bare-placed c (at + 39 + length (dataOf d b) + length (dataOf d a)) (k .2))
+    (cons-same (bare-placed c (at + 39 + length (layerOctets d b) + length (layerOctets d a)) (k .2))
     (moved-same more d (at + length (stripeBy d a b c)))))
 
 -- ---- and their data is the data of those lent
 
-length-stripe : (d : List ℕ) (a b c : Record) → length (stripeBy d a b c) ≡ 39 + length (dataOf d b) + length (dataOf d a) + length (dataOf d c)
+length-stripe : (d : List ℕ) (a b c : Record) → length (stripeBy d a b c) ≡ 39 + length (layerOctets d b) + length (layerOctets d a) + length (layerOctets d c)
 unfolding stripeBy
 length-stripe d a b c =
-    let e1 = length-append (headOf (fieldsBy a b c)) (dataOf d b ++ (dataOf d a ++ dataOf d c)) in
-    let e2 = length-append (dataOf d b) (dataOf d a ++ dataOf d c) in
-    let e3 = length-append (dataOf d a) (dataOf d c) in
+    let e1 = length-append (headOf (fieldsBy a b c)) (layerOctets d b ++ (layerOctets d a ++ layerOctets d c)) in
+    let e2 = length-append (layerOctets d b) (layerOctets d a ++ layerOctets d c) in
+    let e3 = length-append (layerOctets d a) (layerOctets d c) in
     let e4 = length-head (fieldsBy a b c) in
     omega arith
 
 -- a stripe that stands at a place, opened
 pub stripe-open : (d s more : List ℕ) (a b c : Record) (at : ℕ) → drop at s ≡ stripeBy d a b c ++ more
-    → drop at s ≡ headOf (fieldsBy a b c) ++ (dataOf d b ++ (dataOf d a ++ (dataOf d c ++ more)))
+    → drop at s ≡ headOf (fieldsBy a b c) ++ (layerOctets d b ++ (layerOctets d a ++ (layerOctets d c ++ more)))
 unfolding stripeBy
 stripe-open d s more a b c at e = e ∙ simp append-assoc
 
 module _ (d s more : List ℕ) (a b c : Record) (at : ℕ) (e : drop at s ≡ stripeBy d a b c ++ more) where
-  at-mask : drop (at + 39) s ≡ dataOf d b ++ (dataOf d a ++ (dataOf d c ++ more))
+  at-mask : drop (at + 39) s ≡ layerOctets d b ++ (layerOctets d a ++ (layerOctets d c ++ more))
   at-mask =
       ap (λ (j : ℕ). drop (at + j) s) (sym (length-head (fieldsBy a b c)))
-      ∙ drop-next s (headOf (fieldsBy a b c)) (dataOf d b ++ (dataOf d a ++ (dataOf d c ++ more))) at (stripe-open d s more a b c at e)
+      ∙ drop-next s (headOf (fieldsBy a b c)) (layerOctets d b ++ (layerOctets d a ++ (layerOctets d c ++ more))) at (stripe-open d s more a b c at e)
 
-  at-back : drop (at + 39 + length (dataOf d b)) s ≡ dataOf d a ++ (dataOf d c ++ more)
-  at-back = drop-next s (dataOf d b) (dataOf d a ++ (dataOf d c ++ more)) (at + 39) at-mask
+  at-back : drop (at + 39 + length (layerOctets d b)) s ≡ layerOctets d a ++ (layerOctets d c ++ more)
+  at-back = drop-next s (layerOctets d b) (layerOctets d a ++ (layerOctets d c ++ more)) (at + 39) at-mask
 
-  at-fore : drop (at + 39 + length (dataOf d b) + length (dataOf d a)) s ≡ dataOf d c ++ more
-  at-fore = drop-next s (dataOf d a) (dataOf d c ++ more) (at + 39 + length (dataOf d b)) at-back
+  at-fore : drop (at + 39 + length (layerOctets d b) + length (layerOctets d a)) s ≡ layerOctets d c ++ more
+  at-fore = drop-next s (layerOctets d a) (layerOctets d c ++ more) (at + 39 + length (layerOctets d b)) at-back
 
-pub moved-data : {hd : Head} {k left : ℕ} {rs : List Record} → Threes hd k left rs → (d s more : List ℕ) (at : ℕ) → ((r : Record) → Among r rs → length (dataOf d r) ≡ r .len)
-    → drop at s ≡ stripesBy d rs ++ more → map (dataOf s) (movedBy d at rs) ≡ map (dataOf d) rs
+pub moved-data : {hd : Head} {k left : ℕ} {rs : List Record} → Threes hd k left rs → (d s more : List ℕ) (at : ℕ) → ((r : Record) → Among r rs → length (layerOctets d r) ≡ r .len)
+    → drop at s ≡ stripesBy d rs ++ more → map (layerOctets s) (movedBy d at rs) ≡ map (layerOctets d) rs
 unfolding movedBy stripesBy
 moved-data (ended p) d s more at n e = refl
 moved-data (another {a = a} {b = b} {c = c} {rs = rs} t rest) d s more at n e =
@@ -241,14 +241,14 @@ moved-data (another {a = a} {b = b} {c = c} {rs = rs} t rest) d s more at n e =
     let mc : Among c (a ∷ b ∷ c ∷ rs) = List·Memᴰ·tail (List·Memᴰ·tail (List·Memᴰ·head refl)) in
     let e′ : drop at s ≡ stripeBy d a b c ++ (stripesBy d rs ++ more) = e ∙ append-assoc (stripeBy d a b c) (stripesBy d rs) more in
     let l : List ℕ = stripesBy d rs ++ more in
-    cons-same (data-placed d s (dataOf d c ++ l) a (at + 39 + length (dataOf d b)) (n a ma) (at-back d s l a b c at e′))
-    (cons-same (data-placed d s (dataOf d a ++ (dataOf d c ++ l)) b (at + 39) (n b mb) (at-mask d s l a b c at e′))
-    (cons-same (data-placed d s l c (at + 39 + length (dataOf d b) + length (dataOf d a)) (n c mc) (at-fore d s l a b c at e′))
+    cons-same (data-placed d s (layerOctets d c ++ l) a (at + 39 + length (layerOctets d b)) (n a ma) (at-back d s l a b c at e′))
+    (cons-same (data-placed d s (layerOctets d a ++ (layerOctets d c ++ l)) b (at + 39) (n b mb) (at-mask d s l a b c at e′))
+    (cons-same (data-placed d s l c (at + 39 + length (layerOctets d b) + length (layerOctets d a)) (n c mc) (at-fore d s l a b c at e′))
     (moved-data rest d s more (at + length (stripeBy d a b c)) (λ r m. n r (List·Memᴰ·tail (List·Memᴰ·tail (List·Memᴰ·tail m)))) (drop-next s (stripeBy d a b c) l at e′))))
 
 -- ---- their octets are as many as were counted
 
-pub length-stripes : {hd : Head} {k left : ℕ} {rs : List Record} → Threes hd k left rs → (d : List ℕ) → ((r : Record) → Among r rs → length (dataOf d r) ≡ r .len)
+pub length-stripes : {hd : Head} {k left : ℕ} {rs : List Record} → Threes hd k left rs → (d : List ℕ) → ((r : Record) → Among r rs → length (layerOctets d r) ≡ r .len)
     → length (stripesBy d rs) ≡ sumOf sizeIn rs
 unfolding stripesBy sumOf
 length-stripes (ended p) d n = refl

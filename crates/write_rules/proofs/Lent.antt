@@ -1,9 +1,9 @@
 -- A page that was read, lent to the writer with its sheet: its records pass, and give its stripes.
 -- Assumes nothing.
-use Prim.Native.Nat.{ℕ, _+_, _-_, _≤_, _<_}
+use Prim.Native.Nat.{ℕ, _+_, _≤_, _<_}
 use native.Mathlib.Omega.{arith}
 use mathlib.Core.Path.{_≡_, refl, sym, ap, subst, _∙_}
-use mathlib.Core.Logic.{_⊎_, inl, inr, _≢_, ⊎-elim}
+use mathlib.Core.Logic.{inl, inr, _≢_, ⊎-elim}
 use mathlib.Core.Bool.{Bool, true, false, not, cond}
 use mathlib.Core.List.{List, [], _∷_, _++_, List·Memᴰ·cases-cons, List·Memᴰ·not-nil, List·Memᴰ·append-cases}
 use lib.ListN.{length, take, drop, length-append}
@@ -15,12 +15,13 @@ use Rattle.sheet_rules.specs.Judge.{coded}
 use Rattle.sheet_rules.specs.Sentences.{Among, Coded}
 use Rattle.sheet_rules.proofs.Among.{sum-append}
 use Rattle.page_rules.specs.declared.Head.{Head}
-use Rattle.page_rules.specs.declared.Coded.{Coded as Data}
-use Rattle.page_rules.specs.declared.Coded.the-variants.{There, Absent}
-use Rattle.page_rules.specs.Kinds.{hasBack, hasMask, hasFore, Colour, imageRecord, maskRecord}
+use Rattle.page_rules.specs.declared.LayerData.{LayerData}
+use Rattle.page_rules.specs.declared.LayerData.the-variants.{There, Absent}
+use Rattle.page_rules.specs.Kinds.{hasBack, hasMask, hasFore, imageRecord, maskRecord}
+use Rattle.sheet_rules.specs.declared.Colour.{Colour}
 use Rattle.page_rules.specs.Grammar.{headOf, Image, there, absent, Stripe, Stripes, last, next}
 use Rattle.page_rules.proofs.Accepted.{length-head}
-use Rattle.write_rules.specs.Layer.{dataOf}
+use Rattle.write_rules.specs.Layer.{layerOctets}
 use Rattle.write_rules.proofs.Passed.{sizeIn}
 use Rattle.write_rules.proofs.Sizes.{size-first, size-other}
 
@@ -33,7 +34,7 @@ pub record Lent (hd : Head) (r : Record) : Type 0 where
   pub base : (r .base0 < 256) × (r .base1 < 256) × (r .base2 < 256)
   pub offset : (r .x ≤ 65535) × (r .y ≤ 65535)
 
-image-lent : (hd : Head) (k l at : ℕ) (base : Colour) (x y : ℕ) (b : Bool) (o : List ℕ) (c : Data) → Image (hd .main) at b o c → l ≤ 3 → l ≢ 2 → (b ≡ true → hd .image ≢ 0)
+image-lent : (hd : Head) (k l at : ℕ) (base : Colour) (x y : ℕ) (b : Bool) (o : List ℕ) (c : LayerData) → Image (hd .main) at b o c → l ≤ 3 → l ≢ 2 → (b ≡ true → hd .image ≢ 0)
     → (base .c0 < 256) × (base .c1 < 256) × (base .c2 < 256) → (b ≡ true → (x ≤ 65535) × (y ≤ 65535)) → Lent hd (imageRecord hd k l base x y c)
 unfolding imageRecord
 image-lent hd k l at base x y b o c (there z) low n i w f =
@@ -93,7 +94,7 @@ stripes-main {hd} {left} {at} (next {l = l} {rs = rs} {sr = sr} height few z res
 
 -- ---- what is read of an image layer and of a mask
 
-pub coded-image : (hd : Head) (k l at : ℕ) (base : Colour) (x y : ℕ) (b : Bool) (o : List ℕ) (c : Data) → Image (hd .main) at b o c → coded (imageRecord hd k l base x y c) ≡ b
+pub coded-image : (hd : Head) (k l at : ℕ) (base : Colour) (x y : ℕ) (b : Bool) (o : List ℕ) (c : LayerData) → Image (hd .main) at b o c → coded (imageRecord hd k l base x y c) ≡ b
 unfolding imageRecord
 coded-image hd k l at base x y b o c (there z) = ap not (ne-eqb (length o) 0 (λ e. let a = ap length (z .octets) in omega arith))
 coded-image hd k l at base x y b o c absent = refl
@@ -103,8 +104,8 @@ unfolding maskRecord
 coded-mask hd k height c at n true m = ap not (ne-eqb n 0 (m .0 refl))
 coded-mask hd k height c at n false m = ap not (eq-eqb n 0 (m .1 refl))
 
-pub image-data : (hd : Head) (s : List ℕ) (k l at : ℕ) (base : Colour) (x y : ℕ) (b : Bool) (o more : List ℕ) (c : Data) → Image (hd .main) at b o c → drop at s ≡ o ++ more
-    → dataOf s (imageRecord hd k l base x y c) ≡ o
+pub image-data : (hd : Head) (s : List ℕ) (k l at : ℕ) (base : Colour) (x y : ℕ) (b : Bool) (o more : List ℕ) (c : LayerData) → Image (hd .main) at b o c → drop at s ≡ o ++ more
+    → layerOctets s (imageRecord hd k l base x y c) ≡ o
 unfolding imageRecord
 image-data hd s k l at base x y b o more c (there z) e = ap (take (length o)) e ∙ take-at o more (length o) refl
 image-data hd s k l at base x y b o more c absent e = refl
@@ -114,19 +115,19 @@ no-octets [] e = refl
 no-octets (x ∷ o) e = absurd (omega arith)
 
 pub mask-data : (hd : Head) (s : List ℕ) (k height c at n : ℕ) (b : Bool) (o more : List ℕ) → length o ≡ n → (b ≡ false → n ≡ 0) → drop at s ≡ o ++ more
-    → dataOf s (maskRecord hd k height c (cond b at 0) n) ≡ o
+    → layerOctets s (maskRecord hd k height c (cond b at 0) n) ≡ o
 unfolding maskRecord
 mask-data hd s k height c at n true o more l z e = ap (take n) e ∙ take-at o more n l
 mask-data hd s k height c at n false o more l z e = ap (λ (j : ℕ). take j s) (z refl) ∙ no-octets o (l ∙ z refl)
 
 -- ---- their octets are as many as the writer counts
 
-image-size : (hd : Head) (k l at : ℕ) (base : Colour) (x y : ℕ) (b : Bool) (o : List ℕ) (c : Data) → Image (hd .main) at b o c → imageRecord hd k l base x y c .len ≡ length o
+image-size : (hd : Head) (k l at : ℕ) (base : Colour) (x y : ℕ) (b : Bool) (o : List ℕ) (c : LayerData) → Image (hd .main) at b o c → imageRecord hd k l base x y c .len ≡ length o
 unfolding imageRecord
 image-size hd k l at base x y b o c (there z) = refl
 image-size hd k l at base x y b o c absent = refl
 
-image-layer : (hd : Head) (k l : ℕ) (base : Colour) (x y : ℕ) (c : Data) → imageRecord hd k l base x y c .layer ≡ l
+image-layer : (hd : Head) (k l : ℕ) (base : Colour) (x y : ℕ) (c : LayerData) → imageRecord hd k l base x y c .layer ≡ l
 unfolding imageRecord
 image-layer hd k l base x y (There a n w h r) = refl
 image-layer hd k l base x y Absent = refl

@@ -11,18 +11,19 @@ use lib.Seq.{split-at}
 use lib.Dec.{eqb}
 use borrow.Author.Tests.{eq-eqb, ne-eqb, eqb-true, eqb-false}
 use Rattle.octets.specs.Octets.{Octets}
-use Rattle.cases.proofs.Cases.{clash}
-use Rattle.cases.proofs.Says.{says-eq, says-else}
+use Rattle.laws.proofs.Cases.{clash}
+use Rattle.laws.proofs.Says.{says-eq, says-else}
 use Rattle.answers.specs.declared.Answer.{Answer}
 use Rattle.field_rules.specs.Field.{Res, ok, no, bind}
 use Rattle.sheet_rules.specs.declared.Record.{Record}
-use Rattle.sheet_rules.specs.Record.{blank, nth, only, sumOf}
+use Rattle.sheet_rules.specs.Record.{blank, nth, sumOf}
+use Rattle.laws.specs.Tests.{only}
 use Rattle.sheet_rules.specs.Judge.{coded}
 use Rattle.sheet_rules.specs.Sentences.{Among, Coded, Uncoded, CoderOf}
 use Rattle.sheet_rules.proofs.New.{says-coded}
 use Rattle.jpeg_rules.specs.Grammar.{Layer}
 use Rattle.write_rules.specs.declared.Tally.{Tally}
-use Rattle.write_rules.specs.Layer.{dataOf}
+use Rattle.write_rules.specs.Layer.{layerOctets}
 use Rattle.write_rules.specs.Writing.{isMask, counted, recordStep, recordsPass}
 use Rattle.write_rules.specs.Form.{UsedMask, UsedImage}
 use Rattle.write_rules.specs.Sentences.{Fine}
@@ -96,7 +97,7 @@ module _ (t : Tally) (r : Record) where
 
 pub record Passed (d : List ℕ) (main : ℕ) (t u : Tally) (rs : List Record) : Type 0 where
   pub inside : (r : Record) → Among r rs → r .start + r .len ≤ length d
-  pub layer : (r : Record) → Among r rs → Coded r → r .layer ≢ 2 → Layer main (dataOf d r) (r .width) (r .height) (r .res)
+  pub layer : (r : Record) → Among r rs → Coded r → r .layer ≢ 2 → Layer main (layerOctets d r) (r .width) (r .height) (r .res)
   pub mask : (r : Record) → Among r rs → Coded r → r .layer ≡ 2 → u .mask ≡ r .coder
   pub maskKept : t .mask ≢ 0 → u .mask ≡ t .mask
   pub maskUsed : (u .mask ≡ t .mask) ⊎ UsedMask rs
@@ -122,7 +123,7 @@ passed-more d o main t u r rs p h m k =
     let here : Among r (r ∷ rs) = List·Memᴰ·head refl in
     record {
       inside = each r rs (λ q. q .start + q .len ≤ length d) h (k .inside);
-      layer = each r rs (λ q. Coded q → q .layer ≢ 2 → Layer main (dataOf d q) (q .width) (q .height) (q .res)) (λ c e. m c .1 e) (k .layer);
+      layer = each r rs (λ q. Coded q → q .layer ≢ 2 → Layer main (layerOctets d q) (q .width) (q .height) (q .res)) (λ c e. m c .1 e) (k .layer);
       mask =
           each r rs (λ q. Coded q → q .layer ≡ 2 → u .mask ≡ q .coder)
           (λ c e.

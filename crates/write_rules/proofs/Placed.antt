@@ -3,26 +3,26 @@
 use Prim.Native.Nat.{ℕ, _+_, _%_, _<_}
 use native.Mathlib.Omega.{arith}
 use mathlib.Core.Path.{_≡_, refl, sym, ap, ap₂, subst, _∙_}
-use mathlib.Core.Logic.{_⊎_, inl, inr, _≢_, ⊎-elim}
+use mathlib.Core.Logic.{inl, inr, _≢_, ⊎-elim}
 use mathlib.Core.Bool.{Bool, true, false, not, cond, false≢true}
 use mathlib.Core.List.{List, [], _∷_, _++_}
 use lib.ListN.{length, take, drop}
 use lib.Seq.{take-at}
 use lib.Dec.{eqb}
 use borrow.Author.Tests.{eqb-true}
-use Rattle.cases.proofs.Cases.{bool-else}
+use Rattle.laws.proofs.Cases.{bool-else}
 use Rattle.sheet_rules.specs.declared.Record.{Record}
-use Rattle.sheet_rules.specs.Record.{only}
+use Rattle.laws.specs.Tests.{only}
 use Rattle.sheet_rules.specs.Judge.{coded}
 use Rattle.sheet_rules.specs.Sentences.{Coded, Uncoded, CoderOf}
 use Rattle.sheet_rules.proofs.New.{CodedFacts, EmptyFacts, UncodedFacts, BaseFacts, ChoiceFacts, says-coded}
 use Rattle.jpeg_rules.specs.Grammar.{Layer}
 use Rattle.page_rules.specs.declared.Head.{Head}
-use Rattle.page_rules.specs.declared.Coded.{Coded as Data}
-use Rattle.page_rules.specs.declared.Coded.the-variants.{There, Absent}
+use Rattle.page_rules.specs.declared.LayerData.{LayerData}
+use Rattle.page_rules.specs.declared.LayerData.the-variants.{There, Absent}
 use Rattle.page_rules.specs.Kinds.{hasBack, hasMask, hasFore, imageRecord, maskRecord}
 use Rattle.page_rules.specs.Grammar.{TypeOf, Image, there, absent}
-use Rattle.write_rules.specs.Layer.{dataOf}
+use Rattle.write_rules.specs.Layer.{layerOctets}
 use Rattle.write_rules.specs.Writing.{typeBy, colourBy}
 use Rattle.write_rules.specs.Form.{startAt, bare}
 use Rattle.write_rules.proofs.Threes.{Contents, Zeros}
@@ -105,14 +105,14 @@ bare-placed r p k = go (coded r) refl
     go false e = ap (startAt r) (sym (contents-uncoded r k e .start))
 
 -- the data of a record that has none, and of one that was moved
-pub no-data : (d : List ℕ) (r : Record) → coded r ≡ false → dataOf d r ≡ []
+pub no-data : (d : List ℕ) (r : Record) → coded r ≡ false → layerOctets d r ≡ []
 no-data d r e = ap (λ (n : ℕ). take n (drop (r .start) d)) (uncoded-is r e)
 
-pub data-placed : (d l more : List ℕ) (r : Record) (p : ℕ) → length (dataOf d r) ≡ r .len → drop p l ≡ dataOf d r ++ more → dataOf l (placedAt r p) ≡ dataOf d r
+pub data-placed : (d l more : List ℕ) (r : Record) (p : ℕ) → length (layerOctets d r) ≡ r .len → drop p l ≡ layerOctets d r ++ more → layerOctets l (placedAt r p) ≡ layerOctets d r
 data-placed d l more r p n e =
     ⊎-elim
     (λ (c : coded r ≡ true).
-    ap (λ (b : Bool). take (r .len) (drop (only b p) l)) c ∙ ap (take (r .len)) e ∙ take-at (dataOf d r) more (r .len) n)
+    ap (λ (b : Bool). take (r .len) (drop (only b p) l)) c ∙ ap (take (r .len)) e ∙ take-at (layerOctets d r) more (r .len) n)
     (λ (c : coded r ≡ false). no-data l (placedAt r p) c ∙ sym (no-data d r c))
     (bool-else (coded r))
 
@@ -124,21 +124,21 @@ pub record-by : (r q : Record) → r .stripe ≡ q .stripe → r .layer ≡ q .l
 record-by r q e1 e2 e3 e4 e5 e6 e7 e8 e9 e10 e11 e12 e13 e14 e15 = let all : startAt r (r .start) ≡ startAt q (q .start) = cc in all
 
 -- what the page says of an image layer's data at a place
-unfoldable pub imageIs : Bool → Record → List ℕ → ℕ → Data
+unfoldable pub imageIs : Bool → Record → List ℕ → ℕ → LayerData
 imageIs true r l at = There at (length l) (r .width) (r .height) (r .res)
 imageIs false r l at = Absent
 
-pub image-made : (main at : ℕ) (d : List ℕ) (r : Record) → (Coded r → Layer main (dataOf d r) (r .width) (r .height) (r .res))
-    → Image main at (coded r) (dataOf d r) (imageIs (coded r) r (dataOf d r) at)
+pub image-made : (main at : ℕ) (d : List ℕ) (r : Record) → (Coded r → Layer main (layerOctets d r) (r .width) (r .height) (r .res))
+    → Image main at (coded r) (layerOctets d r) (imageIs (coded r) r (layerOctets d r) at)
 unfolding imageIs
 image-made main at d r y = go (coded r) refl
   where
-    go : (b : Bool) → coded r ≡ b → Image main at b (dataOf d r) (imageIs b r (dataOf d r) at)
+    go : (b : Bool) → coded r ≡ b → Image main at b (layerOctets d r) (imageIs b r (layerOctets d r) at)
     go true e = there (y (says-coded r .told e))
     go false e = subst (λ (l : List ℕ). Image main at false l Absent) (sym (no-data d r e)) absent
 
 pub image-record : (hd : Head) (k l at : ℕ) (d : List ℕ) (r : Record) → r .stripe ≡ k → r .layer ≡ l → l % 2 ≡ 1 → Zeros r → Contents r → (Uncoded r → r .res ≡ hd .main)
-    → length (dataOf d r) ≡ r .len → imageRecord hd k l (colourBy r) (r .x) (r .y) (imageIs (coded r) r (dataOf d r) at) ≡ placedAt r at
+    → length (layerOctets d r) ≡ r .len → imageRecord hd k l (colourBy r) (r .x) (r .y) (imageIs (coded r) r (layerOctets d r) at) ≡ placedAt r at
 unfolding imageRecord imageIs
 image-record hd k l at d r es el odd z c m n = go (coded r) refl
   where
@@ -146,7 +146,7 @@ image-record hd k l at d r es el odd z c m n = go (coded r) refl
     one (inl e) = e
     one (inr (e, f)) = absurd (omega arith)
 
-    go : (b : Bool) → coded r ≡ b → imageRecord hd k l (colourBy r) (r .x) (r .y) (imageIs b r (dataOf d r) at) ≡ startAt r (only b at)
+    go : (b : Bool) → coded r ≡ b → imageRecord hd k l (colourBy r) (r .x) (r .y) (imageIs b r (layerOctets d r) at) ≡ startAt r (only b at)
     go true e =
         record-by _ _ (sym es) (sym el) (sym (one (contents-coded r c e .coder))) refl refl refl refl refl refl refl refl (sym (z .0)) refl n (sym (z .1))
     go false e =

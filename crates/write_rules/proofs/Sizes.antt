@@ -9,7 +9,8 @@ use mathlib.Core.List.{List, _∷_}
 use lib.ListN.{length}
 use borrow.Author.Tests.{eq-eqb, ne-eqb}
 use Rattle.sheet_rules.specs.declared.Record.{Record}
-use Rattle.sheet_rules.specs.Record.{nth, only, sumOf}
+use Rattle.sheet_rules.specs.Record.{nth, sumOf}
+use Rattle.laws.specs.Tests.{only}
 use Rattle.sheet_rules.specs.Sentences.{stripeCount}
 use Rattle.page_rules.specs.declared.Head.{Head}
 use Rattle.write_rules.specs.Sentences.{sizeOf}

@@ -1,6 +1,6 @@
 -- What is written are octets: no number is too large for its field.
 -- Assumes nothing.
-use Prim.Native.Nat.{ℕ, zero, suc, _+_, _-_, _≤_, _<_}
+use Prim.Native.Nat.{ℕ, zero, suc, _+_, _≤_, _<_}
 use native.Mathlib.Omega.{arith}
 use mathlib.Core.Path.{_≡_, refl}
 use mathlib.Core.Bool.{Bool, true, _&&_, and-eq-true-iff}
@@ -14,11 +14,11 @@ use Rattle.sheet_rules.specs.declared.Record.{Record}
 use Rattle.sheet_rules.specs.Judge.{coded}
 use Rattle.sheet_rules.specs.Sentences.{Among}
 use Rattle.page_rules.specs.declared.Head.{Head}
-use Rattle.page_rules.specs.Kinds.{Colour}
+use Rattle.sheet_rules.specs.declared.Colour.{Colour}
 use Rattle.page_rules.specs.Grammar.{startOf, GoodHead, colourOf, headOf}
 use Rattle.page_rules.proofs.Rules.{mask-small, image-small}
 use Rattle.page_rules.proofs.Tables.{listed-small}
-use Rattle.write_rules.specs.Layer.{dataOf}
+use Rattle.write_rules.specs.Layer.{layerOctets}
 use Rattle.write_rules.specs.Writing.{fieldsBy, stripeBy, stripesBy}
 use Rattle.write_rules.proofs.Threes.{Three, Threes, ended, another}
 use Rattle.write_rules.proofs.Placed.{type-small}
@@ -83,7 +83,7 @@ module _ (hd : Head) (k left : ℕ) (a b c : Record) (t : Three hd k left a b c)
       (octets-append (colourOf (f .back)) (colourOf (f .fore) ++ _) (colour-octets (f .back) (za .base))
       (octets-append (colourOf (f .fore)) _ (colour-octets (f .fore) (zc .base)) numbers-octets)))
 
-data-octets : (d : List ℕ) → Octets d → (r : Record) → Octets (dataOf d r)
+data-octets : (d : List ℕ) → Octets d → (r : Record) → Octets (layerOctets d r)
 data-octets d o r = octets-take (r .len) (drop (r .start) d) (octets-drop (r .start) d o)
 
 pub stripes-octets : {hd : Head} {k left : ℕ} {rs : List Record} → Threes hd k left rs → left ≤ 65535 → (d : List ℕ) → Octets d → ((r : Record) → Among r rs → Sized r) → Octets (stripesBy d rs)
@@ -93,7 +93,7 @@ stripes-octets {hd} {k} {left} (another {a = a} {b = b} {c = c} {rs = rs} t rest
     let za = z a (List·Memᴰ·head refl) in
     let zb = z b (List·Memᴰ·tail (List·Memᴰ·head refl)) in
     let zc = z c (List·Memᴰ·tail (List·Memᴰ·tail (List·Memᴰ·head refl))) in
-    octets-append (headOf (fieldsBy a b c) ++ (dataOf d b ++ (dataOf d a ++ dataOf d c))) (stripesBy d rs)
-    (octets-append (headOf (fieldsBy a b c)) (dataOf d b ++ (dataOf d a ++ dataOf d c)) (head-octets hd k left a b c t za zb zc low)
-    (octets-append (dataOf d b) (dataOf d a ++ dataOf d c) (data-octets d o b) (octets-append (dataOf d a) (dataOf d c) (data-octets d o a) (data-octets d o c))))
+    octets-append (headOf (fieldsBy a b c) ++ (layerOctets d b ++ (layerOctets d a ++ layerOctets d c))) (stripesBy d rs)
+    (octets-append (headOf (fieldsBy a b c)) (layerOctets d b ++ (layerOctets d a ++ layerOctets d c)) (head-octets hd k left a b c t za zb zc low)
+    (octets-append (layerOctets d b) (layerOctets d a ++ layerOctets d c) (data-octets d o b) (octets-append (layerOctets d a) (layerOctets d c) (data-octets d o a) (data-octets d o c))))
     (stripes-octets rest (omega arith) d o (λ r m. z r (List·Memᴰ·tail (List·Memᴰ·tail (List·Memᴰ·tail m)))))

@@ -9,9 +9,9 @@ use lib.ListN.{length, take, drop, length-map}
 use lib.Dec.{ltb}
 use borrow.Author.Tests.{le-ltb}
 use Rattle.octets.specs.Octets.{Octets, putAt}
-use Rattle.cases.proofs.Cases.{cond-both}
+use Rattle.laws.proofs.Cases.{cond-both}
 use Rattle.answers.specs.declared.Answer.{Answer}
-use Rattle.answers.specs.declared.Answer.the-variants.{Done, Short, BadMark, BadLength, BadVersion, BadMode, BadCoder, BadRes, BadWidth, BadType, BadStripe, BadLayer, Trailing, NoRoom, BadSheet, BadPlane, Mismatch, BadLine, TooLong}
+use Rattle.answers.specs.declared.Answer.the-variants.{Done, Short, BadMode, NoRoom, BadSheet, Mismatch, TooLong}
 use Rattle.answers.specs.Answers.{placeOf}
 use Rattle.field_rules.specs.Field.{Res, ok, no}
 use Rattle.sheet_rules.specs.declared.Record.{Record}
@@ -24,10 +24,10 @@ use Rattle.page_rules.specs.Reading.{pageOf, roomOf, readOf, intoOf, readInto}
 use Rattle.page_rules.proofs.There.{page-there}
 use Rattle.page_rules.proofs.Back.{page-back}
 use Rattle.write_rules.specs.declared.Tally.{Tally}
-use Rattle.write_rules.specs.Writing.{begun, mainOf, verdictOf, pageBy, sizeAnswer, answerBy, writeOf, intoBy, writeInto}
-use Rattle.write_rules.specs.Layer.{dataOf}
+use Rattle.write_rules.specs.Writing.{begun, sheetMain, verdictOf, pageBy, sizeAnswer, answerBy, writeOf, intoBy, writeInto}
+use Rattle.write_rules.specs.Layer.{layerOctets}
 use Rattle.write_rules.specs.Form.{bare, Lands, Formed}
-use Rattle.write_rules.specs.Sentences.{Fine, Low, sizeOf, Sound, Gives}
+use Rattle.write_rules.specs.Sentences.{Fine, Low, sizeOf, Sound, Gives, no-sheet, above-3, passing, differing, too-long, no-room, written}
 use Rattle.write_rules.proofs.Passed.{Passed}
 use Rattle.write_rules.proofs.Exactly.{write-gives, gives-write}
 use Rattle.write_rules.proofs.Written.{records-sized}
@@ -48,29 +48,17 @@ pub record WriteRefusal (n : ℕ) (a : Answer) : Type 0 where
   pub place : placeOf a ≤ n
 
 gives-refusal : (s d : List ℕ) (room : ℕ) (a : Answer) → Gives s d room a → ((n : ℕ) → a ≡ Done n → ⊥) → WriteRefusal (length (records s)) a
-unfolding Gives placeOf records
-gives-refusal s d room (BadSheet i) k h =
+unfolding placeOf records
+gives-refusal s d room (BadSheet i) (no-sheet k) h =
     let f = refused-few s i (sheet-refused s i .1 k) .1 in
     let l = length-records s (length s / recordSize) 0 in
     record { kind = inl refl; place = omega arith }
-gives-refusal s d room (BadMode i) k h = let w = k .2 .within in record { kind = inr (inl refl); place = omega arith }
-gives-refusal s d room (Short i) k h = let w = k .3 .within in record { kind = inr (inr (inl refl)); place = omega arith }
-gives-refusal s d room (Mismatch i) k h = let w = k .3 .within in record { kind = inr (inr (inr (inl refl))); place = omega arith }
-gives-refusal s d room TooLong k h = record { kind = inr (inr (inr (inr (inl refl)))); place = omega arith }
-gives-refusal s d room NoRoom k h = record { kind = inr (inr (inr (inr (inr refl)))); place = omega arith }
-gives-refusal s d room (Done n) k h = absurd (h n refl)
-gives-refusal s d room (BadMark i) k h = absurd k
-gives-refusal s d room (BadLength i) k h = absurd k
-gives-refusal s d room (BadVersion i) k h = absurd k
-gives-refusal s d room (BadCoder i) k h = absurd k
-gives-refusal s d room (BadRes i) k h = absurd k
-gives-refusal s d room (BadWidth i) k h = absurd k
-gives-refusal s d room (BadType i) k h = absurd k
-gives-refusal s d room (BadStripe i) k h = absurd k
-gives-refusal s d room (BadLayer i) k h = absurd k
-gives-refusal s d room (Trailing i) k h = absurd k
-gives-refusal s d room (BadPlane i) k h = absurd k
-gives-refusal s d room BadLine k h = absurd k
+gives-refusal s d room (BadMode i) (above-3 a k) h = let w = k .within in record { kind = inr (inl refl); place = omega arith }
+gives-refusal s d room (Short i) (passing a low k) h = let w = k .within in record { kind = inr (inr (inl refl)); place = omega arith }
+gives-refusal s d room (Mismatch i) (differing a low k) h = let w = k .within in record { kind = inr (inr (inr (inl refl))); place = omega arith }
+gives-refusal s d room TooLong (too-long k long) h = record { kind = inr (inr (inr (inr (inl refl)))); place = omega arith }
+gives-refusal s d room NoRoom (no-room k short less) h = record { kind = inr (inr (inr (inr (inr refl)))); place = omega arith }
+gives-refusal s d room (Done n) (written k e short fits) h = absurd (h n refl)
 
 pub write-refused : (s d : List ℕ) → Octets d → (room : ℕ) → ((n : ℕ) → writeOf s d room ≡ Done n → ⊥) → WriteRefusal (length (records s)) (writeOf s d room)
 write-refused s d o room = gives-refusal s d room (writeOf s d room) (write-gives s d o room)
@@ -127,7 +115,6 @@ write-formed s d p os o n q = into-formed s d p o (records-sized s os) n (done-i
 
 lent-done : (s : List ℕ) → Octets s → (rs : List Record) (y : Page s rs) → length s ≤ 16777215 → (room : ℕ) → length s ≤ room
     → writeOf (sheetOf rs) s room ≡ Done (26 + length (y .stripes))
-unfolding Gives
 lent-done s o rs y short room fits =
     let l = length-page s rs y in
     let e = sheet-back rs in
@@ -136,9 +123,9 @@ lent-done s o rs y short room fits =
       sheet = subst Sheet (sym e) (trip-sheet s rs y short);
       whole = sheet-whole rs;
       low = subst Low (sym e) (trip-low s rs y short);
-      fine = subst (λ (x : List Record). Fine (mainOf x) s x) (sym e) (trip-fine s rs y short);
+      fine = subst (λ (x : List Record). Fine (sheetMain x) s x) (sym e) (trip-fine s rs y short);
     } in
-    write-exactly (sheetOf rs) s o room (Done (26 + length (y .stripes))) .1 (k, trip-size s rs y short ∙ ap sizeOf (sym e), omega arith, omega arith)
+    write-exactly (sheetOf rs) s o room (Done (26 + length (y .stripes))) .1 (written k (trip-size s rs y short ∙ ap sizeOf (sym e)) (omega arith) (omega arith))
 
 -- a page in the writer's form comes back octet for octet
 
@@ -153,7 +140,7 @@ formed-again s o rs f short p fits =
     let k = done-into (sheetOf rs) s p o (length s) q in
     let e : pageBy s (records (sheetOf rs)) (k .u) ≡ s =
     ap (λ (x : List Record). pageBy s x (k .u)) (sheet-back rs)
-    ∙ page-again s rs f (k .u) (subst (λ (x : List Record). Passed s (mainOf x) begun (k .u) x) (sheet-back rs) (k .accepted .passed)) in
+    ∙ page-again s rs f (k .u) (subst (λ (x : List Record). Passed s (sheetMain x) begun (k .u) x) (sheet-back rs) (k .accepted .passed)) in
     (q, k .into ∙ ap (putAt p 0) e)
 
 -- so that a page that was written, written again from the sheet that reading gives of it, is the same page
@@ -178,7 +165,7 @@ pub record Again (s : List ℕ) (rs : List Record) (p : List ℕ) : Type 0 where
   pub records : List Record
   pub read : pageOf (take count (writeInto (sheetOf rs) s p)) ≡ ok records count
   pub same : map bare records ≡ map bare rs
-  pub layers : map (dataOf (take count (writeInto (sheetOf rs) s p))) records ≡ map (dataOf s) rs
+  pub layers : map (layerOctets (take count (writeInto (sheetOf rs) s p))) records ≡ map (layerOctets s) rs
 
 pub read-write-read : (s : List ℕ) → Octets s → (rs : List Record) (n : ℕ) → pageOf s ≡ ok rs n → length s ≤ 16777215 → (p : List ℕ) → length s ≤ length p → Again s rs p
 read-write-read s o rs n e short p fits =
@@ -196,5 +183,5 @@ read-write-read s o rs n e short p fits =
       records = k .records;
       read = page-there (take (26 + length (y .stripes)) (writeInto (sheetOf rs) s p)) (k .records) (k .page) ∙ ap (ok (k .records)) m;
       same = k .same ∙ ap (map bare) (sheet-back rs);
-      layers = k .layers ∙ ap (map (dataOf s)) (sheet-back rs);
+      layers = k .layers ∙ ap (map (layerOctets s)) (sheet-back rs);
     }

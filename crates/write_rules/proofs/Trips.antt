@@ -3,11 +3,11 @@
 use Prim.Native.Nat.{ℕ, _+_, _≤_, _<_}
 use native.Mathlib.Omega.{arith}
 use mathlib.Core.Path.{_≡_, sym, ap, subst, _∙_}
-use mathlib.Core.Logic.{_⊎_, ⊎-elim}
+use mathlib.Core.Logic.{⊎-elim}
 use mathlib.Core.Bool.{true, false}
 use mathlib.Core.List.{List, _∷_, _++_}
 use lib.ListN.{length, length-append, length-replicate, replicate}
-use Rattle.cases.proofs.Cases.{bool-else}
+use Rattle.laws.proofs.Cases.{bool-else}
 use Rattle.sheet_rules.specs.declared.Record.{Record}
 use Rattle.sheet_rules.specs.Record.{records, sheetOf}
 use Rattle.sheet_rules.specs.Judge.{coded}
@@ -18,8 +18,8 @@ use Rattle.page_rules.specs.Grammar.{startOf, Page}
 use Rattle.page_rules.proofs.There.{length-start}
 use Rattle.page_rules.proofs.Accepted.{page-accepted}
 use Rattle.page_rules.proofs.Named.{page-named}
-use Rattle.write_rules.specs.Layer.{dataOf}
-use Rattle.write_rules.specs.Writing.{mainOf}
+use Rattle.write_rules.specs.Layer.{layerOctets}
+use Rattle.write_rules.specs.Writing.{sheetMain}
 use Rattle.write_rules.specs.Sentences.{Fine, Low, sizeOf}
 use Rattle.write_rules.proofs.Threes.{sheet-threes}
 use Rattle.write_rules.proofs.Sizes.{size-threes}
@@ -50,14 +50,14 @@ module _ (s : List ℕ) (rs : List Record) (y : Page s rs) (short : length s ≤
   pub trip-low : Low rs
   trip-low r m = lent r m .low
 
-  pub trip-fine : Fine (mainOf rs) s rs
+  pub trip-fine : Fine (sheetMain rs) s rs
   trip-fine =
       let e = sym (stripes-main (y .striped) .0) in
       record {
         fits = λ r m c. page-named s rs y r m c .inside;
         layers = λ r m c n.
-            subst (λ (j : ℕ). Layer j (dataOf s r) (r .width) (r .height) (r .res)) e
-            (⊎-elim (λ (z : r .layer ≡ 2). absurd (n z)) (λ (z : Layer (y .head .main) (dataOf s r) (r .width) (r .height) (r .res)). z) (page-named s rs y r m c .layer));
+            subst (λ (j : ℕ). Layer j (layerOctets s r) (r .width) (r .height) (r .res)) e
+            (⊎-elim (λ (z : r .layer ≡ 2). absurd (n z)) (λ (z : Layer (y .head .main) (layerOctets s r) (r .width) (r .height) (r .res)). z) (page-named s rs y r m c .layer));
         coders = λ r q m j c w e f. lent r m .mask c e ∙ sym (lent q j .mask w f);
       }
 

@@ -1,14 +1,14 @@
 -- The page that is written: of the grammar, in the writer's form, with the records and the data that were lent.
 -- Assumes nothing.
-use Prim.Native.Nat.{ℕ, zero, suc, _+_, _-_, _*_, _/_, _≤_}
+use Prim.Native.Nat.{ℕ, zero, suc, _+_, _*_, _/_, _≤_}
 use native.Mathlib.Omega.{arith}
 use mathlib.Core.Path.{_≡_, refl, sym, ap, subst, _∙_}
-use mathlib.Core.Logic.{_⊎_, inl, inr, ⊎-elim}
+use mathlib.Core.Logic.{inl, inr, ⊎-elim}
 use mathlib.Core.List.{List, [], _∷_, _++_, map, List·Memᴰ·head, List·Memᴰ·tail, List·Memᴰ·cases-cons, List·Memᴰ·not-nil}
 use lib.ListN.{length, drop, length-append}
 use Rattle.octets.specs.Octets.{Octets}
 use Rattle.octets.proofs.Laws.{drop-next, be16-bound, be32-bound, octets-append}
-use Rattle.cases.proofs.Cases.{clash}
+use Rattle.laws.proofs.Cases.{clash}
 use Rattle.sheet_rules.specs.declared.Record.{Record}
 use Rattle.sheet_rules.specs.Record.{recordSize, recordAt, recordsFrom, records}
 use Rattle.sheet_rules.specs.Sentences.{Among, CoderOf, Listed, Sheet}
@@ -16,8 +16,8 @@ use Rattle.page_rules.specs.declared.Head.{Head}
 use Rattle.page_rules.specs.Grammar.{startOf, MaskCoder, GoodHead, no-more}
 use Rattle.page_rules.proofs.There.{length-start}
 use Rattle.write_rules.specs.declared.Tally.{Tally}
-use Rattle.write_rules.specs.Layer.{dataOf}
-use Rattle.write_rules.specs.Writing.{begun, mainOf, headBy, stripesBy, pageBy}
+use Rattle.write_rules.specs.Layer.{layerOctets}
+use Rattle.write_rules.specs.Writing.{begun, sheetMain, headBy, stripesBy, pageBy}
 use Rattle.write_rules.specs.Form.{bare, UsedMask, UsedImage, Formed}
 use Rattle.write_rules.proofs.Agreed.{length-data}
 use Rattle.write_rules.proofs.Passed.{Passed}
@@ -90,11 +90,11 @@ head-facts (ended p) = absurd (omega arith)
 head-facts (another t more) = (t .listed, t .wide)
 
 module _ (d : List ℕ) (o : Octets d) (rs : List Record) (u : Tally) (sh : Sheet rs) (low : Low rs) (sized : (r : Record) → Among r rs → Sized r)
-    (p : Passed d (mainOf rs) begun u rs) where
+    (p : Passed d (sheetMain rs) begun u rs) where
   pub threes : Threes (headBy rs u) 0 65535 rs
   threes = sheet-threes rs sh low (headBy rs u) refl refl
 
-  pub long : (r : Record) → Among r rs → length (dataOf d r) ≡ r .len
+  pub long : (r : Record) → Among r rs → length (layerOctets d r) ≡ r .len
   long r m = length-data d o r (p .inside r m)
 
   ready : Ready d (headBy rs u) rs
@@ -143,7 +143,7 @@ module _ (d : List ℕ) (o : Octets d) (rs : List Record) (u : Tally) (sh : Shee
       }
 
   -- the layers' octets are those that were lent
-  pub written-layers : map (dataOf (pageBy d rs u)) (movedBy d 22 rs) ≡ map (dataOf d) rs
+  pub written-layers : map (layerOctets (pageBy d rs u)) (movedBy d 22 rs) ≡ map (layerOctets d) rs
   unfolding pageBy
   written-layers =
       let e = drop-next (pageBy d rs u) (startOf (headBy rs u)) (stripesBy d rs ++ (0xFF ∷ 0xD9 ∷ 0xFF ∷ 0xD9 ∷ [])) 0 refl in

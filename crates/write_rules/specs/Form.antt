@@ -18,7 +18,7 @@ use Rattle.sheet_rules.specs.Sentences.{Among, Coded}
 use Rattle.page_rules.specs.declared.Head.{Head}
 use Rattle.page_rules.specs.Kinds.{hasBack, hasFore}
 use Rattle.page_rules.specs.Grammar.{Stripe, Stripes, last, next, Page}
-use Rattle.write_rules.specs.Layer.{dataOf}
+use Rattle.write_rules.specs.Layer.{layerOctets}
 
 abbrev pub startAt : Record → ℕ → Record
 startAt r start =
@@ -49,7 +49,7 @@ pub record Lands (rs : List Record) (d l : List ℕ) : Type 0 where
   pub records : List Record
   pub page : Page l records
   pub same : map bare records ≡ map bare rs
-  pub layers : map (dataOf l) records ≡ map (dataOf d) rs
+  pub layers : map (layerOctets l) records ≡ map (layerOctets d) rs
 
 -- ---- the writer's form, of a page
 

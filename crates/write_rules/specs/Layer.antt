@@ -1,6 +1,6 @@
 -- A record and the octets of a buffer that it names (01, "The sheet"; "Numbers that a call returns", 16).
 --
---   dataOf d r        the octets of the buffer d that the record r names
+--   layerOctets d r        the octets of the buffer d that the record r names
 --   endsAs x r        the walk x ends so
 --   agrees d main r   an image layer's data agrees with its record: the walk of these octets, and of no other, ends at their end with the record's
 --                     width, height and resolution, under a main resolution
@@ -14,8 +14,8 @@ use Rattle.jpeg_rules.specs.declared.Walk.{Walk}
 use Rattle.jpeg_rules.specs.declared.Walk.the-variants.{Ends, Refused}
 use Rattle.jpeg_rules.specs.Walk.{walkOf}
 
-abbrev pub dataOf : List ℕ → Record → List ℕ
-dataOf d r = take (r .len) (drop (r .start) d)
+abbrev pub layerOctets : List ℕ → Record → List ℕ
+layerOctets d r = take (r .len) (drop (r .start) d)
 
 -- the walk begins at the first of them, so that it ends where as many were passed as the record has
 abbrev pub endsAs : Walk → Record → Bool
@@ -23,4 +23,4 @@ endsAs (Ends next width height res) r = eqb next (r .len) && eqb width (r .width
 endsAs (Refused f) r = false
 
 unfoldable pub agrees : List ℕ → ℕ → Record → Bool
-agrees d main r = endsAs (walkOf (dataOf d r) 0 main) r
+agrees d main r = endsAs (walkOf (layerOctets d r) 0 main) r

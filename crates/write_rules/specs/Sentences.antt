@@ -15,17 +15,17 @@ use mathlib.Core.Logic.{_≢_}
 use mathlib.Core.List.{List}
 use lib.ListN.{length, take}
 use Rattle.answers.specs.declared.Answer.{Answer}
-use Rattle.answers.specs.declared.Answer.the-variants.{Done, Short, BadMark, BadLength, BadVersion, BadMode, BadCoder, BadRes, BadWidth, BadType, BadStripe, BadLayer, Trailing, NoRoom, BadSheet, BadPlane, Mismatch, BadLine, TooLong}
+use Rattle.answers.specs.declared.Answer.the-variants.{Done, Short, BadMode, NoRoom, BadSheet, Mismatch, TooLong}
 use Rattle.sheet_rules.specs.declared.Record.{Record}
 use Rattle.sheet_rules.specs.Record.{records, rest, nth, sumOf}
-use Rattle.sheet_rules.specs.Sentences.{Among, Coded, Sheet, stripeCount, BadSheetAt}
+use Rattle.sheet_rules.specs.Sentences.{Among, Coded, Sheet, stripeCount, Accepted, BadSheetAt}
 use Rattle.jpeg_rules.specs.Grammar.{Layer}
-use Rattle.write_rules.specs.Layer.{dataOf}
-use Rattle.write_rules.specs.Writing.{mainOf}
+use Rattle.write_rules.specs.Layer.{layerOctets}
+use Rattle.write_rules.specs.Writing.{sheetMain}
 
 pub record Fine (main : ℕ) (d : List ℕ) (rs : List Record) : Type 0 where
   pub fits : (r : Record) → Among r rs → Coded r → r .start + r .len ≤ length d
-  pub layers : (r : Record) → Among r rs → Coded r → r .layer ≢ 2 → Layer main (dataOf d r) (r .width) (r .height) (r .res)
+  pub layers : (r : Record) → Among r rs → Coded r → r .layer ≢ 2 → Layer main (layerOctets d r) (r .width) (r .height) (r .res)
   pub coders : (r q : Record) → Among r rs → Among q rs → Coded r → Coded q → r .layer ≡ 2 → q .layer ≡ 2 → r .coder ≡ q .coder
 
 -- every N is 3 (in a sheet no N is less)
@@ -60,27 +60,14 @@ pub record Sound (s d : List ℕ) : Type 0 where
   pub sheet : Sheet (records s)
   pub whole : rest s ≡ 0
   pub low : Low (records s)
-  pub fine : Fine (mainOf (records s)) d (records s)
+  pub fine : Fine (sheetMain (records s)) d (records s)
 
-unfoldable pub Gives : List ℕ → List ℕ → ℕ → Answer → Type 0
-unfolding sizeOf
-Gives s d room (BadSheet i) = BadSheetAt s i
-Gives s d room (BadMode i) = Sheet (records s) × (rest s ≡ 0) × ModeAt (records s) i
-Gives s d room (Short i) = Sheet (records s) × (rest s ≡ 0) × Low (records s) × ShortAt (mainOf (records s)) d (records s) i
-Gives s d room (Mismatch i) = Sheet (records s) × (rest s ≡ 0) × Low (records s) × MismatchAt (mainOf (records s)) d (records s) i
-Gives s d room TooLong = Sound s d × (16777215 < sizeOf (records s))
-Gives s d room NoRoom = Sound s d × (sizeOf (records s) ≤ 16777215) × (room < sizeOf (records s))
-Gives s d room (Done n) = Sound s d × (n ≡ sizeOf (records s)) × (n ≤ 16777215) × (n ≤ room)
--- writing gives no other
-Gives s d room (BadMark i) = ⊥
-Gives s d room (BadLength i) = ⊥
-Gives s d room (BadVersion i) = ⊥
-Gives s d room (BadCoder i) = ⊥
-Gives s d room (BadRes i) = ⊥
-Gives s d room (BadWidth i) = ⊥
-Gives s d room (BadType i) = ⊥
-Gives s d room (BadStripe i) = ⊥
-Gives s d room (BadLayer i) = ⊥
-Gives s d room (Trailing i) = ⊥
-Gives s d room (BadPlane i) = ⊥
-Gives s d room BadLine = ⊥
+-- one line for each answer that writing gives; it gives no other
+pub data Gives (s d : List ℕ) (room : ℕ) : Answer → Type 0 where
+  no-sheet : {i : ℕ} → BadSheetAt s i → Gives s d room (BadSheet i)
+  above-3 : {i : ℕ} → Accepted s → ModeAt (records s) i → Gives s d room (BadMode i)
+  passing : {i : ℕ} → Accepted s → Low (records s) → ShortAt (sheetMain (records s)) d (records s) i → Gives s d room (Short i)
+  differing : {i : ℕ} → Accepted s → Low (records s) → MismatchAt (sheetMain (records s)) d (records s) i → Gives s d room (Mismatch i)
+  too-long : Sound s d → 16777215 < sizeOf (records s) → Gives s d room TooLong
+  no-room : Sound s d → sizeOf (records s) ≤ 16777215 → room < sizeOf (records s) → Gives s d room NoRoom
+  written : {n : ℕ} → Sound s d → n ≡ sizeOf (records s) → n ≤ 16777215 → n ≤ room → Gives s d room (Done n)

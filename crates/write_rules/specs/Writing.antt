@@ -1,11 +1,11 @@
 -- Writing a Mode 1 page from a sheet and the buffer that its starts point into (01, the writer and its order, under "Numbers that a call returns").
 --
 --   modeFrom i rs          BadMode at the first record above layer 3, the records being numbered from i
---   Tally, begun, counted  what the records passed make of the page: before the first, and with one more
+--   begun, counted         the tally before the first record, and with one more
 --   matches d main t r     a record's data agrees with it, and its coder with that of the masks before
 --   recordStep             one record: Short before Mismatch
 --   recordsPass            each record in order
---   mainOf rs              the main resolution
+--   sheetMain rs           the main resolution
 --   verdictOf s d          the sheet, the mode, the records: what the page will be, or the refusal; verdictBy: by the judge's verdict
 --   typeBy, colourBy       a stripe's type by which of its layers are coded, and a record's base colour
 --   fieldsBy a b c         the fields of a stripe whose layers 1 to 3 have the records a, b and c
@@ -28,14 +28,16 @@ use Rattle.answers.specs.declared.Answer.the-variants.{Done, Short, BadMode, No
 use Rattle.field_rules.specs.Field.{Res, ok, no, bind}
 use Rattle.sheet_rules.specs.declared.Record.{Record}
 use Rattle.sheet_rules.specs.declared.Verdict.{Verdict}
-use Rattle.sheet_rules.specs.declared.Verdict.the-variants.{Good, Bad}
-use Rattle.sheet_rules.specs.Record.{records, nth, only}
+use Rattle.sheet_rules.specs.declared.Verdict.the-variants.{Good, Refused}
+use Rattle.sheet_rules.specs.Record.{records, nth}
+use Rattle.laws.specs.Tests.{only}
 use Rattle.sheet_rules.specs.Judge.{coded, judgeOf, answerOf}
 use Rattle.page_rules.specs.declared.Head.{Head}
-use Rattle.page_rules.specs.Kinds.{Colour, Fields}
+use Rattle.page_rules.specs.Kinds.{Fields}
+use Rattle.sheet_rules.specs.declared.Colour.{Colour}
 use Rattle.page_rules.specs.Grammar.{startOf, headOf}
 use Rattle.write_rules.specs.declared.Tally.{Tally}
-use Rattle.write_rules.specs.Layer.{dataOf, agrees}
+use Rattle.write_rules.specs.Layer.{layerOctets, agrees}
 
 -- ---- the mode: no layer above 3
 
@@ -83,13 +85,13 @@ recordsPass d main t i (r ∷ rs) = bind (recordStep d main t i r) (λ (u : Tall
 -- ---- the verdict: BadSheet, BadMode, each record
 
 -- the main resolution is that of layer 2, the second record
-abbrev pub mainOf : List Record → ℕ
-mainOf rs = nth rs 1 .res
+abbrev pub sheetMain : List Record → ℕ
+sheetMain rs = nth rs 1 .res
 
 unfoldable pub verdictBy : Verdict → List ℕ → List Record → Res Tally
 unfolding bind modeFrom recordsPass
-verdictBy (Good n m) d rs = bind (modeFrom 0 rs) (λ (k e : ℕ). recordsPass d (mainOf rs) begun 0 rs)
-verdictBy (Bad i) d rs = no (answerOf (Bad i))
+verdictBy (Good n m) d rs = bind (modeFrom 0 rs) (λ (k e : ℕ). recordsPass d (sheetMain rs) begun 0 rs)
+verdictBy (Refused i) d rs = no (answerOf (Refused i))
 
 unfoldable pub verdictOf : List ℕ → List ℕ → Res Tally
 unfolding verdictBy
@@ -121,7 +123,7 @@ fieldsBy a b c =
 
 -- then the coded layers present: mask, background, foreground; of an absent one there are no octets
 unfoldable pub stripeBy : List ℕ → Record → Record → Record → List ℕ
-stripeBy d a b c = headOf (fieldsBy a b c) ++ (dataOf d b ++ (dataOf d a ++ dataOf d c))
+stripeBy d a b c = headOf (fieldsBy a b c) ++ (layerOctets d b ++ (layerOctets d a ++ layerOctets d c))
 
 -- three records a stripe
 unfoldable pub stripesBy : List ℕ → List Record → List ℕ
@@ -134,7 +136,7 @@ stripesBy d (a ∷ b ∷ c ∷ rs) = stripeBy d a b c ++ stripesBy d rs
 -- ---- the page (9.6.2): the start of page (9.2.1), the stripes, the end; no optional segment and no padding
 
 abbrev pub headBy : List Record → Tally → Head
-headBy rs t = record { mask = t .mask; image = t .image; main = mainOf rs; width = nth rs 1 .width }
+headBy rs t = record { mask = t .mask; image = t .image; main = sheetMain rs; width = nth rs 1 .width }
 
 unfoldable pub pageBy : List ℕ → List Record → Tally → List ℕ
 unfolding stripesBy

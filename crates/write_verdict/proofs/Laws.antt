@@ -1,28 +1,25 @@
 -- What the proofs of this crate cite: for each way out of a function one law, over what is known there.
 -- Assumes nothing.
-use Prim.Native.Nat.{ℕ, zero, suc, _+_, _-_, _*_, _/_, _≤_, _<_}
+use Prim.Native.Nat.{ℕ, _+_, _≤_}
 use native.Mathlib.Omega.{arith}
-use mathlib.Core.Path.{_≡_, refl, sym, ap, _∙_}
+use mathlib.Core.Path.{_≡_, refl, sym, _∙_}
 use mathlib.Core.Bool.{Bool, true, false, _&&_, _||_, not, cond}
-use mathlib.Core.List.{List, [], _∷_}
+use mathlib.Core.List.{List}
 use lib.ListN.{length}
-use lib.Dec.{eqb, leb, ltb, lit≤}
+use lib.Dec.{eqb, leb, lit≤}
 use mir.Syntax.{w32, w64}
 use mir.Val.{Fits}
 use borrow.Author.Needs.{needs}
 use borrow.Author.Tests.{eq-eqb, ne-eqb, leb-true, leb-false, le-ltb, lt-ltb}
-use Rattle.answers.specs.declared.Answer.{Answer}
-use Rattle.answers.specs.declared.Answer.the-variants.{Short, Mismatch, BadMode}
-use Rattle.field_rules.specs.Field.{Res, ok, no, bind}
+use Rattle.answers.specs.declared.Answer.the-variants.{Short, Mismatch}
 use Rattle.sheet_rules.specs.declared.Record.{Record}
-use Rattle.sheet_rules.specs.Record.{recordSize, recordAt, recordsFrom, records, only}
+use Rattle.laws.specs.Tests.{only}
 use Rattle.sheet_rules.specs.Judge.{coded}
 use Rattle.write_rules.specs.declared.Tally.{Tally}
 use Rattle.write_rules.specs.Layer.{agrees}
-use Rattle.write_rules.specs.Writing.{isMask, counted, matches, recordStep, modeFrom, begun, recordsPass}
-use Rattle.write_verdict.specs.declared.Pass.{Pass}
-use Rattle.write_verdict.specs.declared.Pass.the-variants.{Next, Wrong}
-use Rattle.write_verdict.specs.Pass.{passOf, Few, modeOf}
+use Rattle.write_rules.specs.Writing.{isMask, counted, matches, recordStep}
+use Rattle.write_verdict.specs.declared.Pass.the-variants.{Next, Refused}
+use Rattle.write_verdict.specs.Pass.{passOf}
 
 -- ---- choose and head_octets
 pub head-some : (l : ℕ) → l ≡ 1 → 39 ≡ only (eqb l 1) 39
@@ -70,7 +67,7 @@ module _ (d : List ℕ) (main : ℕ) (t : Tally) (r : Record) {c : Bool} (e : c 
     match-image l h = h ∙ simp (sym e ∙ y, ne-eqb (r .layer) 2 l)
 
 module _ (d : List ℕ) (main : ℕ) (t : Tally) (i : ℕ) (r : Record) {f : Bool} (e : f ≡ leb (r .start + r .len) (length d)) where
-  pub pass-short : f ≡ false → Wrong (Short i) ≡ passOf (recordStep d main t i r)
+  pub pass-short : f ≡ false → Refused (Short i) ≡ passOf (recordStep d main t i r)
   unfolding recordStep passOf
   pass-short y = simp (lt-ltb (length d) (r .start + r .len) (leb-false _ _ (sym e ∙ y)))
 
@@ -78,7 +75,7 @@ module _ (d : List ℕ) (main : ℕ) (t : Tally) (i : ℕ) (r : Record) {f : Boo
     there : r .start + r .len ≤ length d
     there = leb-true _ _ (sym e ∙ y)
 
-    pub pass-mismatch : m ≡ false → Wrong (Mismatch i) ≡ passOf (recordStep d main t i r)
+    pub pass-mismatch : m ≡ false → Refused (Mismatch i) ≡ passOf (recordStep d main t i r)
     unfolding recordStep passOf
     pass-mismatch w = simp (le-ltb (length d) (r .start + r .len) there, sym z ∙ w)
 

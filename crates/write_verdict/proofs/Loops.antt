@@ -1,9 +1,8 @@
 -- The loops over the records: what is to come, from here on, is the whole.
 -- Assumes nothing.
-use Prim.Native.Nat.{ℕ, zero, suc, _+_, _-_, _*_, _/_, _≤_, _<_}
+use Prim.Native.Nat.{ℕ, suc, _+_, _-_, _*_, _/_, _≤_, _<_}
 use native.Mathlib.Omega.{arith}
 use mathlib.Core.Path.{_≡_, refl, sym, ap, subst, _∙_}
-use mathlib.Core.Bool.{Bool, true, false, cond}
 use mathlib.Core.List.{List, [], _∷_}
 use lib.ListN.{length}
 use lib.Dec.{eqb, ltb, lit≤}
@@ -11,24 +10,25 @@ use borrow.Author.Needs.{needs}
 use borrow.Author.Tests.{lt-ltb, le-ltb}
 use mir.Syntax.{w32}
 use mir.Val.{Fits}
-use Rattle.cases.proofs.Cases.{cond-with, clash}
+use Rattle.laws.proofs.Cases.{cond-with, clash}
 use Rattle.octets.specs.Octets.{Octets, be32At}
 use Rattle.octets.proofs.Laws.{be32-bound}
 use Rattle.answers.specs.declared.Answer.{Answer}
-use Rattle.answers.specs.declared.Answer.the-variants.{Short, Mismatch, BadMode, BadSheet}
+use Rattle.answers.specs.declared.Answer.the-variants.{BadMode, BadSheet}
 use Rattle.answers.specs.Answers.{placeOf}
 use Rattle.field_rules.specs.Field.{Res, ok, no, bind}
 use Rattle.sheet_rules.specs.declared.Record.{Record}
 use Rattle.sheet_rules.specs.declared.Verdict.{Verdict}
-use Rattle.sheet_rules.specs.declared.Verdict.the-variants.{Good, Bad}
-use Rattle.sheet_rules.specs.Record.{recordSize, recordAt, recordsFrom, records, only}
+use Rattle.sheet_rules.specs.declared.Verdict.the-variants.{Good}
+use Rattle.sheet_rules.specs.Record.{recordSize, recordAt, recordsFrom, records}
+use Rattle.laws.specs.Tests.{only}
 use Rattle.sheet_rules.specs.Judge.{judgeOf, answerOf}
 use Rattle.sheet_rules.proofs.Cut.{second-blank, second-read}
 use Rattle.sheet_rules.proofs.Theorems.{sheet-few, refused-few}
 use Rattle.write_rules.specs.declared.Tally.{Tally}
-use Rattle.write_rules.specs.Writing.{counted, matches, recordStep, modeFrom, begun, mainOf, recordsPass, verdictBy, verdictOf}
+use Rattle.write_rules.specs.Writing.{counted, matches, recordStep, modeFrom, begun, sheetMain, recordsPass, verdictBy, verdictOf}
 use Rattle.write_verdict.specs.declared.Pass.{Pass}
-use Rattle.write_verdict.specs.declared.Pass.the-variants.{Next, Wrong}
+use Rattle.write_verdict.specs.declared.Pass.the-variants.{Next}
 use Rattle.write_verdict.specs.declared.Mode.{Mode}
 use Rattle.write_verdict.specs.declared.Mode.the-variants.{Low, Above}
 use Rattle.write_verdict.specs.Pass.{passOf, modeOf, Few, Taken, acceptedOf}
@@ -69,12 +69,12 @@ module _ (s d : List ℕ) (main n : ℕ) (f : Few s n) where
       unfolding recordsPass
       on = p .same ∙ ap (recordsPass d main t i) (records-more s n i l) ∙ rw e refl
 
-      by-wrong : (y : Res Tally) (a : Answer) → recordStep d main t i r ≡ y → passOf y ≡ Wrong a → recordsPass d main begun 0 (records s) ≡ no a
+      by-wrong : (y : Res Tally) (a : Answer) → recordStep d main t i r ≡ y → passOf y ≡ Pass.Refused a → recordsPass d main begun 0 (records s) ≡ no a
       unfolding passOf bind
       by-wrong (ok u k) a q z = clash cc
       by-wrong (no b) a q z = let w : b ≡ a = cc in on ∙ simp q (ap no w)
 
-      pub pass-wrong : {a : Answer} → x ≡ Wrong a → Wrong a ≡ passOf (recordsPass d main begun 0 (records s))
+      pub pass-wrong : {a : Answer} → x ≡ Pass.Refused a → Pass.Refused a ≡ passOf (recordsPass d main begun 0 (records s))
       unfolding passOf
       pass-wrong z = sym (ap passOf (by-wrong (recordStep d main t i r) _ refl (sym g ∙ z)))
 
@@ -136,10 +136,10 @@ module _ (s : List ℕ) (n : ℕ) (f : Few s n) where
 pub ruleset mode-laws = (needs, mode-begun, mode-fits, mode-low, mode-on, mode-above)
 
 -- ---- main_of
-pub main-none : (s : List ℕ) → length s < 56 → 0 ≡ mainOf (records s)
+pub main-none : (s : List ℕ) → length s < 56 → 0 ≡ sheetMain (records s)
 main-none s l = ap (λ (x : Record). x .res) (second-blank s l)
 
-pub main-read : (s : List ℕ) {r : Record} → 56 ≤ length s → r ≡ recordAt s 1 → r .res ≡ mainOf (records s)
+pub main-read : (s : List ℕ) {r : Record} → 56 ≤ length s → r ≡ recordAt s 1 → r .res ≡ sheetMain (records s)
 main-read s l e = ap (λ (x : Record). x .res) (second-read s l e)
 
 -- ---- judge_records and judge_write
@@ -153,7 +153,7 @@ module _ (s d : List ℕ) {m : Mode} (e : m ≡ modeOf (modeFrom 0 (records s)))
   mode-no (ok k n) z P f = f k n refl
   mode-no (no a) z P f = clash cc
 
-  pub taken-low : {p : Pass} {main : ℕ} → m ≡ Low → main ≡ mainOf (records s) → p ≡ passOf (recordsPass d main begun 0 (records s)) → p ≡ passOf (acceptedOf s d)
+  pub taken-low : {p : Pass} {main : ℕ} → m ≡ Low → main ≡ sheetMain (records s) → p ≡ passOf (recordsPass d main begun 0 (records s)) → p ≡ passOf (acceptedOf s d)
   unfolding acceptedOf bind
   taken-low {p} z y h =
       mode-no (modeFrom 0 (records s)) (sym e ∙ z) (p ≡ passOf (acceptedOf s d)) (λ k k2 q. h ∙ rw y (simp q))
@@ -164,15 +164,15 @@ above-is i [] k = λ e. clash cc
 above-is i (r ∷ rs) k =
     cond-with (λ x. modeOf x ≡ Above k → x ≡ no (BadMode k)) (ltb 3 (r .layer)) (λ t e. let p : i ≡ k = cc in ap (λ (j : ℕ). no (BadMode j)) p) (λ t e. above-is (i + 1) rs k e)
 
-pub taken-above : (s d : List ℕ) {m : Mode} (k : ℕ) → m ≡ modeOf (modeFrom 0 (records s)) → m ≡ Above k → Wrong (BadMode k) ≡ passOf (acceptedOf s d)
+pub taken-above : (s d : List ℕ) {m : Mode} (k : ℕ) → m ≡ modeOf (modeFrom 0 (records s)) → m ≡ Above k → Pass.Refused (BadMode k) ≡ passOf (acceptedOf s d)
 unfolding acceptedOf bind passOf
 taken-above s d k e z = simp (above-is 0 (records s) k (sym e ∙ z))
 
 module _ (s d : List ℕ) (v : Verdict) (j : v ≡ judgeOf s) where
-  pub fault-fits : (i : ℕ) → v ≡ Bad i → Fits w32 i
+  pub fault-fits : (i : ℕ) → v ≡ Verdict.Refused i → Fits w32 i
   fault-fits i e = let f = refused-few s i (sym j ∙ e) in record { fits = omega arith }
 
-  pub write-bad : (i : ℕ) → v ≡ Bad i → Wrong (BadSheet i) ≡ passOf (verdictOf s d)
+  pub write-bad : (i : ℕ) → v ≡ Verdict.Refused i → Pass.Refused (BadSheet i) ≡ passOf (verdictOf s d)
   unfolding verdictOf verdictBy passOf answerOf
   write-bad i e = simp (sym j ∙ e)
 

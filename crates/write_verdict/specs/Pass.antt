@@ -9,22 +9,21 @@ use Prim.Native.Nat.{ℕ, _/_, _≤_}
 use mathlib.Core.Path.{_≡_}
 use mathlib.Core.List.{List}
 use lib.ListN.{length}
-use Rattle.answers.specs.declared.Answer.{Answer}
 use Rattle.answers.specs.Answers.{placeOf}
 use Rattle.field_rules.specs.Field.{Res, ok, no, bind}
 use Rattle.sheet_rules.specs.declared.Verdict.the-variants.{Good}
 use Rattle.sheet_rules.specs.Record.{recordSize, records}
 use Rattle.sheet_rules.specs.Judge.{judgeOf}
 use Rattle.write_rules.specs.declared.Tally.{Tally}
-use Rattle.write_rules.specs.Writing.{modeFrom, begun, mainOf, recordsPass}
+use Rattle.write_rules.specs.Writing.{modeFrom, begun, sheetMain, recordsPass}
 use Rattle.write_verdict.specs.declared.Pass.{Pass}
-use Rattle.write_verdict.specs.declared.Pass.the-variants.{Next, Wrong}
+use Rattle.write_verdict.specs.declared.Pass.the-variants.{Next, Refused}
 use Rattle.write_verdict.specs.declared.Mode.{Mode}
 use Rattle.write_verdict.specs.declared.Mode.the-variants.{Low, Above}
 
 unfoldable pub passOf : Res Tally → Pass
 passOf (ok t n) = Next t
-passOf (no a) = Wrong a
+passOf (no a) = Refused a
 
 unfoldable pub modeOf : Res ℕ → Mode
 modeOf (ok k n) = Low
@@ -40,4 +39,4 @@ pub record Taken (s : List ℕ) (n : ℕ) : Type 0 where
 
 unfoldable pub acceptedOf : List ℕ → List ℕ → Res Tally
 unfolding bind
-acceptedOf s d = bind (modeFrom 0 (records s)) (λ (k e : ℕ). recordsPass d (mainOf (records s)) begun 0 (records s))
+acceptedOf s d = bind (modeFrom 0 (records s)) (λ (k e : ℕ). recordsPass d (sheetMain (records s)) begun 0 (records s))

@@ -4,8 +4,9 @@ ghost use mathlib.Core.Bool.{cond};
 ghost use Prim.Native.Nat.{_+_, _≤_};
 ghost use lib.Dec.{eqb, leb};
 ghost use lib.ListN.{length};
-ghost use Rattle.sheet_rules.specs.Record.{records, only};
-ghost use Rattle.write_rules.specs.Writing.{counted, matches, recordStep, modeFrom, begun, mainOf, recordsPass, verdictOf};
+ghost use Rattle.sheet_rules.specs.Record.{records};
+ghost use Rattle.laws.specs.Tests.{only};
+ghost use Rattle.write_rules.specs.Writing.{counted, matches, recordStep, modeFrom, begun, sheetMain, recordsPass, verdictOf};
 ghost use Rattle.write_verdict.specs.Pass.{passOf, modeOf, Few, Taken, acceptedOf};
 use answers::Answer;
 use sheet_rules::Record;
@@ -15,7 +16,7 @@ use write_rules::Tally;
 // What the records come to: the page that they make, or why it cannot be written.
 pub enum Pass {
     Next(Tally),
-    Wrong(Answer),
+    Refused(Answer),
 }
 
 // The first record above layer 3, if there is one.
@@ -49,7 +50,7 @@ fn with_record(t: Tally, r: Record) -> Tally
     requires { ⌜ t .size ≤ 4611686018427387904 ⌝ }
     ensures { λ u. ⌜ u ≡ counted t r ⌝ }
 {
-    let coded = record_tests::is_coded(r);
+    let coded = sheet_tests::is_coded(r);
     let is_mask = r.layer == 2;
     let mask = choose(coded & is_mask, r.coder, t.mask);
     let image = choose(coded & !is_mask, r.coder, t.image);
@@ -61,11 +62,11 @@ fn data_matches(d: &[u8], main: u16, t: Tally, r: Record) -> bool
     requires { ⌜ r .start + r .len ≤ length (now d) ⌝ }
     ensures { λ b. ⌜ b ≡ matches (now (d .entry)) main t r ⌝ }
 {
-    if record_tests::is_coded(r) {
+    if sheet_tests::is_coded(r) {
         if r.layer == 2 {
             return (t.mask == 0) | (t.mask == r.coder);
         }
-        agreement::data_agrees(d, main, r)
+        write_agreement::data_agrees(d, main, r)
     } else {
         true
     }
@@ -75,7 +76,7 @@ fn data_matches(d: &[u8], main: u16, t: Tally, r: Record) -> bool
 fn data_there(d: &[u8], r: Record) -> bool
     ensures { λ b. ⌜ b ≡ leb (r .start + r .len) (length (now (d .entry))) ⌝ }
 {
-    record_tests::end_of(r.start, r.len) <= d.len() as u64
+    octets::end_of(r.start, r.len) <= d.len() as u64
 }
 
 fn pass_record(d: &[u8], main: u16, t: Tally, i: u32, r: Record) -> Pass
@@ -86,10 +87,10 @@ fn pass_record(d: &[u8], main: u16, t: Tally, i: u32, r: Record) -> Pass
         if data_matches(d, main, t, r) {
             Pass::Next(with_record(t, r))
         } else {
-            Pass::Wrong(Answer::Mismatch(i))
+            Pass::Refused(Answer::Mismatch(i))
         }
     } else {
-        Pass::Wrong(Answer::Short(i))
+        Pass::Refused(Answer::Short(i))
     }
 }
 
@@ -105,13 +106,13 @@ fn pass_records(s: &[u8], d: &[u8], main: u16, n: usize) -> Pass
     };
     let mut i: usize = 0;
     while i < n {
-        match pass_record(d, main, t, i as u32, record::record_at(s, i)) {
+        match pass_record(d, main, t, i as u32, sheet_record::record_at(s, i)) {
             Pass::Next(u) => {
                 t = u;
                 i += 1;
             }
-            Pass::Wrong(a) => {
-                return Pass::Wrong(a);
+            Pass::Refused(a) => {
+                return Pass::Refused(a);
             }
         }
     }
@@ -124,7 +125,7 @@ fn first_above(s: &[u8], n: usize) -> Mode
 {
     let mut i: usize = 0;
     while i < n {
-        let r = record::record_at(s, i);
+        let r = sheet_record::record_at(s, i);
         if 3 < r.layer {
             return Mode::Above(i as u32);
         }
@@ -135,12 +136,12 @@ fn first_above(s: &[u8], n: usize) -> Mode
 
 // The main resolution is that of layer 2, the second record; every sheet that the judge takes has one.
 fn main_of(s: &[u8]) -> u16
-    ensures { λ r. ⌜ r ≡ mainOf (records (now (s .entry))) ⌝ }
+    ensures { λ r. ⌜ r ≡ sheetMain (records (now (s .entry))) ⌝ }
 {
     if s.len() < 56 {
         return 0;
     }
-    let r = record::record_at(s, 1);
+    let r = sheet_record::record_at(s, 1);
     r.res
 }
 
@@ -150,7 +151,7 @@ fn judge_records(s: &[u8], d: &[u8], n: usize) -> Pass
     ensures { λ p. ⌜ p ≡ passOf (acceptedOf (now (s .entry)) (now (d .entry))) ⌝ }
 {
     match first_above(s, n) {
-        Mode::Above(i) => Pass::Wrong(Answer::BadMode(i)),
+        Mode::Above(i) => Pass::Refused(Answer::BadMode(i)),
         Mode::Low => pass_records(s, d, main_of(s), n),
     }
 }
@@ -158,8 +159,8 @@ fn judge_records(s: &[u8], d: &[u8], n: usize) -> Pass
 pub fn judge_write(s: &[u8], d: &[u8]) -> Pass
     ensures { λ p. ⌜ p ≡ passOf (verdictOf (now (s .entry)) (now (d .entry))) ⌝ }
 {
-    match sheet::judge(s) {
-        Verdict::Bad { record } => Pass::Wrong(Answer::BadSheet(record as u32)),
+    match sheet_judge::judge(s) {
+        Verdict::Refused { record } => Pass::Refused(Answer::BadSheet(record as u32)),
         Verdict::Good {
             records,
             stripes: _,

@@ -4,10 +4,10 @@ use Rattle.line_verdict.proofs.judge_planes.Statement.{statement}
 use Rattle.line_verdict.proofs.judge_planes.Tie as tie
 
 abbrev Inv-loop : tie.InvT-loop
-Inv-loop sheet row samples t part n last₀ i₀ last i = Judging sheet row samples t part n last i
+Inv-loop sheet extent samples t part n last₀ i₀ last i = Judging sheet extent samples t part n last i
 
 abbrev μ-loop : tie.MeasureT-loop
-μ-loop sheet row samples t part n last₀ i₀ last i = n - i
+μ-loop sheet extent samples t part n last₀ i₀ last i = n - i
 
 entry-count-requires : tie.Need-entry-count-requires Inv-loop μ-loop
 entry-count-requires c κs = search judging

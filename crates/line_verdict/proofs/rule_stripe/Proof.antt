@@ -8,8 +8,8 @@ find-stripe-requires c κs = search ruling
 enum-told : tie.Need-enum-told
 enum-told c = search ruling
 
-enum-known-row : tie.Need-enum-known-row
-enum-known-row c = search ruling
+enum-known-extent : tie.Need-enum-known-extent
+enum-known-extent c = search ruling
 
 rule-line-requires : tie.Need-rule-line-requires
 rule-line-requires c κs = search ruling
@@ -23,4 +23,4 @@ returns-2 c = search ruling
 pub rule-stripe-spec : {M : Type 1} → statement M
 rule-stripe-spec =
     tie.close
-    (tie.spec find-stripe-requires enum-told enum-known-row rule-line-requires returns returns-2)
+    (tie.spec find-stripe-requires enum-told enum-known-extent rule-line-requires returns returns-2)

@@ -2,10 +2,6 @@ use Prim.Native.Nat.{_-_, _≤_}
 use borrow.Author.Needs.{needs}
 use Rattle.listing.proofs.list_records.Statement.{statement}
 use Rattle.listing.proofs.list_records.Tie as tie
-use Rattle.listing.proofs.list_records.Reads as reads
-use Rattle.listing.proofs.list_records.Lts as lts
-use Rattle.listing.proofs.put_line.Reads as put-line-reads
-use Rattle.record.proofs.record_at.Reads as record-at-reads
 
 abbrev Inv-loop : tie.InvT-loop
 Inv-loop sheet n i₀ i = i ≤ n

@@ -1,0 +1,88 @@
+-- One law for each way out of the functions of a layer's row: its premises are what is known there.
+-- Assumes nothing.
+use Prim.Native.Nat.{ℕ, _+_, _*_, _≤_, _<_}
+use mathlib.Core.Path.{_≡_, refl}
+use mathlib.Core.Logic.{_≢_}
+use mathlib.Core.Bool.{Bool, true, false, _&&_}
+use mathlib.Core.List.{List}
+use lib.ListN.{length, getD}
+use lib.Dec.{leb}
+use borrow.Author.Tests.{eq-eqb, ne-eqb, lt-ltb, le-ltb, le-leb, lt-leb}
+use borrow.Author.Needs.{needs}
+use Rattle.picture_rules.specs.declared.MainPos.{MainPos}
+use Rattle.picture_rules.specs.declared.SamplePos.{SamplePos}
+use Rattle.sheet_rules.specs.declared.Colour.{Colour}
+use Rattle.picture_rules.specs.declared.Sample.{Sample}
+use Rattle.picture_rules.specs.declared.Sample.the-variants.{Known, Unknown}
+use Rattle.picture_rules.specs.declared.Mask.{Mask}
+use Rattle.picture_rules.specs.declared.Mask.the-variants.{Hidden}
+use Rattle.picture_rules.specs.Place.{scale}
+use Rattle.picture_rules.specs.Samples.{bitOf}
+use Rattle.sheet_rules.specs.Record.{colourAt}
+use Rattle.line_fetch.specs.declared.Row.{Row}
+use Rattle.line_fetch.specs.Rows.{rowAt, rowMask, rowImage, MaskFits, ImageFits}
+
+pub row-read : (ns : List ℕ) (i : ℕ)
+    → record {
+      from = getD ns (i * 6) 0;
+      to = getD ns (i * 6 + 1) 0;
+      k = getD ns (i * 6 + 2) 0;
+      read = getD ns (i * 6 + 3) 0;
+      at = getD ns (i * 6 + 4) 0;
+      other = getD ns (i * 6 + 5) 0;
+    } ≡ rowAt ns i
+unfolding rowAt
+row-read ns i = refl
+
+-- ---- a mask's sample, an image layer's
+
+and-no : (b : Bool) → b && false ≡ false
+and-no true = refl
+and-no false = refl
+
+module _ (d : List ℕ) (r : Row) (x : MainPos) where
+  pub mask-before : (m : Mask) → x .0 < r .from → m ≡ bitOf (r .other) → m ≡ rowMask d r x
+  unfolding rowMask
+  mask-before m h e = simp (lt-leb (r .from) (x .0) h, e)
+
+  pub mask-behind : (m : Mask) → r .to ≤ x .0 → m ≡ bitOf (r .other) → m ≡ rowMask d r x
+  unfolding rowMask
+  mask-behind m h e = simp (le-ltb (x .0) (r .to) h, and-no (leb (r .from) (x .0)), e)
+
+  pub mask-unread : r .from ≤ x .0 → x .0 < r .to → r .read ≡ 0 → Hidden ≡ rowMask d r x
+  unfolding rowMask
+  mask-unread a b e = simp (le-leb (r .from) (x .0) a, lt-ltb (x .0) (r .to) b, eq-eqb (r .read) 0 e)
+
+  pub mask-read : (m : Mask) (p : SamplePos) → r .from ≤ x .0 → x .0 < r .to → r .read ≢ 0 → p ≡ scale (r .k) (r .from) x
+      → m ≡ bitOf (getD d (r .at + p .0) 0) → m ≡ rowMask d r x
+  unfolding rowMask
+  mask-read m p a b n e f = simp (le-leb (r .from) (x .0) a, lt-ltb (x .0) (r .to) b, ne-eqb (r .read) 0 n, f, e)
+
+  pub mask-there : (p : SamplePos) → MaskFits d r → r .from ≤ x .0 → x .0 < r .to → r .read ≢ 0 → p ≡ scale (r .k) (r .from) x → r .at + p .0 < length d
+  mask-there p g a b n e = rw e (g .there x a b n)
+
+module _ (s d : List ℕ) (r : Row) (x : MainPos) where
+  pub image-before : (c : Colour) → x .0 < r .from → c ≡ colourAt s (r .other) → Known c ≡ rowImage s d r x
+  unfolding rowImage
+  image-before c h e = simp (lt-leb (r .from) (x .0) h, e)
+
+  pub image-behind : (c : Colour) → r .to ≤ x .0 → c ≡ colourAt s (r .other) → Known c ≡ rowImage s d r x
+  unfolding rowImage
+  image-behind c h e = simp (le-ltb (x .0) (r .to) h, and-no (leb (r .from) (x .0)), e)
+
+  pub image-unread : r .from ≤ x .0 → x .0 < r .to → r .read ≡ 0 → Unknown ≡ rowImage s d r x
+  unfolding rowImage
+  image-unread a b e = simp (le-leb (r .from) (x .0) a, lt-ltb (x .0) (r .to) b, eq-eqb (r .read) 0 e)
+
+  pub image-read : (c : Sample) (p : SamplePos) → r .from ≤ x .0 → x .0 < r .to → r .read ≢ 0 → p ≡ scale (r .k) (r .from) x
+      → c ≡ Known (colourAt d (r .at + p .0 * 3)) → c ≡ rowImage s d r x
+  unfolding rowImage
+  image-read c p a b n e f = simp (le-leb (r .from) (x .0) a, lt-ltb (x .0) (r .to) b, ne-eqb (r .read) 0 n, f, e)
+
+  pub image-there : (p : SamplePos) → ImageFits s d r → r .from ≤ x .0 → x .0 < r .to → r .read ≢ 0 → p ≡ scale (r .k) (r .from) x
+      → r .at + p .0 * 3 + 3 ≤ length d
+  image-there p g a b n e = rw e (g .there x a b n)
+
+pub ruleset rows = (needs, row-read)
+
+pub ruleset fetching = (needs, mask-before, mask-behind, mask-unread, mask-read, mask-there, image-before, image-behind, image-unread, image-read, image-there)

@@ -1,0 +1,60 @@
+-- A layer of a stripe in one line of the picture, worked out once a line.
+--
+--   rowAt ns i       row i of the rows' numbers
+--   numbersOf        the numbers of a row
+--   across r x       the place lies in the row's main pixels
+--   rowMask          a mask's sample in its row; rowImage: that of an image layer, whose base colour stands in the sheet
+--   MaskFits         the samples that the row of a mask names are in the buffer; ImageFits: the same of an image layer, and its base colour in the sheet
+use Prim.Native.Nat.{ℕ, _+_, _*_, _≤_, _<_}
+use mathlib.Core.Logic.{_≢_}
+use mathlib.Core.Bool.{Bool, _&&_, cond}
+use mathlib.Core.List.{List, [], _∷_}
+use lib.ListN.{length, getD}
+use lib.Dec.{eqb, leb, ltb}
+use Rattle.picture_rules.specs.declared.MainPos.{MainPos}
+use Rattle.picture_rules.specs.declared.Sample.{Sample}
+use Rattle.picture_rules.specs.declared.Sample.the-variants.{Known, Unknown}
+use Rattle.picture_rules.specs.declared.Mask.{Mask}
+use Rattle.picture_rules.specs.declared.Mask.the-variants.{Hidden}
+use Rattle.picture_rules.specs.Place.{scale}
+use Rattle.picture_rules.specs.Samples.{bitOf}
+use Rattle.sheet_rules.specs.Record.{colourAt}
+use Rattle.line_fetch.specs.declared.Row.{Row}
+
+unfoldable pub rowAt : List ℕ → ℕ → Row
+rowAt ns i =
+    record {
+      from = getD ns (i * 6) 0;
+      to = getD ns (i * 6 + 1) 0;
+      k = getD ns (i * 6 + 2) 0;
+      read = getD ns (i * 6 + 3) 0;
+      at = getD ns (i * 6 + 4) 0;
+      other = getD ns (i * 6 + 5) 0;
+    }
+
+abbrev pub numbersOf : Row → List ℕ
+numbersOf r = r .from ∷ r .to ∷ r .k ∷ r .read ∷ r .at ∷ r .other ∷ []
+
+abbrev pub across : Row → MainPos → Bool
+across r x = leb (r .from) (x .0) && ltb (x .0) (r .to)
+
+unfoldable pub rowMask : List ℕ → Row → MainPos → Mask
+rowMask d r x =
+    cond (across r x)
+    (cond (eqb (r .read) 0) Hidden (bitOf (getD d (r .at + scale (r .k) (r .from) x .0) 0)))
+    (bitOf (r .other))
+
+unfoldable pub rowImage : List ℕ → List ℕ → Row → MainPos → Sample
+rowImage s d r x =
+    cond (across r x)
+    (cond (eqb (r .read) 0) Unknown (Known (colourAt d (r .at + scale (r .k) (r .from) x .0 * 3))))
+    (Known (colourAt s (r .other)))
+
+pub record MaskFits (d : List ℕ) (r : Row) : Type 0 where
+  pub turns : 0 < r .k
+  pub there : (x : MainPos) → r .from ≤ x .0 → x .0 < r .to → r .read ≢ 0 → r .at + scale (r .k) (r .from) x .0 < length d
+
+pub record ImageFits (s d : List ℕ) (r : Row) : Type 0 where
+  pub turns : 0 < r .k
+  pub there : (x : MainPos) → r .from ≤ x .0 → x .0 < r .to → r .read ≢ 0 → r .at + scale (r .k) (r .from) x .0 * 3 + 3 ≤ length d
+  pub base : r .other + 3 ≤ length s

@@ -1,0 +1,70 @@
+// A layer's sample at a pixel, fetched from the layer's row.
+ghost use mathlib.Core.Path.{_≡_};
+ghost use Prim.Native.Nat.{_+_, _*_, _≤_};
+ghost use lib.ListN.{length};
+ghost use Rattle.line_fetch.specs.Rows.{rowAt, rowMask, rowImage, MaskFits, ImageFits};
+use picture_rules::MainPos;
+use picture_rules::Mask;
+use picture_rules::Sample;
+
+// How many numbers a row has among the rows of a line.
+pub const ROW_SIZE: usize = 6;
+
+// A layer in one line of the picture, worked out once a line: its main pixels `from` up to `to`, k of them a sample; whether it was read (0: not),
+// and where the line's samples then start; and what it gives elsewhere: a mask its value, an image layer the place of its base colour in the sheet.
+pub struct Row {
+    pub from: usize,
+    pub to: usize,
+    pub k: usize,
+    pub read: usize,
+    pub at: usize,
+    pub other: usize,
+}
+
+// The rows stand flat in one lent slice: a struct of arrays by value would be copied for every pixel.
+pub fn row_at(rows: &[usize], i: usize) -> Row
+    requires { ⌜ i * 6 + 6 ≤ length (now rows) ⌝ }
+    ensures { λ r. ⌜ r ≡ rowAt (now (rows .entry)) i ⌝ }
+{
+    let b = i * ROW_SIZE;
+    Row {
+        from: rows[b],
+        to: rows[b + 1],
+        k: rows[b + 2],
+        read: rows[b + 3],
+        at: rows[b + 4],
+        other: rows[b + 5],
+    }
+}
+
+pub fn mask_at(d: &[u8], r: Row, x: MainPos) -> Mask
+    requires { ⌜ MaskFits (now d) r ⌝ }
+    ensures { λ m. ⌜ m ≡ rowMask (now (d .entry)) r x ⌝ }
+{
+    if x.0 < r.from {
+        return line_sample::other_bit(r.other);
+    }
+    if r.to <= x.0 {
+        return line_sample::other_bit(r.other);
+    }
+    if r.read == 0 {
+        return Mask::Hidden;
+    }
+    line_sample::bit_at(d, r.at, line_sample::scale_pos(r.k, r.from, x))
+}
+
+pub fn image_at(s: &[u8], d: &[u8], r: Row, x: MainPos) -> Sample
+    requires { ⌜ ImageFits (now s) (now d) r ⌝ }
+    ensures { λ m. ⌜ m ≡ rowImage (now (s .entry)) (now (d .entry)) r x ⌝ }
+{
+    if x.0 < r.from {
+        return Sample::Known(line_sample::colour_at(s, r.other));
+    }
+    if r.to <= x.0 {
+        return Sample::Known(line_sample::colour_at(s, r.other));
+    }
+    if r.read == 0 {
+        return Sample::Unknown;
+    }
+    line_sample::sample_at(d, r.at, line_sample::scale_pos(r.k, r.from, x))
+}

@@ -1,0 +1,187 @@
+-- The rows of a scene that is shown: what they name is there, and the pixel decided from them is the picture's.
+-- Assumes nothing.
+use Prim.Native.Nat.{ℕ, zero, suc, _+_, _-_, _*_, _/_, _%_, _≤_, _<_}
+use native.Mathlib.Omega.{arith}
+use mathlib.Core.Path.{_≡_, refl, sym, ap, ap₂, subst, _∙_}
+use mathlib.Core.Bool.{Bool, true, _&&_, cond}
+use mathlib.Core.List.{List}
+use lib.ListN.{length}
+use borrow.Author.Tests.{eq-eqb, ne-eqb}
+use Rattle.laws.proofs.Cases.{cond-with}
+use Rattle.laws.proofs.Says.{says-and, says-true}
+use Rattle.octets.specs.Octets.{putAt}
+use Rattle.octets.proofs.Laws.{put-length}
+use Rattle.sheet_rules.specs.declared.Record.{Record}
+use Rattle.sheet_rules.specs.Record.{recordSize}
+use Rattle.sheet_rules.specs.Judge.{coded}
+use Rattle.picture_rules.specs.declared.MainPos.{MainPos}
+use Rattle.picture_rules.specs.declared.Start.{Start}
+use Rattle.picture_rules.specs.declared.Start.the-variants.{From, Unread}
+use Rattle.picture_rules.specs.Place.{ratio, scale, covers, inside}
+use Rattle.picture_rules.specs.Planes.{PlaneList, planeStart}
+use Rattle.picture_rules.specs.Samples.{Scene, recordOf, mainOf, indexOf, maskAt, imageAt}
+use Rattle.picture_rules.specs.Decide.{pairStep, decide, stackAt, pairsOf, pixelAt}
+use Rattle.picture_rules.specs.Line.{depth}
+use Rattle.picture_rules.proofs.Division.{says-covers, says-inside}
+use Rattle.picture_rules.proofs.Scenes.{Stage, stage-layers, stage-placed, scene-ratio-some}
+use Rattle.picture_rules.proofs.Within.{mask-there, image-there}
+use Rattle.line_fetch.specs.declared.Row.{Row}
+use Rattle.line_fetch.specs.Rows.{rowAt, rowMask, rowImage, MaskFits, ImageFits}
+use Rattle.line_pixel.specs.Rows.{rowStack, RowsFit}
+use Rattle.line_rows.specs.Rows.{layerAt, rowIn, rowBy, otherOf, rowOf, rowsOf}
+use Rattle.line_rows.proofs.Laws.{length-rows}
+use Rattle.line_rows.proofs.Same.{row-among, mask-same, image-same, other-image}
+
+-- ---- one row: what it names is there, if the samples of a start are
+
+module _ (r : Record) (k : ℕ) (y : MainPos) (p : Start) (other : ℕ) (turns : 0 < k) where
+  -- the samples of the layer in this line are in the buffer, n octets each
+  abbrev There : List ℕ → ℕ → Type 0
+  There d n = (a : ℕ) → p ≡ From a → (x : MainPos) → covers (r .x) (r .width) k x ≡ true → covers (r .y) (r .height) k y ≡ true
+      → a + (scale k (r .y) y .0 * r .width + scale k (r .x) x .0) * n + n ≤ length d
+
+  crossed : coded r && covers (r .y) (r .height) k y ≡ true → covers (r .y) (r .height) k y ≡ true
+  crossed t = says-and (says-true (coded r)) (says-true (covers (r .y) (r .height) k y)) .told t .1
+
+  over : (x : MainPos) → r .x ≤ x .0 → x .0 < r .x + r .width * k → covers (r .x) (r .width) k x ≡ true
+  over x a b = says-covers (r .x) (r .width) k x .shown (a, b)
+
+  mask-in : (d : List ℕ) → depth (r .layer) ≡ 1 → There d 1 → covers (r .y) (r .height) k y ≡ true → (q : Start) → p ≡ q → MaskFits d (rowIn r k y q other)
+  unfolding rowIn
+  mask-in d e f t Unread z = record { turns = turns; there = λ x a b n. absurd (n refl) }
+  mask-in d e f t (From i) z =
+      record {
+        turns = turns;
+        there = λ x a b n.
+            let h = f i z x (over x a b) t in
+            let g : i + scale k (r .y) y .0 * r .width * depth (r .layer) + scale k (r .x) x .0 ≡ i + scale k (r .y) y .0 * r .width * 1 + scale k (r .x) x .0 =
+            ap (λ (m : ℕ). i + scale k (r .y) y .0 * r .width * m + scale k (r .x) x .0) e in
+            omega arith;
+      }
+
+  pub mask-fits : (d : List ℕ) → depth (r .layer) ≡ 1 → There d 1 → MaskFits d (rowBy r k y p other)
+  unfolding rowBy
+  mask-fits d e f =
+      cond-with (MaskFits d) (coded r && covers (r .y) (r .height) k y) (λ t. mask-in d e f (crossed t) p refl)
+      (λ t. record { turns = omega arith; there = λ x a b n. absurd (n refl) })
+
+  image-in : (s d : List ℕ) → other + 3 ≤ length s → depth (r .layer) ≡ 3 → There d 3 → covers (r .y) (r .height) k y ≡ true → (q : Start) → p ≡ q
+      → ImageFits s d (rowIn r k y q other)
+  unfolding rowIn
+  image-in s d o e f t Unread z = record { turns = turns; there = λ x a b n. absurd (n refl); base = o }
+  image-in s d o e f t (From i) z =
+      record {
+        turns = turns;
+        there = λ x a b n.
+            let h = f i z x (over x a b) t in
+            let g : i + scale k (r .y) y .0 * r .width * depth (r .layer) + scale k (r .x) x .0 * 3 ≡ i + scale k (r .y) y .0 * r .width * 3 + scale k (r .x) x .0 * 3 =
+            ap (λ (m : ℕ). i + scale k (r .y) y .0 * r .width * m + scale k (r .x) x .0 * 3) e in
+            omega arith;
+        base = o;
+      }
+
+  pub image-fits : (s d : List ℕ) → other + 3 ≤ length s → depth (r .layer) ≡ 3 → There d 3 → ImageFits s d (rowBy r k y p other)
+  unfolding rowBy
+  image-fits s d o e f =
+      cond-with (ImageFits s d) (coded r && covers (r .y) (r .height) k y) (λ t. image-in s d o e f (crossed t) p refl)
+      (λ t. record { turns = omega arith; there = λ x a b n. absurd (n refl); base = o })
+
+-- ---- the rows of a scene that is shown
+
+depth-even : (l : ℕ) → l % 2 ≡ 0 → depth l ≡ 1
+depth-even l e = ap (λ (b : Bool). cond b 1 3) (eq-eqb (l % 2) 0 e)
+
+depth-odd : (l : ℕ) → l % 2 ≡ 1 → depth l ≡ 3
+depth-odd l e = ap (λ (b : Bool). cond b 1 3) (ne-eqb (l % 2) 0 (λ z. omega arith))
+
+module _ (v : Scene) (pl : PlaneList) (k n : ℕ) (y : MainPos) (g : Stage (v .sheet) pl (v .samples) k n v) (whole : v .extent .first + v .extent .layers ≤ length (v .sheet) / recordSize) where
+  module _ (l : ℕ) (a : 1 ≤ l) (b : l ≤ v .extent .layers) where
+    depth-here : (m : ℕ) → depth l ≡ m → depth (recordOf v l .layer) ≡ m
+    depth-here m e = ap depth (stage-placed g l a b .layer) ∙ e
+
+    within : (x : MainPos) → covers (recordOf v l .x) (recordOf v l .width) (ratio (mainOf v) (recordOf v l)) x ≡ true
+        → covers (recordOf v l .y) (recordOf v l .height) (ratio (mainOf v) (recordOf v l)) y ≡ true → inside (mainOf v) (recordOf v l) x y ≡ true
+    within x p q = says-inside (mainOf v) (recordOf v l) x y .shown (p, q)
+
+    pub scene-mask : l % 2 ≡ 0 → MaskFits (v .samples) (rowOf (v .sheet) (v .extent) (v .planes) y l)
+    unfolding rowOf layerAt recordOf indexOf
+    scene-mask e =
+        mask-fits (recordOf v l) (ratio (mainOf v) (recordOf v l)) y (planeStart (v .planes) l) (otherOf (coded (recordOf v 3)) (recordOf v l) (v .extent .first + (l - 1)) l)
+        (scene-ratio-some g l a b) (v .samples) (depth-here 1 (depth-even l e))
+        (λ i z x p q. let h = mask-there g l i z x y (within x p q) e in omega arith)
+
+    pub scene-image : l % 2 ≡ 1 → ImageFits (v .sheet) (v .samples) (rowOf (v .sheet) (v .extent) (v .planes) y l)
+    unfolding rowOf layerAt recordOf indexOf
+    scene-image e =
+        image-fits (recordOf v l) (ratio (mainOf v) (recordOf v l)) y (planeStart (v .planes) l) (otherOf (coded (recordOf v 3)) (recordOf v l) (v .extent .first + (l - 1)) l)
+        (scene-ratio-some g l a b) (v .sheet) (v .samples)
+        (let o = other-image (coded (recordOf v 3)) (recordOf v l) (v .extent .first + (l - 1)) l e in omega arith)
+        (depth-here 3 (depth-odd l e))
+        (λ i z x p q. let h = image-there g l i z x y (within x p q) e in omega arith)
+
+  -- N is odd: the pairs and layer 1
+  count : v .extent .layers ≡ pairsOf v * 2 + 1
+  count = let c = stage-layers g in omega arith
+
+  module _ (z : List ℕ) (room : v .extent .layers * 6 ≤ length z) where
+    abbrev rows : List ℕ
+    rows = putAt z 0 (rowsOf (v .sheet) (v .extent) (v .planes) y (v .extent .layers))
+
+    long : length rows ≡ length z
+    long = let l = length-rows (v .sheet) (v .extent) (v .planes) y (v .extent .layers) in put-length z 0 (rowsOf (v .sheet) (v .extent) (v .planes) y (v .extent .layers)) (omega arith)
+
+    here : (i : ℕ) → i < v .extent .layers → rowAt rows i ≡ rowOf (v .sheet) (v .extent) (v .planes) y (i + 1)
+    here i h = row-among (v .sheet) (v .extent) (v .planes) y z (v .extent .layers) i h
+
+    image-here : (j : ℕ) → j ≤ pairsOf v → ImageFits (v .sheet) (v .samples) (rowAt rows (j * 2))
+    image-here j h =
+        let c = count in
+        subst (ImageFits (v .sheet) (v .samples)) (sym (here (j * 2) (omega arith))) (scene-image (j * 2 + 1) (omega arith) (omega arith) (omega arith))
+
+    mask-here : (j : ℕ) → j < pairsOf v → MaskFits (v .samples) (rowAt rows (j * 2 + 1))
+    mask-here j h =
+        let c = count in
+        subst (MaskFits (v .samples)) (sym (here (j * 2 + 1) (omega arith))) (scene-mask (j * 2 + 1 + 1) (omega arith) (omega arith) (omega arith))
+
+    pub rows-fit : RowsFit (v .sheet) (v .samples) rows (pairsOf v)
+    rows-fit =
+        let c = count in
+        let l = long in
+        record {
+          room = omega arith;
+          image = image-here 0 (omega arith);
+          pair = λ j h.
+              let q : (j + 1) * 2 ≡ j * 2 + 2 = omega arith in
+              record {
+                room = omega arith;
+                mask = mask-here j h;
+                image = subst (λ (i : ℕ). ImageFits (v .sheet) (v .samples) (rowAt rows i)) q (image-here (j + 1) (omega arith));
+              };
+        }
+
+    module _ (x : MainPos) where
+      image-is : (j : ℕ) → j ≤ pairsOf v → rowImage (v .sheet) (v .samples) (rowAt rows (j * 2)) x ≡ imageAt v (j * 2 + 1) x y
+      image-is j h =
+          let c = count in
+          let odd : (j * 2 + 1) % 2 ≡ 1 = omega arith in
+          ap (λ (r : Row). rowImage (v .sheet) (v .samples) r x) (here (j * 2) (omega arith))
+          ∙ image-same v x y (j * 2 + 1) odd (depth-here (j * 2 + 1) (omega arith) (omega arith) 3 (depth-odd (j * 2 + 1) odd))
+
+      mask-is : (j : ℕ) → suc j ≤ pairsOf v → rowMask (v .samples) (rowAt rows (suc j * 2 - 1)) x ≡ maskAt v (suc j * 2) x y
+      mask-is j h =
+          let c = count in
+          let even : suc j * 2 % 2 ≡ 0 = omega arith in
+          let q : suc j * 2 - 1 + 1 ≡ suc j * 2 = omega arith in
+          ap (λ (r : Row). rowMask (v .samples) r x) (here (suc j * 2 - 1) (omega arith) ∙ ap (rowOf (v .sheet) (v .extent) (v .planes) y) q)
+          ∙ mask-same v x y (suc j * 2) even (depth-here (suc j * 2) (omega arith) (omega arith) 1 (depth-even (suc j * 2) even))
+
+      decide-is : (j : ℕ) → j ≤ pairsOf v → decide (rowStack (v .sheet) (v .samples) rows x) j ≡ decide (stackAt v x y) j
+      unfolding decide
+      decide-is zero h = image-is 0 h
+      decide-is (suc j) h =
+          ap₂ (λ m lo. pairStep m lo (rowImage (v .sheet) (v .samples) (rowAt rows (suc j * 2)) x)) (mask-is j h) (decide-is j (omega arith))
+          ∙ ap (pairStep (maskAt v (suc j * 2) x y) (decide (stackAt v x y) j)) (image-is (suc j) h)
+
+      pub pixel-is : decide (rowStack (v .sheet) (v .samples) rows x) (pairsOf v) ≡ pixelAt v x y
+      unfolding pixelAt
+      pixel-is = decide-is (pairsOf v) (omega arith)

@@ -1,0 +1,234 @@
+-- One law for each way out of the functions that make a row: its premises are what is known there.
+-- Assumes nothing.
+use Prim.Native.Nat.{ℕ, zero, suc, _+_, _-_, _*_, _/_, _%_, _≤_, _<_}
+use native.Mathlib.Omega.{arith}
+use mathlib.Core.Path.{_≡_, refl, sym, ap, ap₂, subst, _∙_}
+use mathlib.Core.Logic.{_≢_}
+use mathlib.Core.Bool.{Bool, true, false, _&&_, not}
+use mathlib.Core.List.{List, _++_}
+use lib.ListN.{length, set, length-append}
+use lib.Dec.{eqb, leb, ltb}
+use borrow.Author.Tests.{eq-eqb, ne-eqb}
+use borrow.Author.Needs.{needs}
+use Rattle.sheet_rules.specs.declared.Record.{Record}
+use Rattle.octets.specs.Octets.{putAt}
+use Rattle.octets.proofs.Laws.{put-nothing, put-put, put-length}
+use Rattle.octets.proofs.Turns.{sets-put}
+use Rattle.sheet_rules.specs.declared.Extent.{Extent}
+use Rattle.sheet_rules.specs.Record.{recordAt}
+use Rattle.sheet_rules.specs.Judge.{coded}
+use Rattle.picture_rules.specs.declared.MainPos.{MainPos}
+use Rattle.picture_rules.specs.declared.SamplePos.{SamplePos}
+use Rattle.picture_rules.specs.declared.Start.{Start}
+use Rattle.picture_rules.specs.declared.Start.the-variants.{From, Unread}
+use Rattle.picture_rules.specs.declared.Plane.{Plane}
+use Rattle.picture_rules.specs.Planes.{planeStart}
+use Rattle.picture_rules.specs.Place.{scale, covers}
+use Rattle.picture_rules.specs.Line.{depth}
+use Rattle.picture_rules.proofs.Division.{says-covers, scale-within}
+use Rattle.line_sample.proofs.Laws.{product-small}
+use Rattle.line_planes.specs.declared.Listing.{Listing}
+use Rattle.line_planes.specs.Listing.{entriesOf}
+use Rattle.line_fetch.specs.declared.Row.{Row}
+use Rattle.line_fetch.specs.Rows.{numbersOf}
+use Rattle.line_rows.specs.Rows.{layerAt, mainAt, rowIn, rowOut, rowBy, otherOf, rowOf, rowsOf, Covered, Layer, Standing}
+
+-- ---- an area
+
+pub end-small : (o n k : ℕ) → (o < 65536) × (n < 65536) × (k < 65536) → o + n * k < 4295032832
+end-small o n k h = let m = product-small n k (h .1) (h .2) in let a = h .0 in omega arith
+
+pub covers-made : (o n k to : ℕ) (y : MainPos) → to ≡ o + n * k → leb o (y .0) && ltb (y .0) to ≡ covers o n k y
+unfolding covers
+covers-made o n k to y e = rw e
+
+-- ---- the start of a row of samples
+
+pub start-made : (a width l down w n : ℕ) → w ≡ width → n ≡ down * w * depth l → a + n ≡ a + down * width * depth l
+start-made a width l down w n ew en = ap (λ (i : ℕ). a + i) (en ∙ ap (λ (j : ℕ). down * j * depth l) ew)
+
+-- ---- a layer that the line crosses
+
+module _ (r : Record) (k : ℕ) (y : MainPos) where
+  pub in-unread : (other : ℕ) (p : Start) (from w to : ℕ) → p ≡ Unread → from ≡ r .x → w ≡ r .width → to ≡ from + w * k
+      → record { from = from; to = to; k = k; read = 0; at = 0; other = other } ≡ rowIn r k y p other
+  unfolding rowIn
+  in-unread other p from w to e f g h = rw (e, h, f, g)
+
+  pub in-read : (other : ℕ) (p : Start) (a from w to o at : ℕ) (q : SamplePos) → p ≡ From a → from ≡ r .x → w ≡ r .width → to ≡ from + w * k → o ≡ r .y → q ≡ scale k o y
+      → at ≡ a + q .0 * r .width * depth (r .layer)
+      → record { from = from; to = to; k = k; read = 1; at = at; other = other } ≡ rowIn r k y p other
+  unfolding rowIn
+  in-read other p a from w to o at q e f g h eo eq ea = rw (e, h, f, g, ea, eq, eo)
+
+  pub in-above : (o : ℕ) → Covered r k y → o ≡ r .y → o ≤ y .0
+  in-above o c e = subst (λ (i : ℕ). i ≤ y .0) (sym e) (says-covers (r .y) (r .height) k y .told (c .within) .0)
+
+  pub in-down : (o : ℕ) (q : SamplePos) → Covered r k y → o ≡ r .y → q ≡ scale k o y → q .0 < 65536
+  in-down o q c e f =
+      let w = scale-within (r .y) (r .height) k y (c .within) in
+      let z : q .0 ≡ scale k (r .y) y .0 = ap (λ (i : SamplePos). i .0) f ∙ ap (λ (j : ℕ). scale k j y .0) e in
+      let h = c .high in
+      omega arith
+
+-- ---- a layer
+
+module _ (r : Record) (k : ℕ) (y : MainPos) (p : Start) (other : ℕ) where
+  pub by-uncoded : (w : Row) → r .len ≡ 0 → w ≡ rowOut other → w ≡ rowBy r k y p other
+  unfolding rowBy
+  by-uncoded w e f = f ∙ simp (eq-eqb (r .len) 0 e)
+
+  module _ (b : Bool) (o n : ℕ) (d : r .len ≢ 0) (eo : o ≡ r .y) (en : n ≡ r .height) (e : b ≡ covers o n k y) where
+    covered : b ≡ covers (r .y) (r .height) k y
+    covered = e ∙ ap₂ (λ i j. covers i j k y) eo en
+
+    pub by-in : (w : Row) → b ≡ true → w ≡ rowIn r k y p other → w ≡ rowBy r k y p other
+    unfolding rowBy
+    by-in w t f = f ∙ simp (ne-eqb (r .len) 0 d, sym covered ∙ t)
+
+    pub by-out : (w : Row) → b ≡ false → w ≡ rowOut other → w ≡ rowBy r k y p other
+    unfolding rowBy
+    by-out w t f = f ∙ simp (ne-eqb (r .len) 0 d, sym covered ∙ t)
+
+    pub by-covered : 0 < k → k < 65536 → n < 65536 → b ≡ true → Covered r k y
+    by-covered a c h t = record { some = a; small = c; high = subst (λ (i : ℕ). i < 65536) en h; within = sym covered ∙ t }
+
+-- ---- what a layer gives outside its area
+
+module _ (c : Bool) (r : Record) (i l : ℕ) where
+  not-not : eqb (r .len) 0 ≡ not (coded r)
+  not-not = go (eqb (r .len) 0)
+    where
+      go : (b : Bool) → b ≡ not (not b)
+      go true = refl
+      go false = refl
+
+  pub other-one : l % 2 ≡ 0 → eqb (r .len) 0 && eqb l 2 && c ≡ true → 1 ≡ otherOf c r i l
+  unfolding otherOf
+  other-one e t = simp (eq-eqb (l % 2) 0 e, sym (ap (λ b. b && eqb l 2 && c) not-not) ∙ t)
+
+  pub other-zero : l % 2 ≡ 0 → eqb (r .len) 0 && eqb l 2 && c ≡ false → 0 ≡ otherOf c r i l
+  unfolding otherOf
+  other-zero e t = simp (eq-eqb (l % 2) 0 e, sym (ap (λ b. b && eqb l 2 && c) not-not) ∙ t)
+
+  pub other-base : l % 2 ≢ 0 → i * 28 + 14 ≡ otherOf c r i l
+  unfolding otherOf
+  other-base d = simp (ne-eqb (l % 2) 0 d)
+
+-- ---- the row of a layer of a stripe
+
+module _ (s : List ℕ) (extent : Extent) (m : ℕ) (c : Bool) (y : MainPos) (l : ℕ) where
+  pub layer-made : (ps : List Plane) (r : Record) (k : ℕ) (p : Start) (n : ℕ) (w : Row) → Layer s extent m c l → r ≡ recordAt s (extent .first + (l - 1)) → k ≡ m / r .res
+      → p ≡ planeStart ps l → n ≡ otherOf c r (extent .first + (l - 1)) l → w ≡ rowBy r k y p n → w ≡ rowOf s extent ps y l
+  unfolding rowOf layerAt
+  layer-made ps r k p n w g er ek ep en ew = ew ∙ rw (ek, ep, en, er, g .main, g .third) refl
+
+  pub layer-res : (r : Record) → Layer s extent m c l → r ≡ recordAt s (extent .first + (l - 1)) → 0 < r .res
+  unfolding layerAt
+  layer-res r g e = subst (λ (q : Record). 0 < q .res) (sym e) (g .res)
+
+  pub layer-turns : (r : Record) (k : ℕ) → Layer s extent m c l → r ≡ recordAt s (extent .first + (l - 1)) → k ≡ m / r .res → 0 < k
+  unfolding layerAt
+  layer-turns r k g e f = subst (λ (n : ℕ). 0 < n) (sym (f ∙ ap₂ (λ (a : ℕ) (q : Record). a / q .res) (g .main) e)) (g .turns)
+
+pub stores-row : (d : List ℕ) (i : ℕ) (w : Row) → i * 6 + 6 ≤ length d
+    → set (set (set (set (set (set d (i * 6) (w .from)) (i * 6 + 1) (w .to)) (i * 6 + 2) (w .k)) (i * 6 + 3) (w .read)) (i * 6 + 4) (w .at)) (i * 6 + 5) (w .other)
+    ≡ putAt d (i * 6) (numbersOf w)
+stores-row d i w h =
+    let a : i * 6 + 1 ≡ suc (i * 6) = omega arith in
+    let b : i * 6 + 2 ≡ suc (suc (i * 6)) = omega arith in
+    let c : i * 6 + 3 ≡ suc (suc (suc (i * 6))) = omega arith in
+    let e : i * 6 + 4 ≡ suc (suc (suc (suc (i * 6)))) = omega arith in
+    let f : i * 6 + 5 ≡ suc (suc (suc (suc (suc (i * 6))))) = omega arith in
+    rw (a, b, c, e, f) (sets-put d (i * 6) (numbersOf w) h)
+
+-- ---- the loop over the layers
+
+pub length-rows : (s : List ℕ) (extent : Extent) (ps : List Plane) (y : MainPos) (n : ℕ) → length (rowsOf s extent ps y n) ≡ n * 6
+unfolding rowsOf
+length-rows s extent ps y zero = refl
+length-rows s extent ps y (suc n) =
+    let l = length-append (rowsOf s extent ps y n) (numbersOf (rowOf s extent ps y (suc n))) in let k = length-rows s extent ps y n in omega arith
+
+pub record Filling (d s : List ℕ) (extent : Extent) (t : Listing) (y : MainPos) (m : ℕ) (c : Bool) (n : ℕ) (out : List ℕ) (i : ℕ) : Type 0 where
+  pub within : i ≤ n
+  pub all : n ≡ extent .layers
+  pub room : n * 6 ≤ length d
+  pub long : length out ≡ length d
+  pub main : m ≡ mainAt s extent
+  pub third : c ≡ coded (layerAt s extent 3)
+  pub filled : out ≡ putAt d 0 (rowsOf s extent (entriesOf t) y i)
+
+module _ (d s : List ℕ) (extent : Extent) (t : Listing) (y : MainPos) (m : ℕ) (c : Bool) (n : ℕ) where
+  pub filling-none : (second third : Record) → extent .layers * 6 ≤ length d → n ≡ extent .layers → second ≡ recordAt s (extent .first + 1) → third ≡ recordAt s (extent .first + 2)
+      → m ≡ second .res → c ≡ not (eqb (third .len) 0) → Filling d s extent t y m c n d 0
+  unfolding rowsOf layerAt
+  filling-none second third h e es et em ec =
+      record {
+        within = omega arith;
+        all = e;
+        room = omega arith;
+        long = refl;
+        main = em ∙ ap (λ (r : Record). r .res) es;
+        third = ec ∙ ap (λ (r : Record). not (eqb (r .len) 0)) et;
+        filled = sym (put-nothing d 0);
+      }
+
+  pub filling-layer : (out : List ℕ) (i : ℕ) → Filling d s extent t y m c n out i → Standing s extent → i < n → Layer s extent m c (i + 1)
+  filling-layer out i g z h =
+      let a = g .all in
+      let w = z .whole in
+      let f = z .fifteen in
+      record {
+        least = omega arith;
+        most = omega arith;
+        place = omega arith;
+        res = z .res (i + 1) (omega arith) (omega arith);
+        turns = z .turns (i + 1) (omega arith) (omega arith);
+        main = g .main;
+        third = g .third;
+      }
+
+  pub filling-room : (out : List ℕ) (i : ℕ) → Filling d s extent t y m c n out i → i < n → i * 6 + 6 ≤ length out
+  filling-room out i g h = let r = g .room in let l = g .long in omega arith
+
+  pub filling-more : (out new : List ℕ) (i : ℕ) (w : Row) → Filling d s extent t y m c n out i → i < n → w ≡ rowOf s extent (entriesOf t) y (i + 1)
+      → new ≡ putAt out (i * 6) (numbersOf w) → Filling d s extent t y m c n new (i + 1)
+  unfolding rowsOf
+  filling-more out new i w g h ew e =
+      let l = length-rows s extent (entriesOf t) y i in
+      let r = g .room in
+      let k = g .long in
+      let q : length (numbersOf w) ≡ 6 = refl in
+      let z : i + 1 ≡ suc i = omega arith in
+      let lz : i * 6 ≡ 0 + length (rowsOf s extent (entriesOf t) y i) = omega arith in
+      record {
+        within = omega arith;
+        all = g .all;
+        room = g .room;
+        long = ap length e ∙ put-length out (i * 6) (numbersOf w) (omega arith) ∙ g .long;
+        main = g .main;
+        third = g .third;
+        filled =
+            e ∙ ap₂ (λ (o : List ℕ) (a : ℕ). putAt o a (numbersOf w)) (g .filled) lz
+            ∙ put-put d 0 (rowsOf s extent (entriesOf t) y i) (numbersOf w) (omega arith)
+            ∙ ap (λ (x : Row). putAt d 0 (rowsOf s extent (entriesOf t) y i ++ numbersOf x)) (ew ∙ ap (rowOf s extent (entriesOf t) y) z)
+            ∙ ap (λ (a : ℕ). putAt d 0 (rowsOf s extent (entriesOf t) y a)) (sym z);
+      }
+
+  pub filling-end : (out : List ℕ) (i : ℕ) → Filling d s extent t y m c n out i → n ≤ i → out ≡ putAt d 0 (rowsOf s extent (entriesOf t) y (extent .layers))
+  filling-end out i g h =
+      let w = g .within in
+      let a = g .all in
+      let z : i ≡ extent .layers = omega arith in
+      g .filled ∙ ap (λ (k : ℕ). putAt d 0 (rowsOf s extent (entriesOf t) y k)) z
+
+pub ruleset layering = (needs, layer-made, layer-res, layer-turns)
+
+pub ruleset filling = (needs, stores-row, filling-none, filling-layer, filling-room, filling-more, filling-end)
+
+pub ruleset areas = (needs, end-small, covers-made, product-small, start-made)
+
+pub ruleset crossing = (needs, in-unread, in-read, in-above, in-down, by-uncoded, by-in, by-out, by-covered)
+
+pub ruleset others = (needs, other-one, other-zero, other-base)

@@ -1,0 +1,48 @@
+use Rattle.line_rows.proofs.Laws.{crossing}
+use Rattle.line_rows.proofs.row_in.Statement.{statement}
+use Rattle.line_rows.proofs.row_in.Tie as tie
+
+wide16-requires : tie.Need-wide16-requires
+wide16-requires c κs = search crossing
+
+wide16-requires-2 : tie.Need-wide16-requires-2
+wide16-requires-2 c κs = search crossing
+
+area-end-requires : tie.Need-area-end-requires
+area-end-requires c κs = search crossing
+
+enum-told : tie.Need-enum-told
+enum-told c = search crossing
+
+enum-known-p : tie.Need-enum-known-p
+enum-known-p c = search crossing
+
+wide16-requires-3 : tie.Need-wide16-requires-3
+wide16-requires-3 c κs = search crossing
+
+scale-pos-requires : tie.Need-scale-pos-requires
+scale-pos-requires c κs = search crossing
+
+row-start-requires : tie.Need-row-start-requires
+row-start-requires c κs = search crossing
+
+returns : tie.Need-returns
+returns c = search crossing
+
+returns-2 : tie.Need-returns-2
+returns-2 c = search crossing
+
+pub row-in-spec : {M : Type 1} → statement M
+row-in-spec =
+    tie.close
+    (tie.spec
+    wide16-requires
+    wide16-requires-2
+    area-end-requires
+    enum-told
+    enum-known-p
+    wide16-requires-3
+    scale-pos-requires
+    row-start-requires
+    returns
+    returns-2)

@@ -1,0 +1,182 @@
+// The rows of a line: for each layer of a stripe what one line of the picture needs of it, worked out once a line.
+ghost use mathlib.Core.Path.{_≡_};
+ghost use Prim.Native.Nat.{_+_, _-_, _*_, _/_, _<_, _≤_};
+ghost use lib.ListN.{length};
+ghost use Rattle.octets.specs.Octets.{putAt};
+ghost use Rattle.picture_rules.specs.Place.{covers};
+ghost use Rattle.picture_rules.specs.Line.{depth};
+ghost use Rattle.line_planes.specs.Listing.{entriesOf};
+ghost use Rattle.line_fetch.specs.Rows.{numbersOf};
+ghost use Rattle.line_rows.specs.Rows.{rowIn, rowOut, rowBy, otherOf, rowOf, rowsOf, Covered, Layer, Standing};
+use line_fetch::ROW_SIZE;
+use line_fetch::Row;
+use line_planes::Listing;
+use picture_rules::MainPos;
+use picture_rules::SamplePos;
+use picture_rules::Start;
+use sheet_rules::Extent;
+use sheet_rules::RECORD_SIZE;
+use sheet_rules::Record;
+
+// Where n samples of k main pixels each end, from an offset on.
+pub fn area_end(o: usize, n: usize, k: usize) -> usize
+    requires { ⌜ (o < 65536) × (n < 65536) × (k < 65536) ⌝ }
+    ensures { λ r. ⌜ r ≡ o + n * k ⌝ }
+{
+    o + n * k
+}
+
+// The line crosses the layer's area.
+pub fn line_covers(o: usize, n: usize, k: usize, y: MainPos) -> bool
+    requires { ⌜ (o < 65536) × (n < 65536) × (k < 65536) ⌝ }
+    ensures { λ b. ⌜ b ≡ covers o n k y ⌝ }
+{
+    let to = area_end(o, n, k);
+    (o <= y.0) & (y.0 < to)
+}
+
+// Where the samples of a row start, so many rows down.
+pub fn row_start(a: u32, width: u16, layer: u8, down: SamplePos) -> usize
+    requires { ⌜ down .0 < 65536 ⌝ }
+    ensures { λ r. ⌜ r ≡ a + down .0 * width * depth layer ⌝ }
+{
+    let n = down.0 * octets::wide16(width);
+    a as usize + line_sample::sample_octets(n, layer)
+}
+
+// A layer that the line crosses.
+pub fn row_in(r: Record, k: usize, y: MainPos, p: Start, other: usize) -> Row
+    requires { ⌜ Covered r k y ⌝ }
+    ensures { λ w. ⌜ w ≡ rowIn r k y p other ⌝ }
+{
+    let from = octets::wide16(r.x);
+    let to = area_end(from, octets::wide16(r.width), k);
+    match p {
+        Start::Unread => Row {
+            from: from,
+            to: to,
+            k: k,
+            read: 0,
+            at: 0,
+            other: other,
+        },
+        Start::From(a) => Row {
+            from: from,
+            to: to,
+            k: k,
+            read: 1,
+            at: row_start(
+                a,
+                r.width,
+                r.layer,
+                line_sample::scale_pos(k, octets::wide16(r.y), y),
+            ),
+            other: other,
+        },
+    }
+}
+
+// A layer that is not coded, or that the line passes by: it gives the same all along.
+pub fn row_out(other: usize) -> Row
+    ensures { λ w. ⌜ w ≡ rowOut other ⌝ }
+{
+    Row {
+        from: 0,
+        to: 0,
+        k: 1,
+        read: 0,
+        at: 0,
+        other: other,
+    }
+}
+
+pub fn row_by(r: Record, k: usize, y: MainPos, p: Start, other: usize) -> Row
+    requires { ⌜ (0 < k) × (k < 65536) ⌝ }
+    ensures { λ w. ⌜ w ≡ rowBy r k y p other ⌝ }
+{
+    if r.len == 0 {
+        return row_out(other);
+    }
+    if line_covers(octets::wide16(r.y), octets::wide16(r.height), k, y) {
+        row_in(r, k, y, p, other)
+    } else {
+        row_out(other)
+    }
+}
+
+// What a layer gives outside its area: a mask its value, an image layer the place of its base colour in the sheet. An uncoded layer 2 gives 1 all
+// over a stripe whose layer 3 is coded.
+pub fn other_of(coded3: bool, r: Record, i: usize, l: usize) -> usize
+    requires { ⌜ i < 17179869184 ⌝ }
+    ensures { λ n. ⌜ n ≡ otherOf coded3 r i l ⌝ }
+{
+    if l % 2 == 0 {
+        if (r.len == 0) & (l == 2) & coded3 {
+            1
+        } else {
+            0
+        }
+    } else {
+        i * RECORD_SIZE + 14
+    }
+}
+
+// Main pixels a sample.
+pub fn ratio_of(main: u16, res: u16) -> usize
+    requires { ⌜ 0 < res ⌝ }
+    ensures { λ k. ⌜ (k ≡ main / res) × (k < 65536) ⌝ }
+{
+    octets::wide16(main / res)
+}
+
+// The row of layer l, the main resolution and whether layer 3 is coded being known.
+pub fn layer_row(
+    sheet: &[u8],
+    extent: Extent,
+    t: Listing,
+    main: u16,
+    coded3: bool,
+    y: MainPos,
+    l: usize,
+) -> Row
+    requires { ⌜ Layer (now sheet) extent main coded3 l ⌝ }
+    ensures { λ w. ⌜ w ≡ rowOf (now (sheet .entry)) extent (entriesOf t) y l ⌝ }
+{
+    let i = extent.first as usize + (l - 1);
+    let r = sheet_record::record_at(sheet, i);
+    let k = ratio_of(main, r.res);
+    let p = line_planes::start_of(t, l as u8);
+    row_by(r, k, y, p, other_of(coded3, r, i, l))
+}
+
+pub fn put_row(rows: &mut [usize], i: usize, w: Row)
+    requires { ⌜ i * 6 + 6 ≤ length (now rows) ⌝ }
+    ensures { λ _. ⌜ now (rows .exit) ≡ putAt (now (rows .entry)) (i * 6) (numbersOf w) ⌝ }
+{
+    let b = i * ROW_SIZE;
+    rows[b] = w.from;
+    rows[b + 1] = w.to;
+    rows[b + 2] = w.k;
+    rows[b + 3] = w.read;
+    rows[b + 4] = w.at;
+    rows[b + 5] = w.other;
+}
+
+// The rows of all layers, one behind the other.
+pub fn put_rows(rows: &mut [usize], sheet: &[u8], extent: Extent, t: Listing, y: MainPos)
+    requires { ⌜ Standing (now sheet) extent × (extent .layers * 6 ≤ length (now rows)) ⌝ }
+    ensures { λ _. ⌜ now (rows .exit) ≡ putAt (now (rows .entry)) 0 (rowsOf (now (sheet .entry)) extent (entriesOf t) y (extent .layers)) ⌝ }
+{
+    let first = extent.first as usize;
+    let n = extent.layers as usize;
+    let second = sheet_record::record_at(sheet, first + 1);
+    let third = sheet_record::record_at(sheet, first + 2);
+    let main = second.res;
+    let coded3 = third.len != 0;
+    let mut i: usize = 0;
+    while i < n {
+        let w = layer_row(sheet, extent, t, main, coded3, y, i + 1);
+        put_row(rows, i, w);
+        i += 1;
+    }
+}

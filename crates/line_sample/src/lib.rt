@@ -1,0 +1,84 @@
+// One sample: the step from a main place to a sample's, and what stands there in the buffer.
+ghost use mathlib.Core.Path.{_≡_};
+ghost use Prim.Native.Nat.{_+_, _*_, _<_, _≤_};
+ghost use lib.ListN.{length, getD};
+ghost use Rattle.picture_rules.specs.declared.Sample.the-variants.{Known};
+ghost use Rattle.picture_rules.specs.Line.{depth};
+ghost use Rattle.picture_rules.specs.Place.{scale};
+ghost use Rattle.picture_rules.specs.Samples.{bitOf};
+ghost use Rattle.sheet_rules.specs.Record.{colourAt};
+use picture_rules::MainPos;
+use picture_rules::Mask;
+use picture_rules::Sample;
+use picture_rules::SamplePos;
+use sheet_rules::Colour;
+
+// The one step from a main place to a sample's. It divides by constants: a division by k would cost more than all else of a pixel.
+pub fn scale_pos(k: usize, o: usize, p: MainPos) -> SamplePos
+    requires { ⌜ (0 < k) × (o ≤ p .0) ⌝ }
+    ensures { λ r. ⌜ r ≡ scale k o p ⌝ }
+{
+    let d = p.0 - o;
+    match k {
+        1 => SamplePos(d),
+        2 => SamplePos(d / 2),
+        3 => SamplePos(d / 3),
+        4 => SamplePos(d / 4),
+        6 => SamplePos(d / 6),
+        12 => SamplePos(d / 12),
+        _ => {
+            let i = d / k;
+            SamplePos(i)
+        }
+    }
+}
+
+pub fn bit_of(v: u8) -> Mask
+    ensures { λ r. ⌜ r ≡ bitOf v ⌝ }
+{
+    if v == 0 { Mask::Zero } else { Mask::One }
+}
+
+// A mask outside its area, or one without samples.
+pub fn other_bit(v: usize) -> Mask
+    ensures { λ r. ⌜ r ≡ bitOf v ⌝ }
+{
+    if v == 0 { Mask::Zero } else { Mask::One }
+}
+
+pub fn colour_at(d: &[u8], i: usize) -> Colour
+    requires { ⌜ i + 3 ≤ length (now d) ⌝ }
+    ensures { λ r. ⌜ r ≡ colourAt (now (d .entry)) i ⌝ }
+{
+    Colour {
+        c0: d[i],
+        c1: d[i + 1],
+        c2: d[i + 2],
+    }
+}
+
+// The sample of a mask, so many samples past the start of its row.
+pub fn bit_at(d: &[u8], at: usize, p: SamplePos) -> Mask
+    requires { ⌜ at + p .0 < length (now d) ⌝ }
+    ensures { λ r. ⌜ r ≡ bitOf (getD (now (d .entry)) (at + p .0) 0) ⌝ }
+{
+    let i = at + p.0;
+    bit_of(d[i])
+}
+
+// The sample of an image layer, likewise.
+pub fn sample_at(d: &[u8], at: usize, p: SamplePos) -> Sample
+    requires { ⌜ at + p .0 * 3 + 3 ≤ length (now d) ⌝ }
+    ensures { λ r. ⌜ r ≡ Known (colourAt (now (d .entry)) (at + p .0 * 3)) ⌝ }
+{
+    let i = at + p.0 * 3;
+    Sample::Known(colour_at(d, i))
+}
+
+// The octets of n samples of a layer. In 64 bits, since width times height times three passes 32.
+pub fn sample_octets(n: usize, layer: u8) -> usize
+    requires { ⌜ n < 4294967296 ⌝ }
+    ensures { λ r. ⌜ (r ≡ n * depth layer) × (r < 12884901888) ⌝ }
+{
+    if layer % 2 == 0 { n } else { n * 3 }
+}

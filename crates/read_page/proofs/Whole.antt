@@ -1,0 +1,187 @@
+-- The whole page in code: its start, its body, its end, the room and the sheet.
+-- Assumes nothing.
+use Prim.Native.Nat.{ℕ, _*_, _≤_, _<_}
+use native.Mathlib.Omega.{arith}
+use mathlib.Core.Path.{_≡_, refl, sym, ap, ap₂, subst, _∙_}
+use mathlib.Core.Bool.{cond}
+use mathlib.Core.List.{List, []}
+use lib.ListN.{length, take, drop}
+use lib.Dec.{ltb}
+use borrow.Author.Needs.{needs}
+use borrow.Author.Tests.{lt-ltb, le-ltb}
+use Rattle.laws.proofs.Cases.{clash}
+use Rattle.octets.specs.Octets.{Octets, putAt}
+use Rattle.octets.proofs.Laws.{put-back, put-length}
+use Rattle.answers.specs.declared.Answer.{Answer}
+use Rattle.answers.specs.declared.Answer.the-variants.{Done, NoRoom, TooLong}
+use Rattle.field_rules.specs.Field.{Res, ok, no, bind, fields}
+use Rattle.field_rules.proofs.Refused.{rowsSize, fields-end}
+use Rattle.sheet_rules.specs.declared.Record.{Record}
+use Rattle.sheet_rules.specs.Record.{sheetOf}
+use Rattle.sheet_rules.proofs.Cut.{sheet-length}
+use Rattle.page_rules.specs.declared.Head.{Head}
+use Rattle.page_rules.specs.Reading.{startTable, zerosOf, endTable, pageOf, roomOf, readOf, intoOf, readInto, Reads}
+use Rattle.read_field.specs.declared.Judged.the-variants.{Fine}
+use Rattle.read_field.specs.declared.Judged.{Judged}
+use Rattle.read_field.specs.Judged.{judgedOf}
+use Rattle.read_segment.specs.Ends.{closeOf}
+use Rattle.read_start.specs.Start.{headAt}
+use Rattle.read_body.specs.declared.Body.{Body}
+use Rattle.read_body.specs.declared.Body.the-variants.{Stripes}
+use Rattle.read_page.specs.declared.Verdict.{Verdict}
+use Rattle.read_page.specs.declared.Verdict.the-variants.{Sheet}
+use Rattle.read_page.specs.Steps.{Lent, restOf, PageRead, Judges, Emits}
+use Rattle.read_body.specs.Steps.{Opened, BodyRead, Bodied}
+use Rattle.read_body.proofs.Kept.{head-kept}
+use Rattle.read_body.proofs.Stripe.{judged-no, judged-ok}
+
+-- ---- judge_rest
+
+-- what the end comes to does not hang on the records that stand before it
+module _ {A : Type 0} (s : List ℕ) (m : ℕ) (rs : A) where
+  abbrev ended : Res A
+  ended = bind (fields endTable [] s m) (λ (es : List ℕ) (e : ℕ). bind (zerosOf (drop e s) e) (λ (z end : ℕ). ok rs end))
+
+  zeros-no : (x : Res ℕ) (a : Answer) → judgedOf x ≡ Judged.Refused a → bind x (λ (z end : ℕ). ok rs end) ≡ no a
+  unfolding bind
+  zeros-no x a e = ap (λ (y : Res ℕ). bind y (λ (z end : ℕ). ok rs end)) (judged-no x a e)
+
+  end-no : (x : Res (List ℕ)) (a : Answer) → judgedOf (bind x (λ (es : List ℕ) (e : ℕ). zerosOf (drop e s) e)) ≡ Judged.Refused a
+      → bind x (λ (es : List ℕ) (e : ℕ). bind (zerosOf (drop e s) e) (λ (z end : ℕ). ok rs end)) ≡ no a
+  unfolding bind judgedOf
+  end-no (ok v n) a e = zeros-no (zerosOf (drop n s) n) a e
+  end-no (no b) a e = let p : b ≡ a = cc in ap no p
+
+  end-refused : (a : Answer) → closeOf s m ≡ Judged.Refused a → ended ≡ no a
+  unfolding closeOf
+  end-refused a q = end-no (fields endTable [] s m) a q
+
+  end-ok : (P : Type 0) (x : Res (List ℕ)) → judgedOf (bind x (λ (es : List ℕ) (e : ℕ). zerosOf (drop e s) e)) ≡ Fine
+      → ((n : ℕ) → bind x (λ (es : List ℕ) (e : ℕ). bind (zerosOf (drop e s) e) (λ (z end : ℕ). ok rs end)) ≡ ok rs n → P) → P
+  unfolding bind judgedOf
+  end-ok P (ok v n) e k = judged-ok P (zerosOf (drop n s) n) e (λ z end q. k end (ap (λ (y : Res ℕ). bind y (λ (z end : ℕ). ok rs end)) q))
+  end-ok P (no b) e k = clash cc
+
+  end-fine : (P : Type 0) → closeOf s m ≡ Fine → ((n : ℕ) → ended ≡ ok rs n → P) → P
+  unfolding closeOf
+  end-fine P q k = end-ok P (fields endTable [] s m) q k
+
+module _ (hd : Head) (s out out′ : List ℕ) (h : hd ≡ headAt s) (b : Body) (t : Bodied hd s out b out′) where
+  pub rest-stopped : (a : Answer) → b ≡ Body.Refused a → restOf (headAt s) s ≡ no a
+  unfolding restOf bind
+  rest-stopped a e = let q = rw e at t in subst (λ (x : Head). restOf x s ≡ no a) h (simp q)
+
+  module _ (count next : ℕ) (e : b ≡ Stripes count next) (j : Judged) (y : j ≡ closeOf s next) where
+    read : BodyRead hd s out count next out′
+    read = rw e at t
+
+    pub rest-refused : (a : Answer) → j ≡ Judged.Refused a → restOf (headAt s) s ≡ no a
+    unfolding restOf bind
+    rest-refused a z = subst (λ (x : Head). restOf x s ≡ no a) h (simp (read .same) (end-refused s next (read .records) a (sym y ∙ z)))
+
+    pub rest-fine : j ≡ Fine → PageRead (restOf (headAt s) s) out count out′
+    unfolding restOf bind
+    rest-fine z =
+        end-fine s next (read .records) (PageRead (restOf (headAt s) s) out count out′) (sym y ∙ z) λ n q.
+        subst (λ (x : Head). PageRead (restOf x s) out count out′) h
+        (record { records = read .records; end = n; same = simp (read .same) q; laid = read .laid; counted = read .counted; few = read .few })
+
+pub ruleset resting = (needs, rest-stopped, rest-refused, rest-fine)
+
+-- ---- judge_page
+
+start-size : rowsSize startTable ≡ 22
+unfolding startTable rowsSize
+start-size = refl
+
+module _ (s : List ℕ) {j : Judged} (e : j ≡ judgedOf (fields startTable [] s 0)) where
+  pub page-refused : (a : Answer) → j ≡ Judged.Refused a → pageOf s ≡ no a
+  unfolding pageOf bind
+  page-refused a z = simp (judged-no (fields startTable [] s 0) a (sym e ∙ z))
+
+  pub page-opened : (out : List ℕ) → Lent out s → j ≡ Fine → Opened out s
+  page-opened out l z =
+      judged-ok (Opened out s) (fields startTable [] s 0) (sym e ∙ z) λ vs n q.
+      let f = fields-end startTable [] vs s 0 n (omega arith) q in
+      let f0 = f .0 in
+      let f1 = f .1 in
+      let w = start-size in
+      record { long = omega arith; small = l .small; room = l .room }
+
+  page-rest : Octets s → j ≡ Fine → pageOf s ≡ restOf (headAt s) s
+  unfolding pageOf restOf bind
+  page-rest o z =
+      judged-ok (pageOf s ≡ restOf (headAt s) s) (fields startTable [] s 0) (sym e ∙ z) λ vs n q.
+      let f0 = fields-end startTable [] vs s 0 n (omega arith) q .0 in
+      let w = start-size in
+      let p : n ≡ 22 = omega arith in
+      simp q (rw (p, head-kept s o vs n q) refl)
+
+  pub page-whole : Octets s → (out out′ : List ℕ) (r : Verdict) → j ≡ Fine → Judges (restOf (headAt s) s) out r out′ → Judges (pageOf s) out r out′
+  page-whole o out out′ r z t = subst (λ (x : Res (List Record)). Judges x out r out′) (sym (page-rest o z)) t
+
+pub ruleset opening = (needs, page-refused, page-opened)
+
+-- ---- emit
+module _ (laid : List ℕ) (stripes : ℕ) (d : List ℕ) (size : ℕ) (e : size ≡ stripes * 84) where
+  pub emit-none : length d < size → Emits laid stripes d NoRoom d
+  emit-none l = record { answers = simp (lt-ltb (length d) (stripes * 84) (omega arith)); holds = simp (lt-ltb (length d) (stripes * 84) (omega arith)) }
+
+  pub emit-all : size ≤ length d → (d′ : List ℕ) → d′ ≡ putAt d 0 (take size (drop 0 laid)) → Emits laid stripes d (Done (stripes * 3)) d′
+  emit-all l d′ h =
+      record {
+        answers = simp (le-ltb (length d) (stripes * 84) (omega arith));
+        holds = h ∙ rw e (simp (le-ltb (length d) (stripes * 84) (omega arith)));
+      }
+
+pub ruleset emitting = (needs, emit-none, emit-all)
+
+-- ---- read_page
+module _ (s d : List ℕ) where
+  pub read-long : 16777215 < length s → Reads s d TooLong d
+  unfolding readOf readInto
+  read-long l = record { answers = simp (lt-ltb 16777215 (length s) l); holds = simp (lt-ltb 16777215 (length s) l) }
+
+  module _ (l : length s ≤ 16777215) (out out′ : List ℕ) (v : Verdict) (t : Judges (pageOf s) out v out′) where
+    pub read-bad : (a : Answer) → v ≡ Verdict.Refused a → Reads s d a d
+    unfolding readOf readInto roomOf intoOf
+    read-bad a e = let q = rw e at t in record { answers = simp (le-ltb 16777215 (length s) l, q); holds = simp (le-ltb 16777215 (length s) l, q) }
+
+    module _ (r : length out ≡ 5376) (stripes : ℕ) (e : v ≡ Sheet stripes) where
+      j : PageRead (pageOf s) out stripes out′
+      j = rw e at t
+
+      size-is : length (j .records) * 28 ≡ stripes * 84
+      size-is = let c = j .counted in omega arith
+
+      octets-are : length (sheetOf (j .records)) ≡ stripes * 84
+      octets-are = sheet-length (j .records) ∙ size-is
+
+      laid-is : take (stripes * 84) out′ ≡ sheetOf (j .records)
+      laid-is =
+          ap (take (stripes * 84)) (j .laid) ∙ ap (λ (k : ℕ). take k (putAt out 0 (sheetOf (j .records)))) (sym octets-are)
+          ∙ put-back out 0 (sheetOf (j .records)) (omega arith)
+
+      pub read-laid : stripes * 84 ≤ length out′
+      read-laid =
+          let f = j .few in
+          let o = octets-are in
+          let n = ap length (j .laid) ∙ put-length out 0 (sheetOf (j .records)) (omega arith) in
+          omega arith
+
+      pub read-emits : (a : Answer) (d′ : List ℕ) → Emits out′ stripes d a d′ → Reads s d a d′
+      unfolding readOf readInto roomOf intoOf
+      read-emits a d′ m =
+          record {
+            answers =
+                m .answers
+                ∙ sym
+                (simp (le-ltb 16777215 (length s) l, j .same) (ap₂ (λ (x y : ℕ). cond (ltb (length d) x) NoRoom (Done y)) size-is (sym (j .counted))));
+            holds =
+                m .holds
+                ∙ sym
+                (simp (le-ltb 16777215 (length s) l, j .same)
+                (ap₂ (λ (x : ℕ) (o : List ℕ). cond (ltb (length d) x) d (putAt d 0 o)) size-is (sym laid-is)));
+          }
+
+pub ruleset reading = (needs, read-long, read-bad, read-laid, read-emits)

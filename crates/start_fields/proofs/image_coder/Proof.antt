@@ -1,9 +1,0 @@
-use Rattle.start_fields.proofs.Start.{start-laws}
-use Rattle.start_fields.proofs.image_coder.Statement.{statement}
-use Rattle.start_fields.proofs.image_coder.Tie as tie
-
-returns : tie.Need-returns
-returns c = search start-laws
-
-pub image-coder-spec : {M : Type 1} → statement M
-image-coder-spec = tie.close (tie.spec returns)

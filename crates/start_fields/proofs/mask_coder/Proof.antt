@@ -1,9 +1,0 @@
-use Rattle.start_fields.proofs.Start.{start-laws}
-use Rattle.start_fields.proofs.mask_coder.Statement.{statement}
-use Rattle.start_fields.proofs.mask_coder.Tie as tie
-
-returns : tie.Need-returns
-returns c = search start-laws
-
-pub mask-coder-spec : {M : Type 1} → statement M
-mask-coder-spec = tie.close (tie.spec returns)

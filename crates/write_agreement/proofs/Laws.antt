@@ -1,0 +1,32 @@
+-- What the proofs of this crate cite: for each way out of a function one law, over what is known there.
+-- Assumes nothing.
+use Prim.Native.Nat.{ℕ, _+_, _-_}
+use native.Mathlib.Omega.{arith}
+use mathlib.Core.Path.{_≡_, refl, ap, _∙_}
+use mathlib.Core.Bool.{Bool, false, _&&_}
+use mathlib.Core.List.{List}
+use lib.ListN.{take, drop}
+use lib.Dec.{eqb}
+use borrow.Author.Needs.{needs}
+use Rattle.jpeg_rules.specs.declared.Fault.{Fault}
+use Rattle.jpeg_rules.specs.declared.Walk.{Walk}
+use Rattle.jpeg_rules.specs.declared.Walk.the-variants.{Ends, Refused}
+use Rattle.jpeg_rules.specs.Walk.{walkOf}
+use Rattle.sheet_rules.specs.declared.Record.{Record}
+use Rattle.write_rules.specs.Layer.{endsAs, agrees}
+
+pub ends-refused : (w : Walk) (r : Record) (f : Fault) → w ≡ Refused f → false ≡ endsAs w r
+ends-refused w r f e = rw e refl
+
+pub ends-compared : (w : Walk) (r : Record) (next width height res : ℕ) → w ≡ Ends next width height res
+    → eqb next (r .len) && eqb width (r .width) && eqb height (r .height) && eqb res (r .res) ≡ endsAs w r
+ends-compared w r next width height res e = rw e refl
+
+pub data-walked : (d : List ℕ) (main : ℕ) (r : Record) {w : Walk} {b : Bool} (to : ℕ) → to ≡ r .start + r .len
+    → w ≡ walkOf (take (to - r .start) (drop (r .start) d)) 0 main → b ≡ endsAs w r → b ≡ agrees d main r
+unfolding agrees
+data-walked d main r to e f g =
+    let n : to - r .start ≡ r .len = omega arith in
+    g ∙ ap (λ (x : Walk). endsAs x r) (f ∙ ap (λ (k : ℕ). walkOf (take k (drop (r .start) d)) 0 main) n)
+
+pub ruleset agreeing = (needs, ends-refused, ends-compared, data-walked)

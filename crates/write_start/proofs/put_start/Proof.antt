@@ -1,0 +1,20 @@
+use Rattle.write_start.proofs.Laws.{starting}
+use borrow.Author.Needs.{needs}
+use Rattle.write_start.proofs.put_start.Statement.{statement}
+use Rattle.write_start.proofs.put_start.Tie as tie
+
+put-start-mark-requires : tie.Need-put-start-mark-requires
+put-start-mark-requires c κs = search needs
+
+put-start-fields-requires : tie.Need-put-start-fields-requires
+put-start-fields-requires c κs = search needs
+
+same-length : tie.Need-same-length
+same-length c = search needs
+
+returns : tie.Need-returns
+returns c = search starting
+
+pub put-start-spec : {M : Type 1} → statement M
+put-start-spec =
+    tie.close (tie.spec put-start-mark-requires put-start-fields-requires same-length returns)
