@@ -78,10 +78,10 @@ def parts_of(lines, parts):
 
 
 def antt_declaration(lines, name, parts):
-    head = re.compile(rf" *(abbrev |unfoldable )?(?:pub )?(record |data )?{re.escape(name)}(?= )(?!.* = )")
+    head = re.compile(rf" *(abbrev |unfoldable )?(?:pub )?(?:(record |data ){re.escape(name)} |{re.escape(name)} :)")
     for at, line in enumerate(lines):
         found, outer = head.match(line), around(lines, at)
-        if not found or not (found[2] or re.match(rf".*{re.escape(name)} :", line)) or any("module" not in lines[k] for k in outer):
+        if not found or any(not lines[k].strip().startswith("module ") for k in outer):
             continue
         body = lines[at:below(lines, at)]
         if parts:
@@ -226,7 +226,7 @@ FILES = {
 -- no : thing
 module _ (p : A)
     (q : B) where
-  pub told : (s : List) → s ≡ s
+  pub told : (s : List) → s ≡ record { n = s }
       → s ≡ q
   told s = refl
 
@@ -243,7 +243,7 @@ pub record Two (n : ℕ) : Type 0 where
     "c/l.rt": "// gone\npub fn pick(n: u8) -> u8\n    ensures { n }\n{\n    n\n}\n",
     "c/same.edit": "",
 }
-TOLD = "module _ (p : A)\n    (q : B) where\n  pub told : (s : List) → s ≡ s\n      → s ≡ q\n"
+TOLD = "module _ (p : A)\n    (q : B) where\n  pub told : (s : List) → s ≡ record { n = s }\n      → s ≡ q\n"
 INDEX_WRONG = {
     "- `goo` (`c/A.antt`)": "goo is not in c/A.antt",
     "- `a` (`c/A.antt`)": "a is not in c/A.antt",
