@@ -104,7 +104,7 @@ FAULTS = [
     ("write.c", "the width is not looked at", "layer.width != r.width || ", ""),
     ("write.c", "the height is not looked at", "layer.height != r.height ||", ""),
     ("write.c", "the resolution is not looked at",
-     " ||\n           layer.resolution != r.resolution", ""),
+     " || layer.resolution != r.resolution", ""),
     ("write.c", "width and height swapped", "layer.width != r.width || layer.height != r.height",
      "layer.width != r.height || layer.height != r.width"),
     ("write.c", "the low octet of the width only",

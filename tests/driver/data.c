@@ -48,8 +48,7 @@ struct trial {
 
 static bool is_empty(spirerook_part part)
 {
-    return part.count == 0 && part.source == SPIREROOK_FROM_PAGE &&
-           part.start == 0;
+    return part.count == 0 && part.source == SPIREROOK_FROM_PAGE && part.start == 0;
 }
 
 /* What is wrong with a refusal by itself, or null. */
@@ -77,8 +76,7 @@ static const char *bad_answer(const struct work *work, spirerook_part part)
     if (part.place != 0) {
         return "Done with a place";
     }
-    if (part.source != SPIREROOK_FROM_PAGE &&
-        part.source != SPIREROOK_FROM_PENCIL) {
+    if (part.source != SPIREROOK_FROM_PAGE && part.source != SPIREROOK_FROM_PENCIL) {
         return "no such source";
     }
     if (part.count == 0) {
@@ -104,9 +102,8 @@ static const char *breach(const struct trial *trial, const struct work *work)
 
 static bool is_same(spirerook_part one, spirerook_part other)
 {
-    return one.number == other.number && one.place == other.place &&
-           one.count == other.count && one.source == other.source &&
-           one.start == other.start;
+    return one.number == other.number && one.place == other.place && one.count == other.count &&
+           one.source == other.source && one.start == other.start;
 }
 
 static void print_answer(const struct work *work, spirerook_part part)
@@ -115,10 +112,8 @@ static void print_answer(const struct work *work, spirerook_part part)
         printf("refused %u %u\n", (unsigned)part.number, (unsigned)part.place);
         return;
     }
-    printf("done %zu %u %u\n", (size_t)part.count, (unsigned)part.source,
-           (unsigned)part.start);
-    fwrite(work->parts[1 + part.source].octets + part.start, 1,
-           (size_t)part.count, stdout);
+    printf("done %zu %u %u\n", (size_t)part.count, (unsigned)part.source, (unsigned)part.start);
+    fwrite(work->parts[1 + part.source].octets + part.start, 1, (size_t)part.count, stdout);
 }
 
 static void ask(struct trial *trial, const struct work *work, bool nulls)
@@ -129,10 +124,8 @@ static void ask(struct trial *trial, const struct work *work, bool nulls)
         memcpy(trial->parts[k], work->parts[k].octets, size);
         lent[k] = nulls && size == 0 ? NULL : trial->parts[k];
     }
-    trial->answer = spirerook_data(lent[0], work->parts[0].size, lent[1],
-                                   work->parts[1].size, lent[2],
-                                   work->parts[2].size, work->stripe,
-                                   work->layer);
+    trial->answer = spirerook_data(lent[0], work->parts[0].size, lent[1], work->parts[1].size,
+                                   lent[2], work->parts[2].size, work->stripe, work->layer);
 }
 
 /* False: no memory. */

@@ -44,24 +44,19 @@ static spirerook_part make_call(const struct call *c, uint8_t *const p[LENT])
     const uint64_t *n = c->sizes;
     uint32_t first = (uint32_t)c->first, second = (uint32_t)c->second;
     switch (c->which) {
-    case 0:
-        return as_part(spirerook_read(p[0], n[0], p[3], n[3]));
-    case 1:
-        return as_part(spirerook_write(p[0], n[0], p[1], n[1], p[3], n[3]));
+    case 0: return as_part(spirerook_read(p[0], n[0], p[3], n[3]));
+    case 1: return as_part(spirerook_write(p[0], n[0], p[1], n[1], p[3], n[3]));
     case 2:
-        return as_part(spirerook_line(p[0], n[0], p[1], n[1], p[2], n[2],
-                                      first, second, p[3], n[3]));
-    default:
-        return spirerook_data(p[0], n[0], p[1], n[1], p[2], n[2], first,
-                              second);
+        return as_part(
+            spirerook_line(p[0], n[0], p[1], n[1], p[2], n[2], first, second, p[3], n[3]));
+    default: return spirerook_data(p[0], n[0], p[1], n[1], p[2], n[2], first, second);
     }
 }
 
-static void print_answer(const struct call *call, spirerook_part part,
-                         const uint8_t *out)
+static void print_answer(const struct call *call, spirerook_part part, const uint8_t *out)
 {
-    printf("%" PRIu32 " %" PRIu32 " %" PRIu64 " %" PRIu32 " %" PRIu32 " ",
-           part.number, part.place, part.count, part.source, part.start);
+    printf("%" PRIu32 " %" PRIu32 " %" PRIu64 " %" PRIu32 " %" PRIu32 " ", part.number, part.place,
+           part.count, part.source, part.start);
     for (uint64_t k = 0; k < call->shown; k++) {
         printf("%02x", (unsigned)out[k]);
     }
@@ -114,8 +109,8 @@ static bool far_many(const uint8_t *input, size_t octets)
         for (size_t k = 0; k < NUMBERS; k++, at += 8) {
             n[k] = eight_octets(input + at);
         }
-        struct call call = {n[0], {n[1], n[2], n[3], n[7]}, {n[4], n[5], n[6]},
-                            n[8], n[9], n[10], input + at};
+        struct call call = {
+            n[0], {n[1], n[2], n[3], n[7]}, {n[4], n[5], n[6]}, n[8], n[9], n[10], input + at};
         if (!is_whole(&call, octets - at)) {
             return false;
         }

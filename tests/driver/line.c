@@ -72,10 +72,8 @@ static size_t most_place(const struct work *work, spirerook_answer answer)
 /* What is wrong with an answer by itself, or null. */
 static const char *bad_answer(const struct work *work, spirerook_answer answer)
 {
-    bool listed = answer.number == SPIREROOK_DONE ||
-                  answer.number == SPIREROOK_BAD_SHEET ||
-                  answer.number == SPIREROOK_BAD_LINE ||
-                  answer.number == SPIREROOK_BAD_PLANE ||
+    bool listed = answer.number == SPIREROOK_DONE || answer.number == SPIREROOK_BAD_SHEET ||
+                  answer.number == SPIREROOK_BAD_LINE || answer.number == SPIREROOK_BAD_PLANE ||
                   answer.number == SPIREROOK_NO_ROOM;
     if (!listed) {
         return "no number of a line";
@@ -95,8 +93,7 @@ static const char *bad_answer(const struct work *work, spirerook_answer answer)
 /* Whether these octets are all as they were. */
 static bool is_filled(const uint8_t *octets, size_t size, uint8_t filled)
 {
-    return size == 0 ||
-           (octets[0] == filled && memcmp(octets, octets + 1, size - 1) == 0);
+    return size == 0 || (octets[0] == filled && memcmp(octets, octets + 1, size - 1) == 0);
 }
 
 /* Whether all octets that the answer does not own are as they were. */
@@ -104,8 +101,7 @@ static bool untouched(const struct trial *trial)
 {
     const uint8_t *behind = trial->buffer + written(trial->answer);
     const uint8_t *end = trial->fence + trial->fenced;
-    return is_filled(trial->fence, (size_t)(trial->buffer - trial->fence),
-                     trial->filled) &&
+    return is_filled(trial->fence, (size_t)(trial->buffer - trial->fence), trial->filled) &&
            is_filled(behind, (size_t)(end - behind), trial->filled);
 }
 
@@ -114,8 +110,7 @@ static bool are_pixels(const struct trial *trial)
 {
     const uint8_t *pixel = trial->buffer;
     for (size_t at = 0; at < written(trial->answer); at += 4, pixel += 4) {
-        bool unseen = pixel[0] == 0 && pixel[1] == 0 && pixel[2] == 0 &&
-                      pixel[3] == 0;
+        bool unseen = pixel[0] == 0 && pixel[1] == 0 && pixel[2] == 0 && pixel[3] == 0;
         if (!unseen && pixel[3] != 1) {
             return false;
         }
@@ -159,8 +154,7 @@ static void print_answer(const struct trial *trial)
 {
     spirerook_answer answer = trial->answer;
     if (answer.number != SPIREROOK_DONE) {
-        printf("refused %u %u\n", (unsigned)answer.number,
-               (unsigned)answer.place);
+        printf("refused %u %u\n", (unsigned)answer.number, (unsigned)answer.place);
         return;
     }
     printf("done %zu\n", written(answer));
@@ -176,16 +170,14 @@ static void compose(struct trial *trial, const struct work *work, bool nulls)
         lent[k] = nulls && size == 0 ? NULL : trial->parts[k];
     }
     memset(trial->fence, trial->filled, trial->fenced);
-    trial->answer = spirerook_line(
-        lent[0], work->parts[0].size, lent[1], work->parts[1].size, lent[2],
-        work->parts[2].size, work->stripe, work->line,
-        nulls && work->room == 0 ? NULL : trial->buffer, work->room);
+    trial->answer = spirerook_line(lent[0], work->parts[0].size, lent[1], work->parts[1].size,
+                                   lent[2], work->parts[2].size, work->stripe, work->line,
+                                   nulls && work->room == 0 ? NULL : trial->buffer, work->room);
 }
 
 /* Where each trial has what is lent to it. */
 static void place_trials(struct trial trials[TRIALS], const struct work *work,
-                         const struct lent parts[PARTS],
-                         const struct lent buffers[TRIALS])
+                         const struct lent parts[PARTS], const struct lent buffers[TRIALS])
 {
     for (size_t k = 0; k < PARTS; k++) {
         trials[0].parts[k] = lent_last(&parts[k], work->parts[k].size);
@@ -206,8 +198,7 @@ static void place_trials(struct trial trials[TRIALS], const struct work *work,
 static bool line_one(const struct work *work)
 {
     static struct lent parts[PARTS], buffers[TRIALS];
-    struct trial trials[TRIALS] = {
-        {.filled = 0xA5}, {.filled = 0x5A}, {.filled = 0x01}};
+    struct trial trials[TRIALS] = {{.filled = 0xA5}, {.filled = 0x5A}, {.filled = 0x01}};
     const char *wrong = NULL;
     for (size_t k = 0; k < PARTS; k++) {
         if (!lent_has(&parts[k], work->parts[k].size + GUARD)) {
@@ -237,8 +228,8 @@ static bool line_one(const struct work *work)
 
 static size_t four_octets(const uint8_t *octets)
 {
-    return (size_t)octets[0] << 24 | (size_t)octets[1] << 16 |
-           (size_t)octets[2] << 8 | (size_t)octets[3];
+    return (size_t)octets[0] << 24 | (size_t)octets[1] << 16 | (size_t)octets[2] << 8 |
+           (size_t)octets[3];
 }
 
 static bool line_many(const uint8_t *input, size_t octets)
@@ -249,8 +240,8 @@ static bool line_many(const uint8_t *input, size_t octets)
         for (size_t k = 0; k < NUMBERS; k++, at += 4) {
             number[k] = four_octets(input + at);
         }
-        struct work work = {.room = number[3], .stripe = (uint32_t)number[4],
-                            .line = (uint32_t)number[5]};
+        struct work work = {
+            .room = number[3], .stripe = (uint32_t)number[4], .line = (uint32_t)number[5]};
         for (size_t k = 0; k < PARTS; k++) {
             if (octets - at < number[k]) {
                 return false;

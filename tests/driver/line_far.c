@@ -46,16 +46,13 @@ static void put_told(const struct call *call, uint8_t *samples)
     }
 }
 
-static void compose(const struct call *call, const uint8_t *samples,
-                    uint8_t *out)
+static void compose(const struct call *call, const uint8_t *samples, uint8_t *out)
 {
     spirerook_answer answer = spirerook_line(
-        call->octets, call->sheet, call->octets + call->sheet, call->planes,
-        samples, call->samples, (uint32_t)call->stripe, (uint32_t)call->line,
-        out, call->room);
+        call->octets, call->sheet, call->octets + call->sheet, call->planes, samples, call->samples,
+        (uint32_t)call->stripe, (uint32_t)call->line, out, call->room);
     if (answer.number != SPIREROOK_DONE || answer.count > call->room) {
-        printf("refused %u %u\n", (unsigned)answer.number,
-               (unsigned)answer.place);
+        printf("refused %u %u\n", (unsigned)answer.number, (unsigned)answer.place);
     } else {
         printf("done %zu\n", (size_t)answer.count);
         fwrite(out, 1, (size_t)answer.count, stdout);
@@ -68,8 +65,8 @@ static bool line_one(const struct call *call)
     uint64_t edge = (uint64_t)sysconf(_SC_PAGESIZE);
     uint64_t inner = (call->samples / edge + 1) * edge;
     uint8_t *out = malloc(call->room + 1);
-    uint8_t *all = mmap(NULL, inner + edge, PROT_NONE,
-                        MAP_PRIVATE | MAP_ANONYMOUS | MAP_NORESERVE, -1, 0);
+    uint8_t *all = mmap(NULL, inner + edge, PROT_NONE, MAP_PRIVATE | MAP_ANONYMOUS | MAP_NORESERVE,
+                        -1, 0);
     bool lent = out != NULL && all != MAP_FAILED &&
                 mprotect(all, inner, PROT_READ | PROT_WRITE) == 0;
     if (lent) {
@@ -92,8 +89,7 @@ static bool line_many(const uint8_t *input, size_t octets)
         for (size_t k = 0; k < NUMBERS; k++, at += 8) {
             n[k] = eight_octets(input + at);
         }
-        struct call call = {n[0], n[1], n[2], n[3], n[4], n[5], n[6],
-                            input + at};
+        struct call call = {n[0], n[1], n[2], n[3], n[4], n[5], n[6], input + at};
         uint64_t size = call.sheet + call.planes + call.told * TOLD;
         if (octets - at < size) {
             return false;

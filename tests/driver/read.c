@@ -41,9 +41,7 @@ struct trial {
 
 static size_t written(spirerook_answer answer)
 {
-    return answer.number == SPIREROOK_DONE
-               ? (size_t)answer.count * RECORD_OCTETS
-               : 0;
+    return answer.number == SPIREROOK_DONE ? (size_t)answer.count * RECORD_OCTETS : 0;
 }
 
 /* What is wrong with an answer by itself, or null. */
@@ -120,8 +118,7 @@ static void print_answer(const struct trial *trial)
 {
     spirerook_answer answer = trial->answer;
     if (answer.number != SPIREROOK_DONE) {
-        printf("refused %u %u\n", (unsigned)answer.number,
-               (unsigned)answer.place);
+        printf("refused %u %u\n", (unsigned)answer.number, (unsigned)answer.place);
         return;
     }
     for (size_t i = 0; i < answer.count; i++) {
@@ -146,11 +143,18 @@ static bool read_one(const uint8_t *page, size_t octets, size_t room)
         return false;
     }
     uint8_t *last = lent_last(&firsts, room + GUARD);
-    struct trial trials[2] = {
-        {.page = lent_last(&pages, octets), .octets = octets, .room = room,
-         .fence = last, .buffer = last + GUARD, .filled = 0xA5},
-        {.page = pages.octets, .octets = octets, .room = room,
-         .fence = seconds.octets, .buffer = seconds.octets, .filled = 0x5A}};
+    struct trial trials[2] = {{.page = lent_last(&pages, octets),
+                               .octets = octets,
+                               .room = room,
+                               .fence = last,
+                               .buffer = last + GUARD,
+                               .filled = 0xA5},
+                              {.page = pages.octets,
+                               .octets = octets,
+                               .room = room,
+                               .fence = seconds.octets,
+                               .buffer = seconds.octets,
+                               .filled = 0x5A}};
     const char *wrong = NULL;
     for (size_t k = 0; k < 2 && wrong == NULL; k++) {
         memcpy(trials[k].page, page, octets);
@@ -170,8 +174,8 @@ static bool read_one(const uint8_t *page, size_t octets, size_t room)
 
 static size_t four_octets(const uint8_t *octets)
 {
-    return (size_t)octets[0] << 24 | (size_t)octets[1] << 16 |
-           (size_t)octets[2] << 8 | (size_t)octets[3];
+    return (size_t)octets[0] << 24 | (size_t)octets[1] << 16 | (size_t)octets[2] << 8 |
+           (size_t)octets[3];
 }
 
 static bool read_many(const uint8_t *input, size_t octets)
@@ -200,8 +204,7 @@ static bool read_alone(const char *room)
     size_t octets;
     uint8_t *input = read_standard_input(&octets);
     bool done = input != NULL &&
-                read_one(input, octets,
-                         room == NULL ? LARGEST_SHEET : strtoul(room, NULL, 10));
+                read_one(input, octets, room == NULL ? LARGEST_SHEET : strtoul(room, NULL, 10));
     free(input);
     return done;
 }
@@ -212,8 +215,8 @@ int main(int arguments, char **words)
     if (word != NULL && strcmp(word, "many") == 0) {
         return run_many(arguments, words, "read", read_many);
     }
-    if (arguments > 2 || (word != NULL && (*word == '\0' ||
-                          word[strspn(word, "0123456789")] != '\0'))) {
+    if (arguments > 2 ||
+        (word != NULL && (*word == '\0' || word[strspn(word, "0123456789")] != '\0'))) {
         fputs("use: read [ROOM | many]\n", stderr);
         return EXIT_FAILURE;
     }

@@ -62,16 +62,12 @@ static spirerook_part call(const struct job *j, uint8_t *out)
     const uint8_t *const *p = j->parts;
     const size_t *n = j->sizes;
     switch (j->call) {
-    case 0:
-        return as_part(spirerook_read(p[0], n[0], out, j->room));
-    case 1:
-        return as_part(spirerook_write(p[0], n[0], p[1], n[1], out, j->room));
+    case 0: return as_part(spirerook_read(p[0], n[0], out, j->room));
+    case 1: return as_part(spirerook_write(p[0], n[0], p[1], n[1], out, j->room));
     case 2:
-        return as_part(spirerook_line(p[0], n[0], p[1], n[1], p[2], n[2],
-                                      j->first, j->second, out, j->room));
-    default:
-        return spirerook_data(p[0], n[0], p[1], n[1], p[2], n[2], j->first,
-                              j->second);
+        return as_part(
+            spirerook_line(p[0], n[0], p[1], n[1], p[2], n[2], j->first, j->second, out, j->room));
+    default: return spirerook_data(p[0], n[0], p[1], n[1], p[2], n[2], j->first, j->second);
     }
 }
 
@@ -85,8 +81,7 @@ static bool make_result(struct result *result, const struct job *job)
     return result->out != NULL;
 }
 
-static bool is_same(const struct result *one, const struct result *other,
-                    const struct job *job)
+static bool is_same(const struct result *one, const struct result *other, const struct job *job)
 {
     spirerook_part a = one->answer, b = other->answer;
     return a.number == b.number && a.place == b.place && a.count == b.count &&
@@ -102,8 +97,7 @@ static void *run_task(void *task)
 }
 
 /* Runs a function in a thread with these attributes.  False: it did not run. */
-static bool in_thread(pthread_attr_t *attributes, void *(*function)(void *),
-                      void *argument)
+static bool in_thread(pthread_attr_t *attributes, void *(*function)(void *), void *argument)
 {
     pthread_t thread;
     return pthread_create(&thread, attributes, function, argument) == 0 &&
@@ -145,12 +139,10 @@ static size_t touched(uint8_t *stack, void *(*function)(void *), void *task)
 }
 
 /* What is wrong with a job by itself, or null; the stack that it takes. */
-static const char *alone(const struct job *job, struct result *due,
-                         uint8_t *stack, size_t *most)
+static const char *alone(const struct job *job, struct result *due, uint8_t *stack, size_t *most)
 {
     struct result small, painted;
-    if (!make_result(due, job) || !make_result(&small, job) ||
-        !make_result(&painted, job)) {
+    if (!make_result(due, job) || !make_result(&small, job) || !make_result(&painted, job)) {
         return "no memory";
     }
     due->answer = call(job, due->out);
@@ -196,8 +188,7 @@ static void *run_round(void *round)
     return NULL;
 }
 
-static bool at_once(const struct job *jobs, const struct result *due,
-                    size_t count)
+static bool at_once(const struct job *jobs, const struct result *due, size_t count)
 {
     pthread_t threads[THREADS];
     struct round rounds[THREADS];
@@ -216,8 +207,7 @@ static bool at_once(const struct job *jobs, const struct result *due,
 }
 
 /* The jobs of standard input, or 0 of them where it tells none. */
-static size_t read_jobs(const uint8_t *input, size_t octets,
-                        struct job jobs[MOST])
+static size_t read_jobs(const uint8_t *input, size_t octets, struct job jobs[MOST])
 {
     size_t at = 0, count = 0;
     while (count < MOST && octets - at >= 4 * NUMBERS) {
@@ -254,12 +244,10 @@ static const char *run_jobs(const struct job *jobs, size_t count)
         if (wrong != NULL) {
             return wrong;
         }
-        printf("%u %u %zu\n", (unsigned)jobs[k].call,
-               (unsigned)due[k].answer.number, most);
+        printf("%u %u %zu\n", (unsigned)jobs[k].call, (unsigned)due[k].answer.number, most);
         fflush(stdout); /* where the next call ends it, this one is told */
     }
-    return at_once(jobs, due, count) ? NULL
-                                     : "threads at once give another result";
+    return at_once(jobs, due, count) ? NULL : "threads at once give another result";
 }
 
 int main(void)
@@ -268,8 +256,7 @@ int main(void)
     size_t octets;
     uint8_t *input = read_standard_input(&octets);
     size_t count = input == NULL ? 0 : read_jobs(input, octets, jobs);
-    const char *wrong = count == 0 ? "no calls on standard input"
-                                   : run_jobs(jobs, count);
+    const char *wrong = count == 0 ? "no calls on standard input" : run_jobs(jobs, count);
     if (wrong != NULL) {
         fprintf(stderr, "threads: %s\n", wrong);
     }

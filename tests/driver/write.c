@@ -70,8 +70,7 @@ static const char *bad_answer(const struct trial *trial, struct part sheet)
 /* Whether these octets are all as they were. */
 static bool is_filled(const uint8_t *octets, size_t size, uint8_t filled)
 {
-    return size == 0 ||
-           (octets[0] == filled && memcmp(octets, octets + 1, size - 1) == 0);
+    return size == 0 || (octets[0] == filled && memcmp(octets, octets + 1, size - 1) == 0);
 }
 
 /* Whether all octets that the answer does not own are as they were. */
@@ -79,13 +78,11 @@ static bool untouched(const struct trial *trial)
 {
     const uint8_t *behind = trial->buffer + written(trial->answer);
     const uint8_t *end = trial->fence + trial->room + GUARD;
-    return is_filled(trial->fence, (size_t)(trial->buffer - trial->fence),
-                     trial->filled) &&
+    return is_filled(trial->fence, (size_t)(trial->buffer - trial->fence), trial->filled) &&
            is_filled(behind, (size_t)(end - behind), trial->filled);
 }
 
-static const char *breach(const struct trial *trial, struct part sheet,
-                          struct part data)
+static const char *breach(const struct trial *trial, struct part sheet, struct part data)
 {
     const char *wrong = bad_answer(trial, sheet);
     if (wrong != NULL) {
@@ -121,26 +118,21 @@ static void print_answer(const struct trial *trial)
 {
     spirerook_answer answer = trial->answer;
     if (answer.number != SPIREROOK_DONE) {
-        printf("refused %u %u\n", (unsigned)answer.number,
-               (unsigned)answer.place);
+        printf("refused %u %u\n", (unsigned)answer.number, (unsigned)answer.place);
         return;
     }
     printf("done %zu\n", written(answer));
     fwrite(trial->buffer, 1, written(answer), stdout);
 }
 
-static void write_from(struct trial *trial, struct part sheet, struct part data,
-                       bool nulls)
+static void write_from(struct trial *trial, struct part sheet, struct part data, bool nulls)
 {
     memcpy(trial->sheet, sheet.octets, sheet.size);
     memcpy(trial->data, data.octets, data.size);
     memset(trial->fence, trial->filled, trial->room + GUARD);
-    trial->answer =
-        spirerook_write(nulls && sheet.size == 0 ? NULL : trial->sheet,
-                        sheet.size, nulls && data.size == 0 ? NULL : trial->data,
-                        data.size,
-                        nulls && trial->room == 0 ? NULL : trial->buffer,
-                        trial->room);
+    trial->answer = spirerook_write(nulls && sheet.size == 0 ? NULL : trial->sheet, sheet.size,
+                                    nulls && data.size == 0 ? NULL : trial->data, data.size,
+                                    nulls && trial->room == 0 ? NULL : trial->buffer, trial->room);
 }
 
 /* False: no memory. */
@@ -152,12 +144,18 @@ static bool write_one(struct part sheet, struct part data, size_t room)
         return false;
     }
     uint8_t *last = lent_last(&firsts, room + GUARD);
-    struct trial trials[2] = {
-        {.sheet = lent_last(&sheets, sheet.size),
-         .data = lent_last(&all_data, data.size), .room = room, .fence = last,
-         .buffer = last + GUARD, .filled = 0xA5},
-        {.sheet = sheets.octets, .data = all_data.octets, .room = room,
-         .fence = seconds.octets, .buffer = seconds.octets, .filled = 0x5A}};
+    struct trial trials[2] = {{.sheet = lent_last(&sheets, sheet.size),
+                               .data = lent_last(&all_data, data.size),
+                               .room = room,
+                               .fence = last,
+                               .buffer = last + GUARD,
+                               .filled = 0xA5},
+                              {.sheet = sheets.octets,
+                               .data = all_data.octets,
+                               .room = room,
+                               .fence = seconds.octets,
+                               .buffer = seconds.octets,
+                               .filled = 0x5A}};
     const char *wrong = NULL;
     for (size_t k = 0; k < 2 && wrong == NULL; k++) {
         write_from(&trials[k], sheet, data, k == 1);
@@ -176,8 +174,8 @@ static bool write_one(struct part sheet, struct part data, size_t room)
 
 static size_t four_octets(const uint8_t *octets)
 {
-    return (size_t)octets[0] << 24 | (size_t)octets[1] << 16 |
-           (size_t)octets[2] << 8 | (size_t)octets[3];
+    return (size_t)octets[0] << 24 | (size_t)octets[1] << 16 | (size_t)octets[2] << 8 |
+           (size_t)octets[3];
 }
 
 static bool write_many(const uint8_t *input, size_t octets)
