@@ -1,8 +1,8 @@
 /* Spirerook reads a mixed raster page (ITU-T T.44, Mode 1) into a table of its layers, the sheet;
- * writes a page from a sheet; hands out the coded data of a layer; and composes decoded layers into
- * lines of pixels.  docs/C-API.md is the manual, with an example.
+ * writes a page from a sheet; judges a sheet; hands out the coded data of a layer; and composes
+ * decoded layers into lines of pixels.  docs/C-API.md is the manual, with an example.
  *
- * Of all four calls:
+ * Of all calls:
  * - A caller lends octets for the time of the call, a length beside each pointer.  Any octets of
  *   any length may be lent, and any numbers given: a call does its work, or refuses with a number
  *   and a place.  A null pointer is taken where the length is 0.
@@ -26,7 +26,8 @@ extern "C" {
 
 /* The first number changes with a call or struct that viewers link, the second with a call that is
  * added. */
-#define SPIREROOK_VERSION "1.0.0"
+/* 1.1.0: spirerook_judge. */
+#define SPIREROOK_VERSION "1.1.0"
 
 /* ---- Bounds ---- */
 
@@ -104,7 +105,8 @@ static inline const char *spirerook_text(uint32_t number)
 
 /* number: one of the above.
  * place:  of a refusal, where the fault is, as each call says below; of Done, 0.
- * count:  of Done, the records or octets written, or the octets of the part; of a refusal, 0. */
+ * count:  of Done, the records or octets written, the records judged, or the octets of the part; of a
+ *         refusal, 0. */
 typedef struct {
     uint32_t number, place;
     uint64_t count;
@@ -193,6 +195,15 @@ spirerook_answer spirerook_line(const uint8_t *sheet, size_t sheet_len, const ui
 spirerook_part spirerook_data(const uint8_t *sheet, size_t sheet_len, const uint8_t *page,
                               size_t page_len, const uint8_t *pencil, size_t pencil_len,
                               uint32_t stripe, uint32_t layer);
+
+/* Judges a sheet; count tells how many records it has.  Every call that is lent a sheet judges it
+ * first, by the same rules: this one does nothing else, for those who get or make one.
+ * Lent: the sheet, for reading.  Nothing is written.
+ * Numbers:
+ *   BadSheet: the place is the first record that breaks a rule, from 0, or the number of whole
+ *     records where one more was due.  A sheet of no octets is refused, at 0.
+ *   Done. */
+spirerook_answer spirerook_judge(const uint8_t *sheet, size_t sheet_len);
 
 /* ---- Records ---- */
 
@@ -288,8 +299,8 @@ typedef struct {
     uint32_t start, length;
 } spirerook_record;
 
-/* A record: SPIREROOK_RECORD_OCTETS octets.  Whether it keeps the rules of a sheet, the calls
- * say. */
+/* A record: SPIREROOK_RECORD_OCTETS octets.  Whether it keeps the rules of a sheet, spirerook_judge
+ * says. */
 static inline void spirerook_put_record(uint8_t *record, const spirerook_record *fields)
 {
     spirerook_put2(record, fields->stripe);

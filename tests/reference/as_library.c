@@ -2,6 +2,7 @@
 #include "data.h"
 #include "line.h"
 #include "page.h"
+#include "sheet.h"
 #include "spirerook.h"
 #include "write.h"
 
@@ -31,6 +32,14 @@ spirerook_answer spirerook_line(const uint8_t *sheet, size_t sheet_len, const ui
     struct reference_answer composed = reference_line(&call, out, out_len);
     spirerook_answer shown = {composed.number, composed.place, composed.count};
     return shown;
+}
+
+/* "Done has place 0 and returns the records"; "a refusal returns 0 of them". */
+spirerook_answer spirerook_judge(const uint8_t *sheet, size_t sheet_len)
+{
+    struct verdict verdict = sheet_judge(sheet, sheet_len);
+    spirerook_answer judged = {verdict.number, (uint32_t)verdict.place, verdict.records};
+    return judged;
 }
 
 /* Only the lengths of the page and of the pencil file matter to the paper. */
