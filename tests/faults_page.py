@@ -5,11 +5,10 @@ otherwise than the table does. So a rule that no page tests shows here, as a
 fault that nobody finds.
 """
 
-import os
-import shutil
 import sys
 
 import page_making
+import planting
 import reference_run
 
 LARGE = 100000
@@ -188,18 +187,6 @@ FAULTS = [
 ]
 
 
-def plant(number, file, text):
-    """Builds the reader with one fault and answers its path."""
-    folder = os.path.join(reference_run.ROOT, "build", "faults", str(number))
-    shutil.rmtree(folder, ignore_errors=True)
-    shutil.copytree(reference_run.SOURCES, folder)
-    with open(os.path.join(folder, file), "w", encoding="utf-8") as faulty:
-        faulty.write(text)
-    # no warnings here: a fault may leave a name unused
-    return reference_run.build(os.path.join("faults", str(number), "read"), folder, ("-O1", "-w"),
-                               reference_run.READ)
-
-
 def found_by(program, cases):
     """The first page of the table whose answer is not the table's."""
     answers = reference_run.read_many(program, [(case.page, case.room) for case in cases])
@@ -210,24 +197,10 @@ def found_by(program, cases):
 
 
 def main():
-    tally = reference_run.Tally()
     cases = page_making.table()
-    small = [case for case in cases if len(case.page) <= LARGE]
-    large = [case for case in cases if len(case.page) > LARGE]
-    sound = reference_run.build("reference_read_sound", parts=reference_run.READ)
-    tally.check(found_by(sound, small) is None, "the sound reader does not fit the table")
-    for number, (file, what, old, new) in enumerate(FAULTS):
-        with open(os.path.join(reference_run.SOURCES, file), encoding="utf-8") as source:
-            text = source.read()
-        if text.count(old) != 1:
-            tally.check(False, "%s: its text stands %d times" % (what, text.count(old)))
-            continue
-        program = plant(number, file, text.replace(old, new))
-        finder = found_by(program, small) or found_by(program, large)
-        tally.check(finder is not None, "%s: %s: nobody found it" % (file, what))
-        if finder is not None:
-            print("%s: %s: found by %s" % (file, what, finder))
-    return tally.end()
+    groups = ([case for case in cases if len(case.page) <= LARGE],
+              [case for case in cases if len(case.page) > LARGE])
+    return planting.check_table("read", FAULTS, groups, found_by)
 
 
 if __name__ == "__main__":
