@@ -22,7 +22,7 @@ FAULTS = [
     ("least significant octet first",
      "number * 256 + octets[at + k]", "number * 256 + octets[at + size - 1 - k]"),
     ("the stripe's first octet is not read",
-     "number_at(octets, 0, 2)", "number_at(octets, 1, 1)"),
+     "RECORD_OCTETS, 0, 2)", "RECORD_OCTETS, 1, 1)"),
     ("octet 27 is not read",
      "number_at(octets, 26, 2)", "number_at(octets, 26, 1)"),
     ("a length's top octet is not read",

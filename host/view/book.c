@@ -68,7 +68,7 @@ static int read_pencil_sheet(const options *asked, book *opened)
     if (why != NULL) {
         return unreadable(asked->pencil_sheet, why);
     }
-    spirerook_part judged = spirerook_data(sheet.octets, sheet.length, NULL, 0, NULL, 0, 0, 0);
+    spirerook_answer judged = spirerook_judge(sheet.octets, sheet.length);
     int status = judged.number == SPIREROOK_BAD_SHEET
                      ? refused(asked->pencil_sheet, judged.number, "record", judged.place)
                      : own_layers(asked, sheet.octets, sheet.length / SPIREROOK_RECORD_OCTETS,

@@ -15,11 +15,17 @@ static uint32_t number_at(const uint8_t *octets, size_t at, size_t size)
     return number;
 }
 
+/* The stripe of a record, by itself: whoever looks for one stripe looks at every record. */
+static uint32_t stripe_of(const uint8_t *sheet, size_t number)
+{
+    return number_at(sheet + number * RECORD_OCTETS, 0, 2);
+}
+
 struct record sheet_record(const uint8_t *sheet, size_t number)
 {
     const uint8_t *octets = sheet + number * RECORD_OCTETS;
     struct record r;
-    r.stripe = number_at(octets, 0, 2);
+    r.stripe = stripe_of(sheet, number);
     r.layer = number_at(octets, 2, 1);
     r.coder = number_at(octets, 3, 1);
     r.x = number_at(octets, 4, 2);
@@ -54,9 +60,8 @@ static bool find(const uint8_t *sheet, size_t count, uint32_t stripe, uint32_t l
                  struct record *found)
 {
     for (size_t j = 0; j < count; j++) {
-        struct record r = sheet_record(sheet, j);
-        if (r.stripe == stripe && r.layer == layer) {
-            *found = r;
+        if (stripe_of(sheet, j) == stripe && sheet_record(sheet, j).layer == layer) {
+            *found = sheet_record(sheet, j);
             return true;
         }
     }
@@ -68,7 +73,7 @@ static size_t records_of_stripe(const uint8_t *sheet, size_t count, uint32_t str
 {
     size_t sum = 0;
     for (size_t j = 0; j < count; j++) {
-        if (sheet_record(sheet, j).stripe == stripe) {
+        if (stripe_of(sheet, j) == stripe) {
             sum++;
         }
     }
