@@ -22,10 +22,13 @@ from view_making import END, Shown
 
 ROOT = reference_run.ROOT
 MANUAL = os.path.join(ROOT, "docs", "VIEWER.md")
-CHANGED = 1000            # layers of each kind with one changed octet
-CUTS = 250                # places at which pages are cut
-DAMAGED = 500             # pages for the sanitized viewer
-NEAR = 6                  # points of a hundred by which a measured share may differ from the manual's
+CHANGED = reference_run.trials(300)   # layers of each kind with one changed octet
+CUTS = reference_run.trials(80)       # places at which pages are cut
+LAYER_CUTS = reference_run.trials(60) # at which a JPEG layer is cut
+DAMAGED = reference_run.trials(160)   # pages for the sanitized viewer
+# points of a hundred by which a measured share may differ from the manual's: over four standard
+# deviations of a share of a half, which is the worst
+NEAR = 220 / CHANGED ** 0.5
 STRIPES = 64
 MASKS = {"MH": (1, "mask.mh"), "MR": (2, "mask.mr"), "MMR": (4, "mask.mmr"), "T.85": (8, "mask.t85")}
 JPEGS = {"JPEG, one scan": "baseline.jpg", "JPEG, ten scans": "progressive.jpg",
@@ -107,7 +110,7 @@ def check_cuts_of_layers(kind, seed):
     rng, place, whole = random.Random(seed), Place(), layer_of(kind)
     sizes, close = range(1, len(whole)), b""
     if kind in JPEGS:
-        sizes, close = rng.sample(range(1, len(whole) - 2), 150) + scans_of(whole), b"\xff\xd9"
+        sizes, close = rng.sample(range(1, len(whole) - 2), min(LAYER_CUTS, len(whole) - 3)) + scans_of(whole), b"\xff\xd9"
         sizes = sorted(set(sizes))
     found = show_all(place, kind, [whole[:size] + close for size in sizes])
     wrong = [size for size, one in zip(sizes, found) if one == "unnoticed"]
