@@ -45,11 +45,11 @@ def own_name(path):
     return "%s.%d.%d" % (path, os.getpid(), threading.get_ident())
 
 
-def link(program, files, flags, folders):
+def link(program, files, flags, folders, libraries=()):
     """A program of C files and archives, compiled with these flags and linked with them."""
     objects = [object_of(file, flags, folders) if file.endswith(".c") else file for file in files]
     os.makedirs(os.path.dirname(program), exist_ok=True)
     made = own_name(program)
-    subprocess.run(["cc", *flags, *objects, "-o", made], check=True)
+    subprocess.run(["cc", *flags, *objects, *libraries, "-o", made], check=True)
     os.replace(made, program)
     return program

@@ -202,25 +202,11 @@ def check_cut_pages(seed):
 
 # (d) a viewer with sanitizers
 
-def sources_of_viewer():
-    """The files of the Makefile's VIEW, as it names them itself."""
-    told = subprocess.run(["make", "-C", ROOT, "-pnq", "build/spirerook-view"], check=False,
-                          stdout=subprocess.PIPE, stderr=subprocess.DEVNULL).stdout.decode()
-    objects = re.search(r"^build/spirerook-view: (.*)$", told, re.M)[1].split()
-    return [os.path.join(ROOT, name.replace("build/", "", 1)[:-2] + ".c")
-            for name in objects if name.endswith(".o")]
-
-
 def build_sanitized(folder):
-    program = os.path.join(folder, "sanitized-view")
-    subprocess.run(
-        ["cc", "-std=c11", "-D_DEFAULT_SOURCE", "-g", "-O1", "-fsanitize=address,undefined",
-         "-fno-sanitize-recover", *os.environ.get("CFLAGS", "").split(),
-         "-Wl,--wrap=setrlimit,--wrap=dup2", "-I", reference_run.HEADERS,
-         "-I", os.path.join(ROOT, "host"), "-o", program, *sources_of_viewer(),
-         os.path.join(reference_run.DRIVER, "no_limits.c"), reference_run.archive(),
-         "-ltiff", "-ljbig", "-ljpeg", "-lz", "-lm"], check=True)
-    return program
+    return view_making.build_viewer(
+        os.path.join(folder, "sanitized-view"), ("-g", "-O1", "-fsanitize=address,undefined",
+        "-fno-sanitize-recover", *os.environ.get("CFLAGS", "").split(),
+        "-Wl,--wrap=setrlimit,--wrap=dup2"), reference_run.in_driver("no_limits.c"))
 
 
 EXTREMES = [0, 1, 2, 5, 6, 0x7F, 0x80, 0xFF, 0x100, 0x7FFF, 0x8000, 0xFFFF, 0x10000, 0x7FFFFFFF,
