@@ -254,12 +254,12 @@ def batches(call, rng, count, lengths):
     yield "changed", [mutated(rng, name, GOOD[name](rng)) for _ in range(count // 3)]
     yield "random", [random_case(rng, GOOD[name](rng)) for _ in range(count // 5)]
     if name == "write":
-        yield "layers", [added_layers(rng) for _ in range(count // 14)]
-        yield "too long", [(*too_long(rng), rng.choice([0, 100])) for _ in range(count // 14)]
+        yield "layers", [added_layers(rng) for _ in range(count // 12)]
+        yield "too long", [(*too_long(rng), rng.choice([0, 100])) for _ in range(count // 20)]
     if name == "read":
         yield "fields", [faulty_field(rng) for _ in range(2 * count)]
-        yield "trailing", [trailing(rng) for _ in range(count // 14)]
+        yield "trailing", [trailing(rng) for _ in range(count // 12)]
         # a few pages, which take their memory once, in many rooms
         pages = [bytes(LONGEST + 1), bytes(LONGEST + 2), good_read(rng)[0] + bytes(LONGEST)]
         yield "too long", [(rng.choice(pages), rng.randrange(page_making.ROOM))
-                           for _ in range(count // 17)]
+                           for _ in range(count // 35)]

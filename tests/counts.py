@@ -21,7 +21,8 @@ NAMES = ("Done", "Short", "BadMark", "BadLength", "BadVersion", "BadMode", "BadC
 # what each call can give, by the paper's orders of refusals
 GIVEN = {"read": (*range(14), 18), "write": (0, 1, 5, 13, 14, 16, 18),
          "line": (0, 13, 14, 15, 17), "data": (0, 1, 14, 17), "judge": (0, 14)}
-LEAST_DONE, LEAST = 1000, 100
+LEAST_DONE, LEAST = 400, 40
+LEAST_OF = {18: 15}      # TooLong takes the most octets and tells the least
 
 
 def number_of(answer):
@@ -71,7 +72,7 @@ class Counts:
         """Enough of each number that a call can give, and none of the others."""
         for call in calls:
             for number in GIVEN[call]:
-                least = LEAST if number else LEAST_DONE
+                least = LEAST_OF.get(number, LEAST) if number else LEAST_DONE
                 tally.check(self.calls[call][number] >= least, "%s: %d cases of %s, fewer than %d"
                             % (call, self.calls[call][number], NAMES[number], least))
             others = set(self.calls[call]) - set(GIVEN[call])

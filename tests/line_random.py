@@ -15,6 +15,7 @@ SIZES = [3, 3, 5, 5, 7, 9, 11, 13, 15, 15]
 # few colours, so that sides agree often; some differ in one octet only
 COLOURS = [bytes(c) for c in ((255, 128, 96), (0, 128, 96), (0, 0, 0), (0, 128, 97), (0, 129, 96))]
 ONES = [1, 1, 1, 2, 128, 255]
+HALF_ONES = ONES + [0] * len(ONES)
 
 
 # Sheets
@@ -63,7 +64,7 @@ def mask_octets(rng, count, width):
     if kind == 0:
         return bytes([rng.choice([0, rng.choice(ONES)])]) * count
     if kind < 3:
-        return bytes(rng.choice([0, rng.choice(ONES)]) for _ in range(count))
+        return bytes(rng.choices(HALF_ONES, k=count))
     octets = bytearray()
     while len(octets) < count:
         octets += bytes([rng.choice([0, 1])]) * rng.randint(1, width)

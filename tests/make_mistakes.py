@@ -291,7 +291,7 @@ def check_outputs(tally, folder):
 
 # ---- damage
 
-DAMAGED = 240
+DAMAGED = reference_run.trials(80)
 SAFE = ["-fsanitize=address,undefined", "-fno-sanitize-recover=all", "-g", "-O1"]
 REPORT = 99
 

@@ -5,6 +5,7 @@ that a page cannot drift from its line.
 """
 
 import os
+import random
 import re
 
 from sheet_random import LISTED, heights
@@ -198,9 +199,16 @@ FRAMES = [code for code in range(0xC0, 0xD0) if code not in (0xC4, 0xC8, 0xCC)]
 SKIPPED = [0xC4, 0xC8, 0xCC] + list(range(0xDB, 0xFF))
 
 
+OCTETS = list(range(256)) + 8 * MARKS       # three of ten are marks
+STOCK = bytes(random.Random(1).choices(OCTETS, k=1 << 17))
+
+
 def random_octets(rng, size):
-    return bytes(rng.choice(MARKS) if rng.random() < 0.3 else rng.randrange(256)
-                 for _ in range(size))
+    """Octets one by one; many at once are a part of a stock, since most readers pass over them."""
+    if size <= 40:
+        return bytes(rng.choices(OCTETS, k=size))
+    at = rng.randrange(len(STOCK) - size)
+    return STOCK[at:at + size]
 
 
 def random_size(rng):
@@ -284,7 +292,7 @@ class PageInTheMaking:
     def add_stripe(self, stripe_number, height):
         rng = self.rng
         kind = rng.choice(self.types())
-        colours = bytes(rng.randrange(256) for _ in range(6))
+        colours = rng.randbytes(6)
         offsets = []
         for bit in (1, 4):  # "an absent layer's are read, dropped and not judged"
             most = 65535 if kind & bit else 2 ** 32 - 1

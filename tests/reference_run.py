@@ -1,18 +1,21 @@
 """Builds and runs the reference and the library, and runs any other program on a sheet or a page.
 
-LIBRARY names the archive that is tried in place of build/libspirerook.a.
+LIBRARY names the archive that is tried in place of build/libspirerook.a. SPIREROOK_TRIALS tells how
+much more than in `make test` is tried where cases are random: 10 is ten times as many.
 """
 
 import os
 import re
 import subprocess
 
-ROOT = os.path.dirname(os.path.dirname(os.path.abspath(__file__)))
+import compiling
+
+ROOT = compiling.ROOT
 SOURCES = os.path.join(ROOT, "tests", "reference")
 HEADERS = os.path.join(ROOT, "include")
 DRIVER = os.path.join(ROOT, "tests", "driver")
 WARNINGS = ["-std=c11", "-Wall", "-Wextra", "-Wpedantic", "-Werror"]
-SECONDS = 20
+SECONDS = 60         # by the clock; a run takes a few, but others may work on the machine
 LIST = ("sheet.c", "console.c", "list.c")
 CALLS = ("page.c", "reading.c", "stripe.c", "jpeg.c", "write.c", "line.c", "data.c", "sheet.c",
          "as_library.c")
@@ -36,32 +39,23 @@ def parts_of(name):
     return CALLS + tuple(file for file in driver_of(name) if file not in CALLS)
 
 
-def build(name="reference_list", sources=SOURCES, flags=("-O2",), parts=LIST):
-    """Builds a program of the reference into build/ and answers its path.
+def trials(count):
+    """How many random cases are tried of those that `make test` has this many of."""
+    return max(1, round(count * float(os.environ.get("SPIREROOK_TRIALS") or 1)))
 
-    It is renamed when it is whole: another test may build or run the same one.
-    """
-    folder = os.path.join(ROOT, "build")
-    os.makedirs(folder, exist_ok=True)
-    program = os.path.join(folder, name)
-    made = "%s.%d" % (program, os.getpid())
-    files = [os.path.join(sources, file) for file in parts]
-    folders = ["-I", sources, "-I", DRIVER, "-I", HEADERS]
-    subprocess.run(["cc", *WARNINGS, *flags, *folders, *files, "-o", made], check=True)
-    os.replace(made, program)
-    return program
+
+def build(name="reference_list", sources=SOURCES, flags=("-O2",), parts=LIST):
+    """Builds a program of the reference into build/ and answers its path."""
+    return compiling.link(os.path.join(ROOT, "build", name),
+                          [os.path.join(sources, file) for file in parts],
+                          (*WARNINGS, *flags), (sources, DRIVER, HEADERS))
 
 
 def build_archive(name, sources=SOURCES, flags=("-O2",)):
     """The reference as an archive with the library's calls, so that the tests can try it, or one
     with a fault in it, in the library's place."""
-    folder = os.path.join(ROOT, "build", name + ".objects")
-    os.makedirs(folder, exist_ok=True)
-    objects = []
-    for file in CALLS:
-        objects.append(os.path.join(folder, file[:-2] + ".o"))
-        subprocess.run(["cc", *WARNINGS, *flags, "-I", sources, "-I", HEADERS, "-c",
-                        os.path.join(sources, file), "-o", objects[-1]], check=True)
+    objects = [compiling.object_of(os.path.join(sources, file), (*WARNINGS, *flags),
+                                   (sources, HEADERS)) for file in CALLS]
     path = os.path.join(ROOT, "build", name + ".a")
     if os.path.exists(path):
         os.remove(path)
@@ -108,11 +102,21 @@ def build_library_driver(tally, name="read", driver=None):
     return build("library_" + name, parts=(driver or driver_of(name)) + (path,))
 
 
+def as_input(octets):
+    """A file of these octets, in memory: Python feeds a pipe in small pieces, which takes longer
+    than most programs here take over what they read."""
+    file = os.fdopen(os.memfd_create("input"), "w+b")
+    file.write(octets)
+    file.seek(0)
+    return file
+
+
 def ended(program, octets, words):
     """(standard output, standard error, how it went wrong or "") of a program."""
     try:
-        done = subprocess.run([program, *words], input=octets, stdout=subprocess.PIPE,
-                              stderr=subprocess.PIPE, timeout=SECONDS, check=False)
+        with as_input(octets) as given:
+            done = subprocess.run([program, *words], stdin=given, stdout=subprocess.PIPE,
+                                  stderr=subprocess.PIPE, timeout=SECONDS, check=False)
     except subprocess.TimeoutExpired as late:
         return late.stdout or b"", b"", "no end after %d seconds" % SECONDS
     signal = "ended by signal %d" % -done.returncode if done.returncode < 0 else ""

@@ -6,6 +6,7 @@ that a sheet cannot drift from its line.
 
 import os
 import re
+import struct
 
 RECORD = 28
 MAIN = 400
@@ -24,6 +25,7 @@ FIELDS = {
     "length": (22, 4),
 }
 FIELDS.update({"octet%d" % k: (k, 1) for k in range(RECORD)})
+LAYOUT = struct.Struct(">HBBHHHHHBBBxIIxx")
 
 WHITE = (255, 128, 96)
 BLACK = (0, 128, 96)
@@ -31,16 +33,8 @@ BLACK = (0, 128, 96)
 
 def record(stripe, layer, coder, x, y, width, height, resolution, colour, start, length):
     """The 28 octets of a record."""
-    made = bytearray(RECORD)
-    values = {
-        "stripe": stripe, "layer": layer, "coder": coder, "x": x, "y": y,
-        "width": width, "height": height, "resolution": resolution,
-        "start": start, "length": length,
-    }
-    for name, value in values.items():
-        put(made, 0, name, value)
-    made[14:17] = bytes(colour)
-    return made
+    return bytearray(LAYOUT.pack(stripe, layer, coder, x, y, width, height, resolution,
+                                 *colour, start, length))
 
 
 def put(sheet, number, field, value):

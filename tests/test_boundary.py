@@ -21,8 +21,8 @@ import calls
 import counts
 import reference_run
 
-COUNT = 1800         # good cases of each call, and as many damaged
-LENGTHS = 4          # small cases of each call that are tried at every length
+COUNT = reference_run.trials(700)    # good cases of each call, and as many damaged
+LENGTHS = 2          # small cases of each call that are tried at every length
 CASES = os.path.join(reference_run.ROOT, "tests", "cases")
 
 

@@ -15,9 +15,9 @@ import data_making
 import data_random
 import reference_run
 
-GOOD = 3000
+GOOD = reference_run.trials(1500)
 BESIDE = 400         # stripes and layers that are not there
-DAMAGED = 1500
+DAMAGED = reference_run.trials(800)
 ENDS = 40            # calls with the sources cut at every octet
 SANITIZED = ("-O2", "-fsanitize=address,undefined", "-fno-sanitize-recover=all")
 

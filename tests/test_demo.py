@@ -22,7 +22,8 @@ MAGENTA, GREEN = bytes([255, 0, 255]), bytes([0, 255, 0])
 
 
 def run(words, octets=b""):
-    done = subprocess.run(words, input=octets, cwd=LAYERS, check=False, stdout=subprocess.PIPE, stderr=subprocess.PIPE)
+    with reference_run.as_input(octets) as given:
+        done = subprocess.run(words, stdin=given, cwd=LAYERS, check=False, stdout=subprocess.PIPE, stderr=subprocess.PIPE)
     if done.returncode:
         raise RuntimeError("%s: %s" % (words, done.stderr.decode("utf-8", "replace")[-300:]))
     return done.stdout

@@ -90,8 +90,9 @@ def full_stripes():
 def in_stack(program, stack, words):
     """What a driver prints in `stack` KiB and an empty environment."""
     limited = ["sh", "-c", 'ulimit -s "$1" && exec "$0" many', program, str(stack)]
-    done = subprocess.run(limited, input=words, stdout=subprocess.PIPE, stderr=subprocess.PIPE,
-                          env={}, timeout=reference_run.SECONDS, check=False)
+    with reference_run.as_input(words) as given:
+        done = subprocess.run(limited, stdin=given, stdout=subprocess.PIPE, stderr=subprocess.PIPE,
+                              env={}, timeout=reference_run.SECONDS, check=False)
     return done.stdout if done.returncode == 0 else b"ended with %d" % done.returncode
 
 

@@ -16,9 +16,9 @@ import line_random
 import reference_run
 import sheet_random
 
-GOOD = 2400
-PLANES = 900         # plane lists with faults
-SHEETS = 900         # damaged sheets
+GOOD = reference_run.trials(1500)
+PLANES = 600         # plane lists with faults
+SHEETS = 600         # damaged sheets
 NOISE = 200          # random octets as a sheet
 ROOMS = 60           # lines asked for in every room around their size
 LINES = 250          # stripes and lines asked for beside those that there are

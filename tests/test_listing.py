@@ -14,10 +14,11 @@ import reference_run
 import sheet_making
 import sheet_random
 
-SHEETS = 3600
-UNDAMAGED = 500
-LEAST_GOOD = 300
-LEAST_REFUSED = 1000
+# each takes two processes; the judge behind it has its own call, which takes far more (test_boundary)
+SHEETS = reference_run.trials(360)
+UNDAMAGED = SHEETS // 6
+LEAST_GOOD = SHEETS // 12
+LEAST_REFUSED = SHEETS // 3
 LARGEST = 26880
 
 # "A listing" of the paper

@@ -18,6 +18,7 @@ import make_mistakes
 import reference_run
 from make_kinds import kinds
 from make_kit import CODERS, SHOWN, make, read, write
+from page_making import ROOM
 
 WHITE, BLACK = (255, 128, 96), (0, 128, 96)
 SIZES = [(1, 1), (7, 3), (33, 130), (208, 60), (1728, 40)]
@@ -25,7 +26,7 @@ SIZES = [(1, 1), (7, 3), (33, 130), (208, 60), (1728, 40)]
 
 def listing(reader, page):
     """The reference's records of a page, as rows of numbers."""
-    printed = reference_run.run(reader, page)[0]
+    printed = reference_run.read_many(reader, [(page, ROOM)])[0]
     if "refused" in printed or not printed:
         return printed
     return [list(map(int, line.split())) for line in printed.splitlines()]

@@ -14,8 +14,8 @@ import counts
 import page_making
 import reference_run
 
-GOOD = 500
-DAMAGED = 2500
+GOOD = reference_run.trials(300)
+DAMAGED = reference_run.trials(1800)
 POSITIONS = 140      # more than a reader looks at in one step
 LARGE = 10000        # a page above this is cut only at some octets
 FIRST_CODED = 61     # no coded data of a Mode 1 page stands before this
@@ -31,11 +31,10 @@ def room_for(page):
 class Reader:
     """The reference, and beside it the library, if there is one."""
 
-    def __init__(self, tally):
-        self.tally = tally
-        self.reference = reference_run.build("reference_read", flags=SANITIZED,
+    def __init__(self, tally, library, name, flags):
+        self.tally, self.library = tally, library
+        self.reference = reference_run.build(name, flags=flags,
                                              parts=reference_run.parts_of("read"))
-        self.library = reference_run.build_library_driver(tally)
         self.compared, self.counts = 0, counts.Counts()
 
     def lines(self, told, pages):
@@ -240,16 +239,22 @@ def main():
     seed = int(os.environ.get("SEED") or random.randrange(2 ** 32))
     print("SEED=%d" % seed)
     tally = reference_run.Tally()
-    reader = Reader(tally)
+    library = reference_run.build_library_driver(tally)
+    # where each step of the reference is watched it takes its time: cut pages are many
+    reader = Reader(tally, library, "reference_read", SANITIZED)
+    plain = Reader(tally, library, "reference_read_plain", ("-O2",))
     cases = page_making.table()
     check_table(tally, reader, cases)
-    check_rooms(tally, reader, cases)
+    check_rooms(tally, plain, cases)
     check_pages(tally, reader, [*code_pages(), *position_pages()])
-    check_cuts(tally, reader, cases, random.Random(seed))
+    check_cuts(tally, plain, cases, random.Random(seed))
+    check_cuts(tally, reader, cases[::12], random.Random(seed))
     check_good(tally, reader, random.Random(seed + 1))
     check_damaged(tally, reader, random.Random(seed + 2))
-    if reader.library is not None:
-        print("%d pages read by the reference and by the library" % reader.compared)
+    if library is not None:
+        print("%d pages read by the reference and by the library"
+              % (reader.compared + plain.compared))
+        reader.counts.join(plain.counts)
         reader.counts.save("test_pages_reference")
     return tally.end()
 

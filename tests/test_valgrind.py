@@ -15,7 +15,7 @@ import boundary_making
 import calls
 import reference_run
 
-COUNT = 60           # good cases of each call, and as many damaged
+COUNT = reference_run.trials(40)     # good cases of each call, and as many damaged
 LENGTHS = 1          # small cases of each call that are tried at every length
 WRONG = 99           # the status of a program in which valgrind finds an error
 VALGRIND = """#!/bin/sh
@@ -46,18 +46,17 @@ def check_watch(tally):
 
 def check_call(tally, both, rng):
     """Valgrind ends a program at its first error, so that an answer is missing."""
-    program = watched(both.library)
-    ran = 0
-    for what, cases in boundary_making.batches(both.call, rng, COUNT, LENGTHS):
-        if what == "too long":      # megabytes that no call looks at, and valgrind at each octet
-            continue
-        due = both.call.answers(both.reference, cases)
-        got = both.call.answers(program, cases)
-        wrong = next((k for k in range(len(cases)) if got[k] != due[k]), None)
-        tally.check(wrong is None, "%s, %s: case %s: %s" % (
-            both.call.name, what, wrong, wrong is not None and (due[wrong][0], got[wrong][0])))
-        ran += len(cases)
-    return ran
+    # "too long" are megabytes that no call looks at, and valgrind at each octet
+    named = [("%s, case %d" % (what, k), case)
+             for what, cases in boundary_making.batches(both.call, rng, COUNT, LENGTHS)
+             if what != "too long" for k, case in enumerate(cases)]
+    cases = [case for _, case in named]
+    due = both.call.answers(both.reference, cases)
+    got = both.call.answers(watched(both.library), cases)
+    for (what, _), answer, other in zip(named, due, got):
+        tally.check(answer == other, "%s, %s: %s is due, not %s"
+                    % (both.call.name, what, answer[0], other[0]))
+    return len(cases)
 
 
 def main():
@@ -68,8 +67,8 @@ def main():
         tally.check(False, "no valgrind: bash tests/need valgrind:valgrind installs it")
         return tally.end()
     check_watch(tally)
-    # a run of a driver under valgrind has more to do
-    reference_run.SECONDS, calls.RUN = 120, 200
+    # a run of a driver under valgrind has more to do, and most of it at the start: all at once
+    reference_run.SECONDS, calls.RUN, calls.MANY, calls.LARGE = 300, 5000, 10 ** 6, 10 ** 8
     for k, call in enumerate(calls.ALL.values()):
         both = calls.Both(tally, call)
         if both.library is not None:

@@ -20,7 +20,7 @@ import view_making
 import view_reference
 from view_making import BLACK, END, WHITE, Coders, Page, Shown, three
 
-PAGES = int(os.environ.get("PAGES") or 300)
+PAGES = int(os.environ.get("PAGES") or reference_run.trials(100))
 RARE = 0.01            # of the colours may differ by a step, where rounding is near a half
 GREEN_CODES = [(226, 0, 215), (228, 0, 253), (235, 0, 217)]   # no codes give pure magenta
 

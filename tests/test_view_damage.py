@@ -22,10 +22,13 @@ from view_making import END, Shown
 
 ROOT = reference_run.ROOT
 MANUAL = os.path.join(ROOT, "docs", "VIEWER.md")
-CHANGED = 1000            # layers of each kind with one changed octet
-CUTS = 250                # places at which pages are cut
-DAMAGED = 500             # pages for the sanitized viewer
-NEAR = 6                  # points of a hundred by which a measured share may differ from the manual's
+CHANGED = reference_run.trials(300)   # layers of each kind with one changed octet
+CUTS = reference_run.trials(80)       # places at which pages are cut
+LAYER_CUTS = reference_run.trials(60) # at which a JPEG layer is cut
+DAMAGED = reference_run.trials(160)   # pages for the sanitized viewer
+# points of a hundred by which a measured share may differ from the manual's: over four standard
+# deviations of a share of a half, which is the worst
+NEAR = 220 / CHANGED ** 0.5
 STRIPES = 64
 MASKS = {"MH": (1, "mask.mh"), "MR": (2, "mask.mr"), "MMR": (4, "mask.mmr"), "T.85": (8, "mask.t85")}
 JPEGS = {"JPEG, one scan": "baseline.jpg", "JPEG, ten scans": "progressive.jpg",
@@ -107,7 +110,7 @@ def check_cuts_of_layers(kind, seed):
     rng, place, whole = random.Random(seed), Place(), layer_of(kind)
     sizes, close = range(1, len(whole)), b""
     if kind in JPEGS:
-        sizes, close = rng.sample(range(1, len(whole) - 2), 150) + scans_of(whole), b"\xff\xd9"
+        sizes, close = rng.sample(range(1, len(whole) - 2), min(LAYER_CUTS, len(whole) - 3)) + scans_of(whole), b"\xff\xd9"
         sizes = sorted(set(sizes))
     found = show_all(place, kind, [whole[:size] + close for size in sizes])
     wrong = [size for size, one in zip(sizes, found) if one == "unnoticed"]
@@ -199,25 +202,11 @@ def check_cut_pages(seed):
 
 # (d) a viewer with sanitizers
 
-def sources_of_viewer():
-    """The files of the Makefile's VIEW, as it names them itself."""
-    told = subprocess.run(["make", "-C", ROOT, "-pnq", "build/spirerook-view"], check=False,
-                          stdout=subprocess.PIPE, stderr=subprocess.DEVNULL).stdout.decode()
-    objects = re.search(r"^build/spirerook-view: (.*)$", told, re.M)[1].split()
-    return [os.path.join(ROOT, name.replace("build/", "", 1)[:-2] + ".c")
-            for name in objects if name.endswith(".o")]
-
-
 def build_sanitized(folder):
-    program = os.path.join(folder, "sanitized-view")
-    subprocess.run(
-        ["cc", "-std=c11", "-D_DEFAULT_SOURCE", "-g", "-O1", "-fsanitize=address,undefined",
-         "-fno-sanitize-recover", *os.environ.get("CFLAGS", "").split(),
-         "-Wl,--wrap=setrlimit,--wrap=dup2", "-I", reference_run.HEADERS,
-         "-I", os.path.join(ROOT, "host"), "-o", program, *sources_of_viewer(),
-         os.path.join(reference_run.DRIVER, "no_limits.c"), reference_run.archive(),
-         "-ltiff", "-ljbig", "-ljpeg", "-lz", "-lm"], check=True)
-    return program
+    return view_making.build_viewer(
+        os.path.join(folder, "sanitized-view"), ("-g", "-O1", "-fsanitize=address,undefined",
+        "-fno-sanitize-recover", *os.environ.get("CFLAGS", "").split(),
+        "-Wl,--wrap=setrlimit,--wrap=dup2"), reference_run.in_driver("no_limits.c"))
 
 
 EXTREMES = [0, 1, 2, 5, 6, 0x7F, 0x80, 0xFF, 0x100, 0x7FFF, 0x8000, 0xFFFF, 0x10000, 0x7FFFFFFF,

@@ -22,6 +22,7 @@ from view_crafted import jpeg_page, mask_page
 from view_making import END, VIEW, Coders, Shown, bounded, children, is_alive, used_by, write
 
 MIB = 1 << 20
+HASTE = 5            # host/view/layers.h
 
 
 class Folder:
@@ -197,14 +198,14 @@ def check_memory(tally, folder):
 
 
 def check_address_space(tally, folder):
-    mask = view_crafted.white_mmr(30000)
-    page = folder.new("large.page", mask_page(4, mask, width=32768, height=30000))
+    mask = view_crafted.white_mmr(8000)
+    page = folder.new("large.page", mask_page(4, mask, width=32768, height=8000))
     shown = Shown([page], preexec_fn=bounded(resource.RLIMIT_AS, 200 * MIB))
     tally.check(shown.status == 3 and re.search(
-        "layer 2: .*UNREAD: there is no memory for its 983040000 octets", shown.told),
+        "layer 2: .*UNREAD: there is no memory for its 262144000 octets", shown.told),
                 "with 200 MB: status %s, %s %s" % (shown.status, shown.told, shown.wrong))
     # from too little for the C library on to enough for all: always a picture or a reason
-    page = folder.new("wide.page", mask_page(4, view_crafted.white_mmr(300), width=32768, height=300))
+    page = folder.new("wide.page", mask_page(4, view_crafted.white_mmr(100), width=32768, height=100))
     statuses = set()
     for megabytes in range(8, 41):
         shown = Shown([page, "-o", folder.out], preexec_fn=bounded(resource.RLIMIT_AS,
@@ -218,19 +219,21 @@ def check_address_space(tally, folder):
 
 
 def check_largest(tally, folder):
-    """32768 by 65535 in 64 stripes: within a minute and the memory allowed."""
-    heights = [1023] * 63 + [65535 - 63 * 1023]
+    """32768 by 65535 in 64 stripes: within a minute and the memory allowed; a quarter of it, but
+    where more is tried. Time is the processor's: others may work on the machine."""
+    stripes, seconds_due = (64, 60) if reference_run.trials(64) > 64 else (16, 15)
+    heights = [1023] * (stripes - 1) + [65535 * stripes // 64 - (stripes - 1) * 1023]
     octets = page_making.start(mask=4, width=32768)
     for height in heights:
         mask = view_crafted.white_mmr(height)
         octets += page_making.stripe(type=2, height=height, mask=len(mask)) + mask
     page, memory = folder.new("largest.page", octets + END), 40
-    status, told, seconds, used = used_by([page, "-o", folder.out, "--memory", "%dM" % memory])
-    megabytes = used.ru_maxrss / 1024
+    status, told, _, used = used_by([page, "-o", folder.out, "--memory", "%dM" % memory])
+    megabytes, seconds = used.ru_maxrss / 1024, used.ru_utime + used.ru_stime
     print("the largest page: %.1f s, %d MB" % (seconds, megabytes))
-    tally.check(status in (0, 3) and "32768 by 65535 pixels" in told and told.count(": read\n") >= 10,
+    tally.check(status in (0, 3) and "32768 by %d pixels" % sum(heights) in told and told.count(": read\n") >= 10,
                 "the largest page: status %s, %s" % (status, told[-300:]))
-    tally.check(seconds < 60, "the largest page took %.1f s" % seconds)
+    tally.check(seconds < seconds_due, "the largest page took %.1f s" % seconds)
     tally.check(megabytes < 64 + memory, "the largest page took %d MB" % megabytes)
     # lines that were not composed in time are unseen, and told of
     tally.check((status == 3) == ("were not composed within" in told), told[-300:])
@@ -252,23 +255,26 @@ def check_scans(tally, folder):
                     "%d scans: %s" % (scans, picture.pixel(59, 39)))
 
 
-def slow_jpeg(folder):
-    """200 scans over so many blocks that they take this machine twenty seconds or more; at most
-    1 GB of them."""
+def slow_jpeg(folder, seconds):
+    """200 scans over so many blocks that they take this machine so many seconds; at most 1 GB of
+    them."""
     small = folder.new("small.page", jpeg_page(view_crafted.grey_jpeg(200, 2000, 2000, 1200)))
     spent = used_by([small])[3].ru_utime
-    side = int(min(2000 * (25 / spent) ** 0.5, 22000))
+    side = int(min(2000 * (seconds / spent) ** 0.5, 22000))
     return view_crafted.grey_jpeg(200, side, side, 1200)
 
 
 def check_time(tally, folder):
-    """Two decoders end after ten seconds, the third when 25 are over, the fourth has none left."""
-    slow, quick = slow_jpeg(folder), view_crafted.grey_jpeg(64, 60, 40, 1200)
+    """Two decoders end after ten seconds, the third when 25 are over, the fourth has none left; in
+    a viewer with a fifth of these times, but where more is tried."""
+    haste = 1 if reference_run.trials(64) > 64 else HASTE
+    view = view_making.build_viewer(folder.path("hasty-view"), ("-O2", "-DHASTE=%d" % haste))
+    slow, quick = slow_jpeg(folder, 25 / haste), view_crafted.grey_jpeg(64, 60, 40, 1200)
     page = folder.new("slow.page", jpeg_page(quick, slow, slow, slow, quick))
-    shown = Shown([page, "-o", folder.out, "--memory", "2G"], folder.out)
+    shown = Shown([page, "-o", folder.out, "--memory", "2G"], folder.out, view)
     reasons = [re.search("stripe %d, layer 1: [^:]*: ([^;\n]*)" % n, shown.told) for n in range(5)]
     reasons = [found and found[1] for found in reasons]
-    over = ["UNREAD: its decoder took over 10 seconds"] * 2
+    over = ["UNREAD: its decoder took over %d seconds" % (10 // haste)] * 2
     used = ["UNREAD: no time is left for its decoder"] * 2
     tally.check(reasons == ["read", *over, *used], "slow decoders: %s %s" % (reasons, shown.status))
     tally.check(shown.unseen() == (60 * 160, 60 * 200) and shown.status == 3,
@@ -317,18 +323,24 @@ def check_mounted(tally, folder, mounted):
                 only, shown.status, shown.wrong, os.listdir(mounted)))
 
 
+def plain_signals():
+    """Under nohup, or in the background of a shell, some are ignored by all that is started."""
+    for number in (signal.SIGHUP, signal.SIGINT, signal.SIGQUIT, signal.SIGTERM, signal.SIGPIPE):
+        signal.signal(number, signal.SIG_DFL)
+
+
 def check_signals(tally, folder):
-    page = folder.new("slow.page", jpeg_page(slow_jpeg(folder)))
+    page = folder.new("slow.page", jpeg_page(slow_jpeg(folder, 25)))
     for number in (signal.SIGTERM, signal.SIGINT, signal.SIGHUP, signal.SIGKILL):
         write(folder.out, b"an old picture")
         run = subprocess.Popen([VIEW, page, "-o", folder.out, "--memory", "2G"],
-                               stdout=subprocess.DEVNULL)
-        until = time.monotonic() + 8
+                               stdout=subprocess.DEVNULL, preexec_fn=plain_signals)
+        until = time.monotonic() + 60
         while not (decoders := children(run.pid)) and time.monotonic() < until:
             time.sleep(0.01)
         run.send_signal(number)
-        status = run.wait(20)
-        until = time.monotonic() + 5
+        status = run.wait(60)
+        until = time.monotonic() + 60
         while any(map(is_alive, decoders)) and time.monotonic() < until:
             time.sleep(0.01)
         tally.check(status == -number and decoders and not any(map(is_alive, decoders)),

@@ -18,9 +18,9 @@ import write_making
 import write_random
 from write_random import page_of, rows_of, sheet_of, without_starts
 
-GOOD = 300
-DAMAGED = 1500
-PICTURES = 20        # written with every length up to their own, and beyond
+GOOD = reference_run.trials(150)
+DAMAGED = reference_run.trials(1200)
+PICTURES = 10        # written with every length up to their own, and beyond
 POSITIONS = 140      # more than a writer looks at in one step
 LARGE = 100000       # more octets than this are written by themselves
 MANY = 60 * 28       # a sheet of more octets than this is judged by itself
@@ -87,7 +87,7 @@ def shown(answer):
 
 def first_difference(due, got):
     """Where two pages of the same length differ."""
-    if due[0] != got[0]:
+    if due[0] != got[0] or due[1] == got[1]:
         return ""
     return "; octet %s is another" % next(
         (k for k, pair in enumerate(zip(due[1], got[1])) if pair[0] != pair[1]), "none")

@@ -11,6 +11,7 @@ import sys
 import tempfile
 import time
 
+import compiling
 import page_making
 import reference_run
 import sheet_making
@@ -25,7 +26,8 @@ RESOLUTIONS = (100, 200, 300, 400, 600, 1200)
 MASK_CODERS = {1: "MH", 2: "MR", 4: "MMR", 8: "T.85"}
 END = b"\xff\xd9\xff\xd9"
 WHITE, BLACK = (255, 128, 96), (0, 128, 96)
-SECONDS = 60
+SECONDS = 180        # by the clock; others may work on the machine
+LIBRARIES = ("-ltiff", "-ljbig", "-ljpeg", "-lz", "-lm")
 
 
 def prepare(tally):
@@ -35,6 +37,22 @@ def prepare(tally):
     tally.check("could not install" not in needed, needed)
     tally.check(os.path.exists(VIEW), "no build/spirerook-view: make it first")
     return tally.failed == 0
+
+
+def sources_of_viewer():
+    """The files of the Makefile's VIEW, as it names them itself."""
+    told = subprocess.run(["make", "-C", ROOT, "-pnq", "build/spirerook-view"], check=False,
+                          stdout=subprocess.PIPE, stderr=subprocess.DEVNULL).stdout.decode()
+    objects = re.search(r"^build/spirerook-view: (.*)$", told, re.M)[1].split()
+    return [os.path.join(ROOT, name.replace("build/", "", 1)[:-2] + ".c")
+            for name in objects if name.endswith(".o")]
+
+
+def build_viewer(program, flags, more=()):
+    """A viewer that is compiled otherwise, and with more files."""
+    return compiling.link(program, [*sources_of_viewer(), *more, reference_run.archive()],
+                          ("-std=c11", "-D_DEFAULT_SOURCE", *flags),
+                          (reference_run.HEADERS, os.path.join(ROOT, "host")), LIBRARIES)
 
 
 class Coders:
@@ -291,7 +309,7 @@ def bounded(kind, bound):
     return lambda: resource.setrlimit(kind, (bound, bound))
 
 
-def used_by(words, seconds=70):
+def used_by(words, seconds=SECONDS):
     """(status, what was told, seconds by the clock, what the system counted) of a run."""
     with tempfile.TemporaryFile() as told:
         began = time.monotonic()

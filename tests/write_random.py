@@ -5,6 +5,7 @@ a picture is, the reader of the reference says; what a sheet is, its listing:
 both are held to tables of their own.
 """
 
+import calls
 import page_making
 import reference_run
 import sheet_making
@@ -160,24 +161,26 @@ def picture_page(main, octets):
 
 
 class Judge:
-    """Answers due for any sheets and data, by the reference's listing and reader."""
+    """Answers due for any sheets and data, by the reference's judge and reader."""
 
     def __init__(self):
-        self.listing = reference_run.build("reference_list_plain")
+        self.judge = reference_run.build("reference_judge_plain",
+                                         parts=reference_run.parts_of("judge"))
         self.reader = reference_run.build("reference_read_plain", parts=reference_run.parts_of("read"))
 
     def verdicts(self, works):
         """The answer and the page due to each (sheet, data), in any room."""
-        refused = [reference_run.run(self.listing, sheet)[0] for sheet, _ in works]
+        judged = [answer for answer, _ in calls.ALL["judge"].answers(
+            self.judge, [(sheet,) for sheet, _ in works])]
         rows = [[record_row(sheet, k) for k in range(whole_records(sheet))] for sheet, _ in works]
         asked = [(main_of(rows[k]), data[row[START]:row[START] + row[LENGTH]])
-                 for k, (_, data) in enumerate(works) if refused[k][:1].isdigit()
+                 for k, (_, data) in enumerate(works) if judged[k].startswith("good")
                  for row in rows[k] if row[LAYER] in (1, 3)]
         lines = reference_run.read_many(
             self.reader, [(picture_page(*each), page_making.ROOM) for each in asked])
         found = {each: rows_of(text)[0] for each, text in zip(asked, lines) if text[:1].isdigit()}
-        return [(refused[k].strip(), b"") if not refused[k][:1].isdigit()
-                else verdict(rows[k], data, found) for k, (_, data) in enumerate(works)]
+        return [verdict(rows[k], data, found) if judged[k].startswith("good")
+                else (judged[k], b"") for k, (_, data) in enumerate(works)]
 
 
 def main_of(rows):

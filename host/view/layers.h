@@ -5,9 +5,18 @@
 #include "book.h"
 #include "decoders.h"
 
+/* A test that waits for these times builds a viewer with a part of them. */
+#ifndef HASTE
+#define HASTE 1
+#endif
+
 /* No page keeps the viewer over a minute: a decoder has so long, all of a page's together so long,
  * and lines are composed so long. */
-enum { DECODER_SECONDS = 10, DECODERS_SECONDS = 25, COMPOSING_SECONDS = 45 };
+enum {
+    DECODER_SECONDS = 10 / HASTE,
+    DECODERS_SECONDS = 25 / HASTE,
+    COMPOSING_SECONDS = 45 / HASTE
+};
 
 /* What was read of a stripe: samples in memory of their own, and the plane list over them. */
 typedef struct {
