@@ -37,6 +37,7 @@ pictures:
 	@bash tools/pictures build/demo docs/pictures
 
 # faults planted in the reference, each of which a table of answers, or the test of the boundary, must find
+faults: export SPIREROOK_TRIALS ?= 5
 faults:
 	@python3 tests/faults_sheet.py
 	@python3 tests/faults_page.py
@@ -45,9 +46,13 @@ faults:
 	@python3 tests/faults_data.py
 	@python3 tests/faults_boundary.py
 
-# FUZZ_SECONDS of changed pages, sheets and plane lists, the library beside the reference; what differs is kept in tests/cases
-fuzz: build/libspirerook.a
+# FUZZ_SECONDS of changed pages, sheets and plane lists, the library beside the reference; what differs is kept in tests/cases.
+# Then the tests that try random cases, SPIREROOK_TRIALS times as many as in make test; times and sizes are then the full ones.
+RANDOM_TESTS = boundary valgrind pages_reference writes_reference lines_reference data_reference listing view view_damage view_limits make
+fuzz: export SPIREROOK_TRIALS ?= 5
+fuzz: build/libspirerook.a build/spirerook-view build/spirerook-make
 	@python3 tests/fuzz.py
+	@for t in $(RANDOM_TESTS); do echo "tests/test_$$t.py"; python3 tests/test_$$t.py || exit 1; done
 
 bench:
 	@bash bench/run

@@ -1,9 +1,8 @@
 """Cases per call and number that a run of the host tests held the library to.
 
 Each test that compares the library with the reference counts its cases here, by
-the reference's answer, and leaves the sums in build/counts, where
-tests/test_boundary.py gathers them. Sums of another archive than the one that is
-tried do not count.
+the reference's answer, and leaves the sums in build/counts. Run as a program this
+prints their sum. Sums of another archive than the one that is tried do not count.
 """
 
 import collections
@@ -90,3 +89,13 @@ def gathered():
             for call, counter in left["calls"].items():
                 total.calls[call].update({int(n): count for n, count in counter.items()})
     return tests, total
+
+
+def main():
+    tests, total = gathered()
+    print("cases by the reference's answer, of %s:\n%s" % (", ".join(tests) or "no test",
+                                                          total.table()))
+
+
+if __name__ == "__main__":
+    main()

@@ -18,7 +18,7 @@ import planting
 import reference_run
 
 SEED = 20
-COUNT = 1000         # good cases, and as many damaged; tests/test_boundary.py has more
+COUNT = reference_run.trials(200)    # good cases, and as many damaged
 READ, WRITE, LINE, DATA, JUDGE = ("    return same;", "    return told;", "    return shown;",
                                   "    return handed;", "    return judged;")
 

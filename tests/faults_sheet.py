@@ -14,7 +14,7 @@ import reference_run
 import sheet_making
 import sheet_random
 
-RANDOM_SHEETS = 1500
+RANDOM_SHEETS = reference_run.trials(300)
 SEED = 1
 
 # (what goes wrong, the text of sheet.c, the text in its place)

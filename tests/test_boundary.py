@@ -5,8 +5,8 @@ The drivers look at every octet that is lent: what the answer does not own stays
 what is lent for reading too, on both sides of the edge of memory, with null for
 no octets. Each difference of an answer or of an octet is told.
 
-It fails where the cases of a number are few. In `make test` it runs last, so that
-its second table has the cases of the tests of each call too.
+It fails where the cases of a number are few. `make test` tells at its end the cases of this
+test and of the tests of each call together (tests/counts.py).
 SEED makes a run again; LIBRARY names another archive than build/libspirerook.a.
 """
 
@@ -80,10 +80,8 @@ def main():
     tried = [name for name, both in boths.items() if both.library is not None]
     print("cases of this test, by the reference's answer:\n" + own.table())
     own.check(tally, tried)
-    others, total = counts.gathered()
-    total.join(own)
-    if others:
-        print("with those of %s:\n%s" % (", ".join(others), total.table()))
+    if tried:
+        own.save("test_boundary")
     return tally.end()
 
 

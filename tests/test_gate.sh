@@ -14,7 +14,8 @@ file() { mkdir -p "$(dirname "$1")" && cat >"$1"; }
 # a green repository: rt counts 4, the three host tests 2, 1 and 3
 fresh() {
   rm -rf "$room/repo" && mkdir -p "$room/repo/tests" "$room/repo/stub" && cd "$room/repo" || exit 1
-  cp -r "$here/.ci" "$here/Makefile" . && cp "$here"/tests/{run,tally,need} tests/
+  cp -r "$here/.ci" "$here/Makefile" . && cp "$here"/tests/{run,tally,need,spent.py} tests/
+  mkdir tools && cp "$here/tools/leftovers" tools/
   echo 'one:' >crates.txt
   printf '%s\n' 'rt: one proved (7 s)' 'rt: must-fail one/a: refused, as it must be (first at src/lib.rt:1:1; 5 s)' \
     "rt: two ran as nobody, and wrote what its file 'stdout' has (3 s)" '4 passed, 0 failed' >stub/ci
@@ -29,11 +30,13 @@ file "$room/bin/rt" <<'STUB'
 #!/bin/sh
 case $1 in
 fmt) echo "badly laid out" >&2; exit "$(cat stub/fmt.status)" ;;
-ci) cat stub/ci; exit "$(cat stub/ci.status)" ;;
+ci) [ ! -f stub/prove ] || . stub/prove; cat stub/ci; exit "$(cat stub/ci.status)" ;;
 staticlib) mkdir -p target/staticlib; cp stub/archive target/staticlib/libspirerook.a ;;
 esac
 STUB
-chmod +x "$room/bin/rt"
+# each gate starts three programs in Python: without what a site adds they start twice as fast
+printf '#!/bin/sh\nexec "%s" -S -E "$@"\n' "$(python3 -c 'import sys; print(sys.executable)')" >"$room/bin/python3"
+chmod +x "$room/bin/rt" "$room/bin/python3"
 
 gate() { # NAME STATUS LAST
   local status
@@ -61,8 +64,10 @@ fresh; sed -i 's/{ puts/{ int unused; puts/' tests/test_c.c; gate 'a warning of 
 fresh; rm tests/test_*; gate 'no host test' 0 '4 passed, 0 failed'
 fresh; echo '3 passed, 1 failed' >>stub/ci; echo 1 >stub/ci.status; gate 'an unproved crate' 1 '3 passed, 1 failed'; said 'host tests are not run'
 fresh; echo '3 passed, 1 failed' >>stub/ci; echo 1 >stub/ci.status; rm target/must-fail/one/a/.log; gate 'an edit not tried since its crate is unproved' 1 '3 passed, 1 failed'
-fresh; echo 'print("9 passed, 0 failed")' >tests/test_boundary.py; gate 'the test that gathers counts' 0 '19 passed, 0 failed'
-check "it runs once, and last" [ "$(grep '^the step' out | cut -d: -f1 | tr '\n' ';')" = 'the step rt ci;the step tests/test_p.py;the step tests/test_s.sh;the step tests/test_c.c;the step tests/test_boundary.py;' ]
+fresh; for t in view demo view_limits; do echo 'print("9 passed, 0 failed")' >tests/test_$t.py; done; gate 'tests that take long' 0 '37 passed, 0 failed'
+check "they come first, each once" [ "$(grep '^the step' out | cut -d: -f1 | tr '\n' ';')" = 'the step rt ci;the step tests/test_view_limits.py;the step tests/test_demo.py;the step tests/test_view.py;the step tests/test_p.py;the step tests/test_s.sh;the step tests/test_c.c;' ]
+fresh; echo 'print("cases of all tests")' >tests/counts.py; gate 'the sum of cases' 0 '10 passed, 0 failed'; said 'cases of all tests'
+fresh; echo 'print(1 / 0)' >tests/counts.py; gate 'no sum of cases' 0 '10 passed, 0 failed'
 fresh; echo 1 >stub/ci.status; gate 'rt ends badly' 1 '4 passed, 1 failed'
 fresh; echo 'rt: broken' >stub/ci; echo 2 >stub/ci.status; gate 'rt without tally' 1 '0 passed, 1 failed'
 fresh; echo 1 >stub/fmt.status; gate 'bad layout' 1 '10 passed, 1 failed'; said 'FAILED rt fmt --check: badly laid out'
@@ -71,9 +76,34 @@ fresh; printf 'x.antt:1:1: error: `f-spec`: expected type `tie.Need-returns`, bu
 fresh; printf 'x.antt:1:1: error: `f`: `*` is not in scope\n' >target/must-fail/one/a/.log; gate 'an edit with a name that is not known' 1 '10 passed, 1 failed'; said 'one/a is refused only because'
 fresh; printf 'y.antt:1:1: error: has no `Need-b`\n' >>target/must-fail/one/a/.log; gate 'the same as a second error' 0 '10 passed, 0 failed'
 fresh; rm target/must-fail/one/a/.log; gate 'an edit that was not tried' 1 '10 passed, 1 failed'
-fresh; echo 'spirerook : one' >>crates.txt; echo 'int three(void); int three(void) { return 3; }' | cc -c -x c -o o.o - && ar rc stub/archive o.o
+fresh; echo 'spirerook :' >>crates.txt; echo 'int three(void); int three(void) { return 3; }' | cc -c -x c -o o.o - && ar rc stub/archive o.o
 printf '#include <stdio.h>\nint three(void);\nint main(void) { printf("%%d passed, 0 failed\\n", three()); return 0; }\n' >tests/test_c.c; gate 'the archive' 0 '10 passed, 0 failed'
 rm stub/archive; gate 'no archive' 1 '7 passed, 2 failed'; said 'FAILED archive:'
+
+# the processor's seconds: a prover that is a shell under another name, for a proof and for an edit
+said_row() { check "no row $*" grep -qxE "$(IFS=' '; echo "$*" | sed 's/ / +/g')" out; } # CELL ..
+fresh; mkdir -p "$room/opt/bin" && cp "$(command -v bash)" "$room/opt/bin/rattle"
+prover() { echo "\"$room/opt/bin/rattle\" -c 'end=\$((SECONDS + 2)); while [ \$SECONDS -lt \$end ]; do :; done' build --crate-name one \"$1\" &"; } # SOURCE
+{ prover "$room/repo/crates/one/src/lib.rt"; prover target/must-fail/one/a/src/lib.rt; prover "$room/other/crates/else/src/lib.rt"; echo wait; } >stub/prove
+gate 'processes of the prover' 0 '10 passed, 0 failed'
+said_row one '[0-9.]*[1-9][0-9.]*' 1 '[0-9.]*[1-9][0-9.]*'; said_row all of 1 '[0-9.]+' 1 '[0-9.]+'
+check "a process of another folder has no row" eval '! grep -q "^else " out'
+fresh; gate 'no process of the prover' 0 '10 passed, 0 failed'; said "no table of the processor's seconds: "
+fresh; echo 'raise SystemExit(5)' >tests/spent.py; gate 'a table that fails' 0 '10 passed, 0 failed'; said "no table of the processor's seconds"
+fresh; echo '[["one", "", 45.5], ["one", "a", 12.5], ["two", "", 60], ["three", "", 45], ["three", "b", 12]]' >spent.json
+python3 tests/spent.py table spent.json >out 2>&1
+check "the dearest first" [ "$(awk '{print $1}' out | tr '\n' ' ')" = 'seconds crate two one three all ' ]
+said_row two 60.0 0 0.0 '! its check is over 45 s'; said_row one 45.5 1 12.5 '! its check is over 45 s' '! edit a: 12.5 s'
+said_row three 45.0 1 12.0; said_row all of 3 150.5 2 24.5
+python3 tests/spent.py table nowhere.json >out 2>&1
+check "no file, no table" [ "$?:$(cut -d: -f1 out)" = "0:no table of the processor's seconds" ]
+
+# leftovers, one of each kind
+fresh; printf 'use other::thing;\nuse other::more;\npub fn f() { thing() }\n' | file crates/one/src/lib.rt; echo 'one: other' >crates.txt; gate 'a name that is not used' 1 '10 passed, 1 failed'
+said 'crates/one/src/lib.rt:2: more is brought in and not used'
+fresh; echo 'one: other' >crates.txt; gate 'a crate that is not used' 1 '10 passed, 1 failed'; said 'FAILED leftovers: crates.txt: one names other and does not use it'
+fresh; printf -- '--   there   a name\n--   gone    another\n\nthere : Type\n' | file crates/one/specs/A.antt; gate 'a name that is explained and not there' 1 '10 passed, 1 failed'
+said 'the glossary explains gone, which the file does not define'
 
 # packages: apt-get is a stub that installs nothing, or the command asked for
 need() { PATH="$room/bin:$PATH" bash tests/need "$@" >out 2>&1 </dev/null; }
