@@ -15,7 +15,7 @@ use Rattle.sheet_rules.specs.StripeTable.{extentOf}
 use Rattle.sheet_rules.proofs.Among.{nth-among}
 use Rattle.sheet_rules.proofs.Cut.{length-records, nth-records}
 use Rattle.sheet_rules.proofs.Fold.{begun-holds, unbroken-begun}
-use Rattle.sheet_rules.proofs.Extents.{Rows, extents-begin, extents-more}
+use Rattle.sheet_rules.proofs.Extents.{Extents, extents-begin, extents-more}
 use Rattle.sheet_rules.proofs.Table.{sheet-table}
 use Rattle.data_rules.specs.declared.Source.the-variants.{Page, Pencil}
 use Rattle.data_rules.specs.Data.{sourceOf, octetsIn}
@@ -34,7 +34,7 @@ module _ (rs : List Record) (z : Sheet rs) where
   layer-most : (i : ℕ) → i < length rs → nth rs i .layer ≤ extentOf (nth rs i .stripe) rs .layers
   layer-most i h =
       let b = unbroken-begun rs (z .unbroken) in
-      let k = begun-holds (λ ps st. Rows ps (st .stripe) (st .layer)) (λ ps st r g n p. extents-more ps st r g n p) rs (b .0) extents-begin (b .1) in
+      let k = begun-holds (λ ps st. Extents ps (st .stripe) (st .layer)) (λ ps st r g n p. extents-more ps st r g n p) rs (b .0) extents-begin (b .1) in
       k .1 .within (nth rs i) (nth-among rs i h)
 
   module _ (k l i : ℕ) (y : LayerAt rs k l i) where
