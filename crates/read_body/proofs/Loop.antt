@@ -8,9 +8,11 @@ use lib.ListN.{length, length-append}
 use borrow.Author.Needs.{needs}
 use Rattle.octets.specs.Octets.{putAt}
 use Rattle.octets.proofs.Laws.{put-put, put-nothing, put-length}
+use Rattle.octets.specs.Entries.{joined}
+use Rattle.octets.proofs.Entries.{joined-length, joined-append}
+use Rattle.sheet_rules.proofs.Cut.{record-entry}
 use Rattle.sheet_rules.specs.declared.Record.{Record}
-use Rattle.sheet_rules.specs.Record.{sheetOf}
-use Rattle.sheet_rules.proofs.Cut.{sheet-append, sheet-length}
+use Rattle.sheet_rules.specs.Record.{sheetOf, encode}
 use Rattle.page_rules.specs.declared.Head.{Head}
 use Rattle.page_rules.specs.Reading.{bodyFrom}
 use Rattle.read_body.specs.declared.Place.{Place}
@@ -33,7 +35,7 @@ pub record Going (hd : Head) (s out₀ : List ℕ) (p : Place) (out : List ℕ) 
 
 module _ (hd : Head) (s out₀ : List ℕ) (o : Opened out₀ s) where
   pub loop-begun : Going hd s out₀ (record { at = 22; stripe = 0; left = 65535 }) out₀
-  unfolding sheetOf
+  unfolding joined
   loop-begun =
       let l = o .long in
       record {
@@ -52,7 +54,7 @@ module _ (hd : Head) (s out₀ : List ℕ) (o : Opened out₀ s) where
 
     -- the records laid take so many octets
     before : length (sheetOf (g .records)) ≡ p .stripe * 84
-    before = let l = sheet-length (g .records) in let c = g .counted in omega arith
+    before = let l = joined-length record-entry (g .records) in let c = g .counted in omega arith
 
     laid-on : (rs : List Record) → putAt out (p .stripe * 84) (sheetOf rs) ≡ putAt out₀ 0 (sheetOf (g .records ++ rs))
     laid-on rs =
@@ -60,7 +62,7 @@ module _ (hd : Head) (s out₀ : List ℕ) (o : Opened out₀ s) where
         ap (λ (l : List ℕ). putAt l (p .stripe * 84) (sheetOf rs)) (g .laid)
         ∙ ap (λ (j : ℕ). putAt (putAt out₀ 0 (sheetOf (g .records))) j (sheetOf rs)) b
         ∙ put-put out₀ 0 (sheetOf (g .records)) (sheetOf rs) (omega arith)
-        ∙ ap (putAt out₀ 0) (sym (sheet-append (g .records) rs))
+        ∙ ap (putAt out₀ 0) (sym (joined-append encode (g .records) rs))
 
     module _ (r : Turn) (out′ : List ℕ) (t : Turned hd p s out r out′) where
       stepped : (fuel : ℕ) → length s < fuel + p .at → bodyFrom (length s) hd 0 65535 [] s 22 ≡ bodyAt fuel hd p (g .records) s
@@ -76,7 +78,7 @@ module _ (hd : Head) (s out₀ : List ℕ) (o : Opened out₀ s) where
           let l6 = g .standing .low in
           let l7 = g .standing .room in
           let l8 = w .few in
-          let l9 = sheet-length (x .records) in
+          let l9 = joined-length record-entry (x .records) in
           record {
             fuel = fuel;
             records = g .records ++ x .records;

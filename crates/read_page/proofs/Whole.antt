@@ -12,13 +12,14 @@ use borrow.Author.Tests.{lt-ltb, le-ltb}
 use Rattle.laws.proofs.Cases.{clash}
 use Rattle.octets.specs.Octets.{Octets, putAt}
 use Rattle.octets.proofs.Laws.{put-back, put-length}
+use Rattle.octets.proofs.Entries.{joined-length}
+use Rattle.sheet_rules.proofs.Cut.{record-entry}
 use Rattle.answers.specs.declared.Answer.{Answer}
 use Rattle.answers.specs.declared.Answer.the-variants.{Done, NoRoom, TooLong}
 use Rattle.field_rules.specs.Field.{Res, ok, no, bind, fields}
 use Rattle.field_rules.proofs.Refused.{rowsSize, fields-end}
 use Rattle.sheet_rules.specs.declared.Record.{Record}
 use Rattle.sheet_rules.specs.Record.{sheetOf}
-use Rattle.sheet_rules.proofs.Cut.{sheet-length}
 use Rattle.page_rules.specs.declared.Head.{Head}
 use Rattle.page_rules.specs.Reading.{startTable, zerosOf, endTable, pageOf, roomOf, readOf, intoOf, readInto, Reads}
 use Rattle.read_field.specs.declared.Judged.the-variants.{Fine}
@@ -155,7 +156,7 @@ module _ (s d : List ℕ) where
       size-is = let c = j .counted in omega arith
 
       octets-are : length (sheetOf (j .records)) ≡ stripes * 84
-      octets-are = sheet-length (j .records) ∙ size-is
+      octets-are = joined-length record-entry (j .records) ∙ size-is
 
       laid-is : take (stripes * 84) out′ ≡ sheetOf (j .records)
       laid-is =

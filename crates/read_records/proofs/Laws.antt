@@ -9,6 +9,7 @@ use lib.ListN.{length, getD, length-append}
 use borrow.Author.Needs.{needs}
 use Rattle.octets.specs.Octets.{be32At, putAt}
 use Rattle.octets.proofs.Laws.{put-put}
+use Rattle.octets.specs.Entries.{joined}
 use Rattle.sheet_rules.specs.declared.Record.{Record}
 use Rattle.sheet_rules.specs.Record.{encode, sheetOf}
 use Rattle.sheet_rules.proofs.Cut.{length-encode}
@@ -77,7 +78,7 @@ pub ruleset mask-laws = (needs, mask-here)
 -- ---- put_stripe
 put-three : (d : List ℕ) (i : ℕ) (r1 r2 r3 : Record) → i ≤ length d
     → putAt (putAt (putAt d i (encode r1)) (i + 28) (encode r2)) (i + 56) (encode r3) ≡ putAt d i (sheetOf (r1 ∷ r2 ∷ r3 ∷ []))
-unfolding sheetOf
+unfolding joined
 put-three d i r1 r2 r3 h =
     let l1 = length-encode r1 in
     let l2 = length-encode r2 in

@@ -7,18 +7,19 @@ use mathlib.Core.Logic.{_↔_, inl, inr}
 use mathlib.Core.List.{List, _++_}
 use lib.ListN.{length, take}
 use lib.Seq.{length-take-le}
+use Rattle.octets.proofs.Entries.{length-entries, entries-split, entries-take}
 use Rattle.sheet_rules.specs.declared.Record.{Record}
 use Rattle.sheet_rules.specs.declared.Step.{Step}
 use Rattle.sheet_rules.specs.declared.Step.the-variants.{Next, Stop}
 use Rattle.sheet_rules.specs.declared.Verdict.the-variants.{Good, Refused}
-use Rattle.sheet_rules.specs.Record.{recordSize, recordsFrom, records, rest, nth}
+use Rattle.sheet_rules.specs.Record.{recordSize, recordAt, recordsFrom, records, rest, nth}
 use Rattle.sheet_rules.specs.Judge.{begin, run, walk, judge, judgeOf}
 use Rattle.sheet_rules.specs.Sentences.{Unbroken, FaultAt, GoodSheet, BadSheetAt}
 use Rattle.sheet_rules.specs.StripeTable.{few}
 use Rattle.sheet_rules.proofs.Fold.{begun-unbroken, unbroken-begun, walk-stop}
 use Rattle.sheet_rules.proofs.Judged.{judge-answers, fault-once, fault-no-sheet}
 use Rattle.sheet_rules.proofs.Among.{nth-among}
-use Rattle.sheet_rules.proofs.Cut.{length-records, records-split, records-take}
+use Rattle.sheet_rules.proofs.Cut.{record-entry, records-count}
 
 good-bad : {A : Type 0} {n m i : ℕ} → Good n m ≡ Refused i → A
 good-bad e = absurd (let z : _≡_ {A = ℕ} 0 1 = cc in omega arith)
@@ -63,12 +64,11 @@ unbroken-few rs u =
 
 pub sheet-few : (s : List ℕ) (n m : ℕ) → judgeOf s ≡ Good n m
     → (n ≤ 960) × (1 ≤ m) × (m ≤ 64) × (length s ≡ n * recordSize)
-unfolding records
 sheet-few s n m e =
     let g = sheet-accepted s n m .0 e in
     let u = g .sheet .unbroken in
     let f = unbroken-few (records s) u in
-    let l = length-records s (length s / recordSize) 0 in
+    let l = records-count s in
     let c = g .sheet .complete .count in
     let k = u .few (nth (records s) (length (records s) - 1)) (nth-among (records s) (length (records s) - 1) (omega arith)) in
     let w = g .whole in
@@ -78,7 +78,6 @@ sheet-few s n m e =
 
 -- a record at fault is one of the first 960, or the one due behind them
 pub refused-few : (s : List ℕ) (i : ℕ) → judgeOf s ≡ Refused i → (i ≤ 960) × (i ≤ length s / recordSize)
-unfolding records
 refused-few s i e = go (sheet-refused s i .0 e)
   where
     go : FaultAt (records s) (rest s) i → (i ≤ 960) × (i ≤ length s / recordSize)
@@ -86,11 +85,11 @@ refused-few s i e = go (sheet-refused s i .0 e)
         let f = unbroken-few (take i (records s)) (b .before) in
         let w = b .within in
         let t = length-take-le i (records s) (omega arith) in
-        let l = length-records s (length s / recordSize) 0 in
+        let l = records-count s in
         (omega arith, omega arith)
     go (inr b) =
         let f = unbroken-few (records s) (b .before) in
-        let l = length-records s (length s / recordSize) 0 in
+        let l = records-count s in
         let d = b .due in
         (omega arith, omega arith)
 
@@ -111,9 +110,9 @@ sheet-cut s h =
     let a : length (take 26908 s) / recordSize ≡ 961 = omega arith in
     let m : ℕ = length s / recordSize - 961 in
     let b : length s / recordSize ≡ 961 + m = omega arith in
-    let c = length-records s 961 0 in
+    let c = length-entries (recordAt s) 961 0 in
     ap (λ (k : ℕ). judge (recordsFrom (take 26908 s) k 0) (rest (take 26908 s))) a
-    ∙ ap (λ (x : List Record). judge x (rest (take 26908 s))) (records-take 26908 s 961 (omega arith))
+    ∙ ap (λ (x : List Record). judge x (rest (take 26908 s))) (entries-take record-entry 26908 s 961 (omega arith))
     ∙ sym (judge-front (recordsFrom s 961 0) (recordsFrom s m (0 + 961)) (rest s) (rest (take 26908 s)) (omega arith))
-    ∙ ap (λ (x : List Record). judge x (rest s)) (sym (records-split s 961 m 0))
+    ∙ ap (λ (x : List Record). judge x (rest s)) (sym (entries-split (recordAt s) 961 m 0))
     ∙ ap (λ (k : ℕ). judge (recordsFrom s k 0) (rest s)) (sym b)

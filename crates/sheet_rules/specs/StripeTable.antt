@@ -11,6 +11,7 @@ use mathlib.Core.Bool.{false, _&&_, cond}
 use mathlib.Core.List.{List}
 use lib.ListN.{length}
 use lib.Dec.{leb, ltb, eqb}
+use Rattle.octets.specs.Entries.{entriesFrom}
 use Rattle.sheet_rules.specs.declared.Record.{Record}
 use Rattle.sheet_rules.specs.declared.State.{State}
 use Rattle.sheet_rules.specs.declared.Extent.{Extent}
@@ -44,7 +45,7 @@ withRecord k extent r =
     }
 
 unfoldable pub few : List ℕ → List Record
-unfolding recordsFrom
+unfolding entriesFrom
 few s = recordsFrom s (min (length s / recordSize) 960) 0
 
 unfoldable pub foundExtent : Extent → FoundStripe

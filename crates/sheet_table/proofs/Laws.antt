@@ -10,6 +10,8 @@ use lib.ListN.{length}
 use lib.Dec.{eqb, ltb, leb}
 use borrow.Author.Tests.{eq-eqb, ne-eqb, lt-ltb, le-ltb, le-leb, lt-leb}
 use borrow.Author.Needs.{needs}
+use Rattle.octets.specs.Entries.{entriesFrom}
+use Rattle.octets.proofs.Entries.{entries-one-more}
 use Rattle.sheet_rules.specs.declared.Record.{Record}
 use Rattle.sheet_rules.specs.declared.Extent.{Extent}
 use Rattle.sheet_rules.specs.declared.FoundStripe.{FoundStripe}
@@ -18,7 +20,6 @@ use Rattle.sheet_rules.specs.declared.FoundLayer.the-variants.{At, NoLayer}
 use Rattle.sheet_rules.specs.Record.{recordSize, recordAt, recordsFrom, heightIn}
 use Rattle.laws.specs.Tests.{only}
 use Rattle.sheet_rules.specs.StripeTable.{extentOf, withRecord, few, foundExtent, findStripe, findLayer}
-use Rattle.sheet_rules.proofs.Cut.{records-one-more}
 use Rattle.sheet_rules.proofs.Table.{extent-none, extent-more}
 
 -- ---- a layer of a stripe
@@ -86,7 +87,7 @@ pub record Counted (s : List ℕ) (k i : ℕ) (extent : Extent) : Type 0 where
   pub height : extent .height ≤ i * 65535
 
 pub counted-begin : (s : List ℕ) (k : ℕ) → Counted s k 0 (record { first = 0; layers = 0; top = 0; height = 0 })
-unfolding recordsFrom
+unfolding entriesFrom
 counted-begin s k = record { extent-is = sym (extent-none k); first = omega arith; layers = omega arith; top = omega arith; height = omega arith }
 
 only-most : (b : Bool) (n m : ℕ) → n ≤ m → only b n ≤ m
@@ -113,7 +114,7 @@ counted-more s k i extent t r c e h q =
     record {
       extent-is =
           q ∙ ap₂ (withRecord k) (c .extent-is) e
-          ∙ sym (ap (extentOf k) (records-one-more s i) ∙ extent-more k (recordsFrom s i 0) (recordAt s i));
+          ∙ sym (ap (extentOf k) (entries-one-more (recordAt s) i) ∙ extent-more k (recordsFrom s i 0) (recordAt s i));
       first = omega arith;
       layers = omega arith;
       top = omega arith;

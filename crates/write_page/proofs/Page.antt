@@ -15,7 +15,7 @@ use Rattle.answers.specs.declared.Answer.the-variants.{Done, NoRoom, TooLong}
 use Rattle.field_rules.specs.Field.{Res, ok, no}
 use Rattle.sheet_rules.specs.declared.Record.{Record}
 use Rattle.sheet_rules.specs.Record.{recordSize, recordAt, records, nth}
-use Rattle.sheet_rules.proofs.Cut.{length-records, nth-records, second-blank, second-read}
+use Rattle.sheet_rules.proofs.Cut.{records-count, record-nth, second-blank, second-read}
 use Rattle.sheet_rules.proofs.Among.{nth-among}
 use Rattle.page_rules.specs.declared.Head.{Head}
 use Rattle.page_rules.specs.Grammar.{startOf}
@@ -79,13 +79,12 @@ module _ (out s d : List ℕ) (t : Tally) (os : Octets s) (od : Octets d) (f : F
     long1 = let r = start-room in let a = length-start hd in ap length e1 ∙ put-length out 0 (startOf hd) (omega arith)
 
     pub page-lined : (n : ℕ) → n ≡ length s / recordSize → Lined o1 s d n
-    unfolding records
     page-lined n w =
         let a = accepted in
         let th = threes d od (records s) t (a .sheet) (a .three) (records-sized s os) (a .passed) in
         let i = thirds th in
         let j = i .1 in
-        let k = length-records s (length s / recordSize) 0 in
+        let k = records-count s in
         let p = parts-length in
         let r = f .room in
         let l = long1 in
@@ -94,9 +93,7 @@ module _ (out s d : List ℕ) (t : Tally) (os : Octets s) (od : Octets d) (f : F
           stripes = i .0;
           threes = omega arith;
           there = λ x y.
-              let q = nth-records s (length s / recordSize) 0 x (omega arith) in
-              let z : 0 + x ≡ x = omega arith in
-              subst (λ (v : Record). v .start + v .len ≤ length d) (q ∙ ap (recordAt s) z) (a .passed .inside (nth (records s) x) (nth-among (records s) x (omega arith)));
+              subst (λ (v : Record). v .start + v .len ≤ length d) (record-nth s x (omega arith)) (a .passed .inside (nth (records s) x) (nth-among (records s) x (omega arith)));
           room = omega arith;
         }
 

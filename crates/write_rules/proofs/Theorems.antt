@@ -1,6 +1,6 @@
 -- What is proved of writing a page. The statements are for the reader; how each is shown stands in the files beside this one.
 -- Assumes nothing.
-use Prim.Native.Nat.{ℕ, _+_, _*_, _/_, _≤_}
+use Prim.Native.Nat.{ℕ, _+_, _*_, _≤_}
 use native.Mathlib.Omega.{arith}
 use mathlib.Core.Path.{_≡_, refl, sym, ap, subst, _∙_}
 use mathlib.Core.Logic.{_↔_, _⊎_, inl, inr}
@@ -17,7 +17,7 @@ use Rattle.field_rules.specs.Field.{Res, ok, no}
 use Rattle.sheet_rules.specs.declared.Record.{Record}
 use Rattle.sheet_rules.specs.Record.{recordSize, records, sheetOf}
 use Rattle.sheet_rules.specs.Sentences.{Sheet}
-use Rattle.sheet_rules.proofs.Cut.{length-records, sheet-back, sheet-whole}
+use Rattle.sheet_rules.proofs.Cut.{sheet-back, sheet-whole, records-count}
 use Rattle.sheet_rules.proofs.Theorems.{sheet-refused, refused-few}
 use Rattle.page_rules.specs.Grammar.{Page}
 use Rattle.page_rules.specs.Reading.{pageOf, roomOf, readOf, intoOf, readInto}
@@ -48,10 +48,10 @@ pub record WriteRefusal (n : ℕ) (a : Answer) : Type 0 where
   pub place : placeOf a ≤ n
 
 gives-refusal : (s d : List ℕ) (room : ℕ) (a : Answer) → Gives s d room a → ((n : ℕ) → a ≡ Done n → ⊥) → WriteRefusal (length (records s)) a
-unfolding placeOf records
+unfolding placeOf
 gives-refusal s d room (BadSheet i) (no-sheet k) h =
     let f = refused-few s i (sheet-refused s i .1 k) .1 in
-    let l = length-records s (length s / recordSize) 0 in
+    let l = records-count s in
     record { kind = inl refl; place = omega arith }
 gives-refusal s d room (BadMode i) (above-3 a k) h = let w = k .within in record { kind = inr (inl refl); place = omega arith }
 gives-refusal s d room (Short i) (passing a low k) h = let w = k .within in record { kind = inr (inr (inl refl)); place = omega arith }
