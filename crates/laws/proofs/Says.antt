@@ -4,8 +4,10 @@ use Prim.Native.Nat.{ℕ, _≤_, _<_}
 use mathlib.Core.Path.{_≡_, refl}
 use mathlib.Core.Logic.{_⊎_, inl, inr}
 use mathlib.Core.Bool.{Bool, true, false, _&&_, _||_, not, false≢true}
+use mathlib.Core.List.{List, [], _∷_, List·Memᴰ, List·Memᴰ·not-nil, List·Memᴰ·head, List·Memᴰ·tail, List·Memᴰ·cases-cons}
 use lib.Dec.{eqb, leb, ltb}
 use borrow.Author.Tests.{eqb-true, leb-true, ltb-true, eq-eqb, le-leb, lt-ltb}
+use Rattle.laws.specs.Tests.{within, among}
 
 pub record Says (b : Bool) (P : Type 0) : Type 0 where
   pub told : b ≡ true → P
@@ -68,3 +70,17 @@ says-group {P} {Q} {R} s = says-as s to back
     back (inl p) = inl (inl p)
     back (inr (inl q)) = inl (inr q)
     back (inr (inr r)) = inr r
+
+-- ---- the tests that every floor uses
+
+pub says-within : (lo hi x : ℕ) → Says (within lo hi x) ((lo ≤ x) × (x ≤ hi))
+says-within lo hi x = says-and (says-le lo x) (says-le x hi)
+
+pub says-among : (xs : List ℕ) (x : ℕ) → Says (among xs x) (List·Memᴰ x xs)
+unfolding among
+says-among [] x = says-as says-false (λ k. absurd k) (λ m. absurd (List·Memᴰ·not-nil m))
+says-among (y ∷ ys) x = says-as (says-or (says-eq x y) (says-among ys x)) to (λ m. List·Memᴰ·cases-cons m)
+  where
+    to : (x ≡ y) ⊎ List·Memᴰ x ys → List·Memᴰ x (y ∷ ys)
+    to (inl e) = List·Memᴰ·head e
+    to (inr m) = List·Memᴰ·tail m

@@ -106,7 +106,7 @@ six P a b c d e f n (inr (inr (inr (inl z)))) = subst P (sym z) d
 six P a b c d e f n (inr (inr (inr (inr (inl z))))) = subst P (sym z) e
 six P a b c d e f n (inr (inr (inr (inr (inr z))))) = subst P (sym z) f
 
--- a, unless it divides no b, goes a wholeList number of times into it
+-- a, unless it divides no b, goes a listed number of times into it
 fits : ℕ → ℕ → Bool
 fits a b = not (eqb (b % a) 0) || isRatio (b / a)
 

@@ -1,4 +1,4 @@
--- Where a layer's samples start: found in the plane list exactly if it is wholeList, and a list without fault lists it once.
+-- Where a layer's samples start: found in the plane list exactly if it is listed, and a list without fault lists it once.
 -- Assumes nothing.
 use Prim.Native.Nat.{ℕ, zero, suc, _<_}
 use native.Mathlib.Omega.{arith}
@@ -37,7 +37,7 @@ start-among (q ∷ ps) l a =
     (λ t e. let z : q .start ≡ a = cc in record { p = q; among = List·Memᴰ·head refl; layer = eqb-true (q .layer) l t; start = z })
     (λ t e. entry-more q ps l a (start-among ps l a e))
 
--- a layer that is wholeList has a start
+-- a layer that is listed has a start
 pub start-some : (ps : List Plane) (p : Plane) → List·Memᴰ p ps → (a : ℕ) × (planeStart ps (p .layer) ≡ From a)
 unfolding planeStart
 start-some [] p m = absurd (List·Memᴰ·not-nil m)

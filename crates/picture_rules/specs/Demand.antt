@@ -67,7 +67,7 @@ Reread v w =
     → (q : Plane) × List·Memᴰ q (w .planes) × (q .layer ≡ p .layer)
     × ((i : ℕ) → i < planeSpan (recordOf v (p .layer)) → getD (w .samples) (q .start + i) 0 ≡ getD (v .samples) (p .start + i) 0)
 
--- each coded layer of the stripe is wholeList
+-- each coded layer of the stripe is listed
 abbrev pub AllRead : Scene → Type 0
 AllRead v =
     (l : ℕ) → 1 ≤ l → l ≤ v .extent .layers → Coded (recordOf v l) → (p : Plane) × List·Memᴰ p (v .planes) × (p .layer ≡ l)

@@ -6,7 +6,7 @@
 --   linePixels v y     the octets of line y of a scene
 --   depth l            octets a sample: one in a mask, three in an image layer
 --   planeSpan r        octets of all samples of a layer
---   planeOk            an entry, behind the layer wholeList last: the layer is above it, present, coded, and within the sample buffer
+--   planeOk            an entry, after the layer listed last: the layer is above it, present, coded, and within the sample buffer
 --   planesJudged       BadPlane at the first entry at fault, or at a part entry behind whole ones
 --   Ruling             the scene to be composed, or the refusal
 --   rulingOf           BadSheet, BadLine, BadPlane
@@ -91,7 +91,7 @@ abbrev pub planeRuling : Scene → ListVerdict → Ruling
 planeRuling v Fine = shows v
 planeRuling v (ListVerdict.Refused i) = refuses (BadPlane i)
 
--- no layer is wholeList before the first entry
+-- no layer is listed before the first entry
 unfoldable pub sceneRuling : Scene → Bool → Ruling
 unfolding planesJudged
 sceneRuling v part = planeRuling v (planesJudged v part 0 0 (v .planes))

@@ -1,13 +1,13 @@
 -- A record put together from its fields, and its octets from theirs.
 -- Assumes nothing.
-use mathlib.Core.Path.{_≡_}
-use Prim.Native.Nat.{ℕ, _+_, _/_, _%_}
+use mathlib.Core.Path.{_≡_, ap, _∙_}
+use Prim.Native.Nat.{ℕ, _+_, _*_, _/_, _%_}
 use mathlib.Core.List.{List, [], _∷_}
 use lib.ListN.{getD}
 use borrow.Author.Needs.{needs}
-use Rattle.octets.specs.Octets.{be16At, be32At}
+use Rattle.octets.specs.Octets.{be16At, be32At, putAt}
 use Rattle.sheet_rules.specs.declared.Record.{Record}
-use Rattle.sheet_rules.specs.Record.{recordFrom, encode}
+use Rattle.sheet_rules.specs.Record.{recordSize, recordFrom, recordAt, encode}
 
 pub record-made : (s : List ℕ) (at stripe x y width height res start len last : ℕ)
     → stripe ≡ be16At s at
@@ -53,4 +53,12 @@ pub octets-made : (r : Record) (start len last : ℕ) → start ≡ r .start / 6
 unfolding encode
 octets-made r start len last e0 e1 e2 = simp (e0, e1, e2)
 
-pub ruleset making = (needs, record-made, octets-made)
+-- a record by its number, and a record put
+pub record-numbered : (s : List ℕ) (i : ℕ) (r : Record) → r ≡ recordFrom s (i * recordSize) → r ≡ recordAt s i
+unfolding recordAt
+record-numbered s i r e = e
+
+pub record-put : (d : List ℕ) (at : ℕ) (r : Record) (b e : List ℕ) → b ≡ encode r → e ≡ putAt d at b → e ≡ putAt d at (encode r)
+record-put d at r b e k h = h ∙ ap (putAt d at) k
+
+pub ruleset making = (needs, record-made, octets-made, record-numbered, record-put)

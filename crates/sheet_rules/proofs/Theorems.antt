@@ -8,13 +8,16 @@ use mathlib.Core.List.{List, _++_}
 use lib.ListN.{length, take}
 use lib.Seq.{length-take-le}
 use Rattle.octets.proofs.Entries.{length-entries, entries-split, entries-take}
+use Rattle.answers.specs.declared.Answer.{Answer}
+use Rattle.answers.specs.declared.Answer.the-variants.{Done, BadSheet}
 use Rattle.sheet_rules.specs.declared.Record.{Record}
 use Rattle.sheet_rules.specs.declared.Step.{Step}
 use Rattle.sheet_rules.specs.declared.Step.the-variants.{Next, Stop}
+use Rattle.sheet_rules.specs.declared.Verdict.{Verdict}
 use Rattle.sheet_rules.specs.declared.Verdict.the-variants.{Good, Refused}
 use Rattle.sheet_rules.specs.Record.{recordSize, recordAt, recordsFrom, records, rest, nth}
-use Rattle.sheet_rules.specs.Judge.{begin, run, walk, judge, judgeOf}
-use Rattle.sheet_rules.specs.Sentences.{Unbroken, FaultAt, GoodSheet, BadSheetAt}
+use Rattle.sheet_rules.specs.Judge.{begin, run, walk, judge, judgeOf, answerOf, sheetAnswer}
+use Rattle.sheet_rules.specs.Sentences.{Unbroken, stripeCount, FaultAt, GoodSheet, BadSheetAt, Judges, good, no-sheet}
 use Rattle.sheet_rules.specs.StripeTable.{few}
 use Rattle.sheet_rules.proofs.Fold.{begun-unbroken, unbroken-begun, walk-stop}
 use Rattle.sheet_rules.proofs.Judged.{judge-answers, fault-once, fault-no-sheet}
@@ -51,6 +54,21 @@ sheet-refused s i = (
       (λ k z. absurd (fault-no-sheet (records s) (rest s) i f k z))
       (λ j d. ap Refused (fault-once (records s) (rest s) j i d f)),
 )
+
+-- ---- so each answer of the judge is given exactly when the sentences have it
+
+pub sheet-exactly : (s : List ℕ) (a : Answer) → sheetAnswer s ≡ a ↔ Judges s a
+unfolding sheetAnswer answerOf
+sheet-exactly s a = (λ e. subst (Judges s) e (by (judgeOf s) refl), back a)
+  where
+    by : (v : Verdict) → judgeOf s ≡ v → Judges s (answerOf v)
+    by (Good n m) e = let g = sheet-accepted s n m .0 e in good (g .sheet, g .whole) (g .count)
+    by (Refused i) e = no-sheet (sheet-refused s i .0 e)
+
+    back : (a : Answer) → Judges s a → answerOf (judgeOf s) ≡ a
+    back (Done n) (good ok c) =
+        ap answerOf (sheet-accepted s n (stripeCount (records s)) .1 (record { sheet = ok .0; whole = ok .1; count = c; stripes = refl }))
+    back (BadSheet i) (no-sheet f) = ap answerOf (sheet-refused s i .1 f)
 
 -- ---- at most 64 stripes and 960 records, and nothing but whole records
 

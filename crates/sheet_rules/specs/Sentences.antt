@@ -10,6 +10,7 @@
 --   FaultAt rs part i   one or the other: the record at fault
 --   Accepted s        the octets s are a sheet; GoodSheet s n m: of n records in m stripes
 --   BadSheetAt s i    they are at fault at the record i
+--   Judges s a        the judge answers a
 --
 -- Two exceptions that the paper names come about by themselves, since a sentence speaks only of records that are there: layer 1's
 -- resolution is matched at layer 2, and the choice of coded layers 1 to 3 at layer 3.
@@ -18,6 +19,8 @@ use mathlib.Core.Path.{_≡_}
 use mathlib.Core.Logic.{_⊎_, _≢_}
 use mathlib.Core.List.{List, List·Memᴰ}
 use lib.ListN.{length, take}
+use Rattle.answers.specs.declared.Answer.{Answer}
+use Rattle.answers.specs.declared.Answer.the-variants.{Done, BadSheet}
 use Rattle.sheet_rules.specs.declared.Record.{Record}
 use Rattle.sheet_rules.specs.Record.{nth, records, rest, sumOf, heightIn}
 
@@ -131,3 +134,8 @@ pub record GoodSheet (s : List ℕ) (n m : ℕ) : Type 0 where
 
 abbrev pub BadSheetAt : List ℕ → ℕ → Type 0
 BadSheetAt s i = FaultAt (records s) (rest s) i
+
+-- one line for each answer that the judge gives; it gives no other
+pub data Judges (s : List ℕ) : Answer → Type 0 where
+  good : {n : ℕ} → Accepted s → n ≡ length (records s) → Judges s (Done n)
+  no-sheet : {i : ℕ} → BadSheetAt s i → Judges s (BadSheet i)

@@ -11,7 +11,7 @@ use borrow.Author.Tests.{eq-eqb, ne-eqb, lt-leb, not-true, not-false}
 use borrow.Author.Needs.{needs}
 use Rattle.sheet_rules.specs.declared.Record.{Record}
 use Rattle.sheet_rules.specs.declared.State.{State}
-use Rattle.sheet_rules.specs.Judge.{zerosOk, closes, placed, coded, codedOk, uncodedOk, dataOk, listed, divides, resOk, baseOk, pageOk, upperOk, layerOk, keeps}
+use Rattle.sheet_rules.specs.Judge.{coderOk, choiceOk, zerosOk, closes, placed, coded, codedOk, uncodedOk, dataOk, listed, divides, resOk, baseOk, pageOk, upperOk, layerOk, keeps}
 
 -- ---- the resolution
 
@@ -33,6 +33,23 @@ module _ (c : Bool) (res main : ℕ) where
 
   pub res-other : (res ≡ main → ⊥) → c ≡ false → false ≡ resOk c res main
   res-other d e = simp (e, ne-eqb res main d, and-false (divides res main))
+
+-- ---- tests joined from the tests that they call
+
+pub coded-made : (r : Record) (a : Bool) (n : ℕ) → a ≡ coderOk (r .layer) (r .coder) → n ≡ r .start + r .len
+    → a && not (eqb (r .width) 0) && not (eqb (r .height) 0) && ltb n 4294967296 ≡ codedOk r
+coded-made r a n e h = simp (e, h)
+
+pub page-made : (st : State) (r : Record) (b : Bool) → b ≡ resOk (st .coded1) (st .res1) (r .res)
+    → eqb (r .x) 0 && eqb (r .y) 0 && leb 1 (r .width) && leb (r .width) 32768 && leb 1 (r .height) && leb (r .height) (st .left)
+    && (eqb (r .stripe) 0 || eqb (r .width) (st .width) && eqb (r .res) (st .main))
+    && b
+    ≡ pageOk st r
+page-made st r b e = simp e
+
+pub upper-made : (st : State) (r : Record) (own a b : Bool) → own ≡ coded r → a ≡ resOk own (r .res) (st .main) → b ≡ choiceOk (st .coded1) (st .coded2) own
+    → a && (not (eqb (r .layer) 3) || b) ≡ upperOk st r
+upper-made st r own a b k e h = simp (h, e, k)
 
 -- ---- coded or not
 
@@ -97,5 +114,7 @@ module _ (st : State) (r : Record) where
   unfolding keeps
   breaks-none z p d l b v kz ez kp ep kd ed kl el kb eb k =
       simp (sym kz ∙ not-false z ez, sym kp ∙ not-false p ep, sym kd ∙ not-false d ed, sym kl ∙ not-false l el, sym kb ∙ not-false b eb) k
+
+pub ruleset joining = (needs, coded-made, page-made, upper-made)
 
 pub ruleset testing = (needs, res-same, res-coded, res-other, data-coded, data-uncoded, placed-same, placed-next, layer-one, layer-two, layer-more, breaks-zeros, breaks-place, breaks-data, breaks-listed, breaks-base, breaks-none)

@@ -7,11 +7,20 @@ use borrow.Author.Needs.{needs}
 use Rattle.answers.specs.declared.Answer.{Answer}
 use Rattle.answers_report.specs.declared.Report.{Report}
 use Rattle.answers_report.specs.Report.{reportOf}
+use Rattle.sheet_rules.specs.Judge.{sheetAnswer}
 use Rattle.page_rules.specs.Reading.{Reads}
 use Rattle.write_rules.specs.Writing.{Writes}
 use Rattle.picture_rules.specs.Planes.{listOf}
 use Rattle.picture_rules.specs.Line.{Lines}
-use Rattle.spirerook.specs.Calls.{ReadCall, WriteCall, LineCall}
+use Rattle.data_rules.specs.declared.Found.{Found}
+use Rattle.data_rules.specs.Data.{foundOf}
+use Rattle.data_report.specs.declared.DataReport.{DataReport}
+use Rattle.data_report.specs.Reported.{reportFound}
+use Rattle.data_report.proofs.Firm.{report-found}
+use Rattle.call_rules.specs.Calls.{JudgeCall, ReadCall, WriteCall, LineCall, DataCall}
+
+pub judge-called : (sheet : List ℕ) {a : Answer} {r : Report} → a ≡ sheetAnswer sheet → r ≡ reportOf a → JudgeCall sheet r
+judge-called sheet e h = record { reports = h ∙ ap reportOf e }
 
 pub read-called : (page sheet : List ℕ) {a : Answer} {r : Report} {e : List ℕ} → Reads page sheet a e → r ≡ reportOf a → ReadCall page sheet r e
 read-called page sheet x h = record { reports = h ∙ ap reportOf (x .answers); holds = x .holds }
@@ -23,4 +32,7 @@ pub line-called : (sheet planes samples : List ℕ) (k y : ℕ) (out : List ℕ)
     → LineCall sheet planes samples k y out r e
 line-called sheet planes samples k y out x h = record { reports = h ∙ ap reportOf (x .answers); holds = x .holds }
 
-pub ruleset calls = (needs, read-called, write-called, line-called)
+pub data-called : (sheet page pencil : List ℕ) (k l : ℕ) {f : Found} {r : DataReport} → f ≡ foundOf sheet page pencil k l → r ≡ reportFound f → DataCall sheet page pencil k l r
+data-called sheet page pencil k l e h = record { reports = h ∙ ap reportFound e ∙ report-found sheet page pencil k l }
+
+pub ruleset calls = (needs, judge-called, read-called, write-called, line-called, data-called)

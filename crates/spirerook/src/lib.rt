@@ -1,7 +1,15 @@
 // The calls that a viewer in C links (include/spirerook.h). Each is thin: it calls the library's function and reports its answer.
-ghost use Rattle.spirerook.specs.Calls.{ReadCall, WriteCall, LineCall, DataCall};
+ghost use Rattle.call_rules.specs.Calls.{JudgeCall, ReadCall, WriteCall, LineCall, DataCall};
 use answers_report::Report;
 use data_report::DataReport;
+
+#[no_mangle]
+pub extern "C" fn spirerook_judge(sheet: &[u8]) -> Report
+    ensures { λ r. ⌜ JudgeCall (now (sheet .entry)) r ⌝ }
+{
+    let a = sheet_judge::sheet_answer(sheet);
+    answers_report::reported(a)
+}
 
 #[no_mangle]
 pub extern "C" fn spirerook_read(page: &[u8], sheet: &mut [u8]) -> Report

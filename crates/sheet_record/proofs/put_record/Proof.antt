@@ -1,4 +1,5 @@
 use borrow.Author.Needs.{needs}
+use Rattle.sheet_record.proofs.Laws.{making}
 use Rattle.sheet_record.proofs.put_record.Statement.{statement}
 use Rattle.sheet_record.proofs.put_record.Tie as tie
 
@@ -15,7 +16,7 @@ same-length : tie.Need-same-length
 same-length c = search needs
 
 returns : tie.Need-returns
-returns c = cc
+returns c = search making
 
 pub put-record-spec : {M : Type 1} → statement M
 put-record-spec =

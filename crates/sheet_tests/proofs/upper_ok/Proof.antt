@@ -1,4 +1,5 @@
 use borrow.Author.Needs.{needs}
+use Rattle.sheet_tests.proofs.Laws.{joining}
 use Rattle.sheet_tests.proofs.upper_ok.Statement.{statement}
 use Rattle.sheet_tests.proofs.upper_ok.Tie as tie
 
@@ -12,7 +13,7 @@ choice-ok-requires : tie.Need-choice-ok-requires
 choice-ok-requires c κs = search needs
 
 returns : tie.Need-returns
-returns c = cc
+returns c = search joining
 
 pub upper-ok-spec : {M : Type 1} → statement M
 upper-ok-spec = tie.close (tie.spec is-coded-requires res-ok-requires choice-ok-requires returns)

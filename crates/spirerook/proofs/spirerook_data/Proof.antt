@@ -1,4 +1,4 @@
-use Rattle.spirerook.proofs.Handing.{asks}
+use Rattle.spirerook.proofs.Laws.{calls}
 use borrow.Author.Needs.{needs}
 use Rattle.spirerook.proofs.spirerook_data.Statement.{statement}
 use Rattle.spirerook.proofs.spirerook_data.Tie as tie
@@ -10,7 +10,7 @@ report-found-requires : tie.Need-report-found-requires
 report-found-requires c κs = search needs
 
 returns : tie.Need-returns
-returns c = search asks
+returns c = search calls
 
 pub spirerook-data-spec : {M : Type 1} → statement M
 spirerook-data-spec = tie.close (tie.spec find-data-requires report-found-requires returns)

@@ -1,0 +1,24 @@
+-- Any two results that a call's promise allows are equal. There is no exception.
+-- Assumes nothing.
+use Prim.Native.Nat.{ℕ}
+use mathlib.Core.Path.{_≡_, sym, _∙_}
+use mathlib.Core.List.{List}
+use Rattle.data_report.specs.declared.DataReport.{DataReport}
+use Rattle.answers_report.specs.declared.Report.{Report}
+use Rattle.call_rules.specs.Calls.{JudgeCall, ReadCall, WriteCall, LineCall, DataCall}
+
+pub judge-firm : (sheet : List ℕ) (r q : Report) → JudgeCall sheet r → JudgeCall sheet q → r ≡ q
+judge-firm sheet r q x y = x .reports ∙ sym (y .reports)
+
+pub read-firm : (page sheet : List ℕ) (r q : Report) (e f : List ℕ) → ReadCall page sheet r e → ReadCall page sheet q f → (r ≡ q) × (e ≡ f)
+read-firm page sheet r q e f x y = (x .reports ∙ sym (y .reports), x .holds ∙ sym (y .holds))
+
+pub data-firm : (sheet page pencil : List ℕ) (k l : ℕ) (r q : DataReport) → DataCall sheet page pencil k l r → DataCall sheet page pencil k l q → r ≡ q
+data-firm sheet page pencil k l r q x y = x .reports ∙ sym (y .reports)
+
+pub write-firm : (sheet d page : List ℕ) (r q : Report) (e f : List ℕ) → WriteCall sheet d page r e → WriteCall sheet d page q f → (r ≡ q) × (e ≡ f)
+write-firm sheet d page r q e f x y = (x .reports ∙ sym (y .reports), x .holds ∙ sym (y .holds))
+
+pub line-firm : (sheet planes samples : List ℕ) (k y : ℕ) (out : List ℕ) (r q : Report) (e f : List ℕ) → LineCall sheet planes samples k y out r e → LineCall sheet planes samples k y out q f
+    → (r ≡ q) × (e ≡ f)
+line-firm sheet planes samples k y out r q e f x z = (x .reports ∙ sym (z .reports), x .holds ∙ sym (z .holds))

@@ -1,0 +1,7 @@
+pub mod Reports
+pub mod Firm
+pub mod Judging
+pub mod Reading
+pub mod Writing
+pub mod Lining
+pub mod Handing

@@ -1,0 +1,38 @@
+-- What the exported calls promise, each as one relation over entry, result and exit.
+--
+--   JudgeCall sheet r   a sheet is judged, and the report is r
+--   ReadCall page sheet r sheet′   a page is read into a sheet, the report is r, and the buffer is then sheet′
+--   DataCall sheet page pencil k l r   the coded data of layer l of stripe k are asked for, and the report is r
+--   WriteCall sheet d page r page′   a page is written from a sheet and its data d, the report is r, and the buffer is then page′
+--   LineCall sheet planes samples k y out r out′   line y of stripe k is composed, the report is r, and the buffer is then out′
+use Prim.Native.Nat.{ℕ}
+use mathlib.Core.Path.{_≡_}
+use mathlib.Core.List.{List}
+use lib.ListN.{length}
+use Rattle.answers_report.specs.declared.Report.{Report}
+use Rattle.answers_report.specs.Report.{reportOf}
+use Rattle.data_report.specs.declared.DataReport.{DataReport}
+use Rattle.data_report.specs.Reported.{dataReport}
+use Rattle.sheet_rules.specs.Judge.{sheetAnswer}
+use Rattle.page_rules.specs.Reading.{readOf, readInto}
+use Rattle.write_rules.specs.Writing.{writeOf, writeInto}
+use Rattle.picture_rules.specs.Planes.{listOf}
+use Rattle.picture_rules.specs.Line.{lineOf, lineInto}
+
+pub record JudgeCall (sheet : List ℕ) (r : Report) : Type 0 where
+  pub reports : r ≡ reportOf (sheetAnswer sheet)
+
+pub record ReadCall (page sheet : List ℕ) (r : Report) (sheet′ : List ℕ) : Type 0 where
+  pub reports : r ≡ reportOf (readOf page (length sheet))
+  pub holds : sheet′ ≡ readInto page sheet
+
+pub record DataCall (sheet page pencil : List ℕ) (k l : ℕ) (r : DataReport) : Type 0 where
+  pub reports : r ≡ dataReport sheet page pencil k l
+
+pub record WriteCall (sheet d page : List ℕ) (r : Report) (page′ : List ℕ) : Type 0 where
+  pub reports : r ≡ reportOf (writeOf sheet d (length page))
+  pub holds : page′ ≡ writeInto sheet d page
+
+pub record LineCall (sheet planes samples : List ℕ) (k y : ℕ) (out : List ℕ) (r : Report) (out′ : List ℕ) : Type 0 where
+  pub reports : r ≡ reportOf (lineOf sheet (listOf planes) samples k y (length out))
+  pub holds : out′ ≡ lineInto sheet (listOf planes) samples k y out
