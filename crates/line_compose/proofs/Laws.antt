@@ -13,6 +13,7 @@ use Rattle.laws.proofs.Cases.{clash}
 use Rattle.octets.specs.Octets.{putAt}
 use Rattle.octets.proofs.Laws.{put-nothing, put-put, put-length}
 use Rattle.octets.proofs.Turns.{sets-put}
+use Rattle.sheet_rules.specs.StripeTable.{layerRecord}
 use Rattle.answers.specs.declared.Answer.{Answer}
 use Rattle.answers.specs.declared.Answer.the-variants.{Done, NoRoom}
 use Rattle.sheet_rules.specs.declared.Record.{Record}
@@ -24,7 +25,7 @@ use Rattle.sheet_rules.specs.declared.Colour.{Colour}
 use Rattle.picture_rules.specs.declared.Sample.{Sample}
 use Rattle.picture_rules.specs.declared.Sample.the-variants.{Known, Unknown}
 use Rattle.picture_rules.specs.Planes.{PlaneList, listOf}
-use Rattle.picture_rules.specs.Samples.{Scene, recordOf, widthOf}
+use Rattle.picture_rules.specs.Samples.{Scene, widthOf}
 use Rattle.picture_rules.specs.Decide.{decide}
 use Rattle.picture_rules.specs.Line.{unseen, fourOf, pixels, linePixels, Ruling, shows, refuses, rulingOf, lineAnswer, lineOf, lineHolds, lineInto, Lines}
 use Rattle.picture_rules.proofs.Fours.{length-pixels}
@@ -34,7 +35,7 @@ use Rattle.line_planes.specs.declared.Listing.{Listing}
 use Rattle.line_planes.specs.Listing.{listingOf, entriesOf}
 use Rattle.line_planes.proofs.Entries.{gathered-holds}
 use Rattle.line_pixel.specs.Rows.{rowStack, RowsFit}
-use Rattle.line_rows.specs.Rows.{layerAt, rowsOf, Standing}
+use Rattle.line_rows.specs.Rows.{rowsOf, Standing}
 use Rattle.line_rows.proofs.Fit.{rows-fit, pixel-is}
 use Rattle.line_verdict.specs.declared.Ruled.{Ruled}
 use Rattle.line_verdict.specs.declared.Ruled.the-variants.{Shows, Refused}
@@ -125,7 +126,7 @@ module _ (s : List ℕ) (extent : Extent) (t : Listing) (d : List ℕ) (y : ℕ)
   shown-place = let w = whole in let c = stage-layers stage in omega arith
 
   pub shown-standing : Standing s extent
-  unfolding recordOf layerAt
+  unfolding layerRecord
   shown-standing =
       let c = stage-layers stage in
       record {
@@ -144,7 +145,7 @@ module _ (s : List ℕ) (extent : Extent) (t : Listing) (d : List ℕ) (y : ℕ)
 
   module _ (out : List ℕ) (second : Record) (width : ℕ) (es : second ≡ recordAt s (extent .first + 1)) (ew : width ≡ second .width) where
     wide-is : width ≡ widthOf here
-    unfolding recordOf
+    unfolding layerRecord
     wide-is = ew ∙ ap (λ (r : Record). r .width) es
 
     pub shown-no-room : length out < width * 4 → Composed here y out NoRoom out

@@ -11,6 +11,7 @@ use Rattle.laws.proofs.Cases.{cond-with}
 use Rattle.laws.proofs.Says.{says-and, says-true}
 use Rattle.octets.specs.Octets.{putAt}
 use Rattle.octets.proofs.Laws.{put-length}
+use Rattle.sheet_rules.specs.StripeTable.{layerRecord}
 use Rattle.sheet_rules.specs.declared.Record.{Record}
 use Rattle.sheet_rules.specs.Record.{recordSize}
 use Rattle.sheet_rules.specs.Judge.{coded}
@@ -28,7 +29,7 @@ use Rattle.picture_rules.proofs.Within.{mask-there, image-there}
 use Rattle.line_fetch.specs.declared.Row.{Row}
 use Rattle.line_fetch.specs.Rows.{rowAt, rowMask, rowImage, MaskFits, ImageFits}
 use Rattle.line_pixel.specs.Rows.{rowStack, RowsFit}
-use Rattle.line_rows.specs.Rows.{layerAt, rowIn, rowBy, otherOf, rowOf, rowsOf}
+use Rattle.line_rows.specs.Rows.{rowIn, rowBy, otherOf, rowOf, rowsOf}
 use Rattle.line_rows.proofs.Laws.{length-rows}
 use Rattle.line_rows.proofs.Same.{row-among, mask-same, image-same, other-image}
 
@@ -104,14 +105,14 @@ module _ (v : Scene) (pl : PlaneList) (k n : ℕ) (y : MainPos) (g : Stage (v .s
     within x p q = says-inside (mainOf v) (recordOf v l) x y .shown (p, q)
 
     pub scene-mask : l % 2 ≡ 0 → MaskFits (v .samples) (rowOf (v .sheet) (v .extent) (v .planes) y l)
-    unfolding rowOf layerAt recordOf indexOf
+    unfolding rowOf layerRecord indexOf
     scene-mask e =
         mask-fits (recordOf v l) (ratio (mainOf v) (recordOf v l)) y (planeStart (v .planes) l) (otherOf (coded (recordOf v 3)) (recordOf v l) (v .extent .first + (l - 1)) l)
         (scene-ratio-some g l a b) (v .samples) (depth-here 1 (depth-even l e))
         (λ i z x p q. let h = mask-there g l i z x y (within x p q) e in omega arith)
 
     pub scene-image : l % 2 ≡ 1 → ImageFits (v .sheet) (v .samples) (rowOf (v .sheet) (v .extent) (v .planes) y l)
-    unfolding rowOf layerAt recordOf indexOf
+    unfolding rowOf layerRecord indexOf
     scene-image e =
         image-fits (recordOf v l) (ratio (mainOf v) (recordOf v l)) y (planeStart (v .planes) l) (otherOf (coded (recordOf v 3)) (recordOf v l) (v .extent .first + (l - 1)) l)
         (scene-ratio-some g l a b) (v .sheet) (v .samples)

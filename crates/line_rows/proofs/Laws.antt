@@ -14,6 +14,7 @@ use Rattle.sheet_rules.specs.declared.Record.{Record}
 use Rattle.octets.specs.Octets.{putAt}
 use Rattle.octets.proofs.Laws.{put-nothing, put-put, put-length}
 use Rattle.octets.proofs.Turns.{sets-put}
+use Rattle.sheet_rules.specs.StripeTable.{layerRecord, mainRes}
 use Rattle.sheet_rules.specs.declared.Extent.{Extent}
 use Rattle.sheet_rules.specs.Record.{recordAt}
 use Rattle.sheet_rules.specs.Judge.{coded}
@@ -31,7 +32,7 @@ use Rattle.line_planes.specs.declared.Listing.{Listing}
 use Rattle.line_planes.specs.Listing.{entriesOf}
 use Rattle.line_fetch.specs.declared.Row.{Row}
 use Rattle.line_fetch.specs.Rows.{numbersOf}
-use Rattle.line_rows.specs.Rows.{layerAt, mainAt, rowIn, rowOut, rowBy, otherOf, rowOf, rowsOf, Covered, Layer, Standing}
+use Rattle.line_rows.specs.Rows.{rowIn, rowOut, rowBy, otherOf, rowOf, rowsOf, Covered, Layer, Standing}
 
 -- ---- an area
 
@@ -120,15 +121,15 @@ module _ (c : Bool) (r : Record) (i l : ℕ) where
 module _ (s : List ℕ) (extent : Extent) (m : ℕ) (c : Bool) (y : MainPos) (l : ℕ) where
   pub layer-made : (ps : List Plane) (r : Record) (k : ℕ) (p : Start) (n : ℕ) (w : Row) → Layer s extent m c l → r ≡ recordAt s (extent .first + (l - 1)) → k ≡ m / r .res
       → p ≡ planeStart ps l → n ≡ otherOf c r (extent .first + (l - 1)) l → w ≡ rowBy r k y p n → w ≡ rowOf s extent ps y l
-  unfolding rowOf layerAt
+  unfolding rowOf layerRecord
   layer-made ps r k p n w g er ek ep en ew = ew ∙ rw (ek, ep, en, er, g .main, g .third) refl
 
   pub layer-res : (r : Record) → Layer s extent m c l → r ≡ recordAt s (extent .first + (l - 1)) → 0 < r .res
-  unfolding layerAt
+  unfolding layerRecord
   layer-res r g e = subst (λ (q : Record). 0 < q .res) (sym e) (g .res)
 
   pub layer-turns : (r : Record) (k : ℕ) → Layer s extent m c l → r ≡ recordAt s (extent .first + (l - 1)) → k ≡ m / r .res → 0 < k
-  unfolding layerAt
+  unfolding layerRecord
   layer-turns r k g e f = subst (λ (n : ℕ). 0 < n) (sym (f ∙ ap₂ (λ (a : ℕ) (q : Record). a / q .res) (g .main) e)) (g .turns)
 
 pub stores-row : (d : List ℕ) (i : ℕ) (w : Row) → i * 6 + 6 ≤ length d
@@ -155,14 +156,14 @@ pub record Filling (d s : List ℕ) (extent : Extent) (t : Listing) (y : MainPos
   pub all : n ≡ extent .layers
   pub room : n * 6 ≤ length d
   pub long : length out ≡ length d
-  pub main : m ≡ mainAt s extent
-  pub third : c ≡ coded (layerAt s extent 3)
+  pub main : m ≡ mainRes s extent
+  pub third : c ≡ coded (layerRecord s extent 3)
   pub filled : out ≡ putAt d 0 (rowsOf s extent (entriesOf t) y i)
 
 module _ (d s : List ℕ) (extent : Extent) (t : Listing) (y : MainPos) (m : ℕ) (c : Bool) (n : ℕ) where
   pub filling-none : (second third : Record) → extent .layers * 6 ≤ length d → n ≡ extent .layers → second ≡ recordAt s (extent .first + 1) → third ≡ recordAt s (extent .first + 2)
       → m ≡ second .res → c ≡ not (eqb (third .len) 0) → Filling d s extent t y m c n d 0
-  unfolding rowsOf layerAt
+  unfolding rowsOf layerRecord
   filling-none second third h e es et em ec =
       record {
         within = omega arith;

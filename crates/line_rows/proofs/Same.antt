@@ -13,6 +13,7 @@ use borrow.Author.Tests.{eq-eqb, ne-eqb, le-ltb}
 use Rattle.laws.proofs.Says.{says-lt, says-else}
 use Rattle.octets.specs.Octets.{putAt}
 use Rattle.octets.proofs.Laws.{put-getD}
+use Rattle.sheet_rules.specs.StripeTable.{layerRecord}
 use Rattle.sheet_rules.specs.declared.Record.{Record}
 use Rattle.sheet_rules.specs.declared.Extent.{Extent}
 use Rattle.sheet_rules.specs.Record.{recordAt}
@@ -31,7 +32,7 @@ use Rattle.sheet_rules.specs.Record.{colourAt}
 use Rattle.picture_rules.specs.Line.{depth}
 use Rattle.line_fetch.specs.declared.Row.{Row}
 use Rattle.line_fetch.specs.Rows.{rowAt, numbersOf, across, rowMask, rowImage}
-use Rattle.line_rows.specs.Rows.{layerAt, rowIn, rowOut, rowBy, otherOf, rowOf, rowsOf}
+use Rattle.line_rows.specs.Rows.{rowIn, rowOut, rowBy, otherOf, rowOf, rowsOf}
 use Rattle.line_rows.proofs.Laws.{length-rows}
 
 -- ---- a row among the rows
@@ -175,7 +176,7 @@ module _ (v : Scene) (x y : MainPos) (l : ℕ) where
   rowHere = rowOf (v .sheet) (v .extent) (v .planes) y l
 
   pub mask-same : l % 2 ≡ 0 → depth (recordOf v l .layer) ≡ 1 → rowMask (v .samples) rowHere x ≡ maskAt v l x y
-  unfolding rowOf layerAt recordOf maskAt inside indexOf virtual
+  unfolding rowOf layerRecord maskAt inside indexOf virtual
   mask-same e q =
       let i : ℕ = v .extent .first + (l - 1) in
       let r = recordOf v l in
@@ -192,7 +193,7 @@ module _ (v : Scene) (x y : MainPos) (l : ℕ) where
       go false = bit-cond (eqb l 2 && coded (recordOf v 3))
 
   pub image-same : l % 2 ≡ 1 → depth (recordOf v l .layer) ≡ 3 → rowImage (v .sheet) (v .samples) rowHere x ≡ imageAt v l x y
-  unfolding rowOf layerAt recordOf imageAt inside indexOf
+  unfolding rowOf layerRecord imageAt inside indexOf
   image-same e q =
       let i : ℕ = v .extent .first + (l - 1) in
       let r = recordOf v l in

@@ -20,12 +20,11 @@ use Rattle.sheet_rules.specs.declared.FoundStripe.the-variants.{Has, NoStripe}
 use Rattle.sheet_rules.specs.declared.Verdict.{Verdict}
 use Rattle.sheet_rules.specs.Record.{recordSize, recordAt, records}
 use Rattle.sheet_rules.specs.Judge.{coded, judgeOf, answerOf}
-use Rattle.sheet_rules.specs.StripeTable.{findStripe}
+use Rattle.sheet_rules.specs.StripeTable.{findStripe, layerRecord}
 use Rattle.picture_rules.specs.declared.Plane.{Plane}
 use Rattle.picture_rules.specs.declared.ListVerdict.{ListVerdict}
 use Rattle.picture_rules.specs.declared.ListVerdict.the-variants.{Fine}
 use Rattle.picture_rules.specs.Planes.{PlaneList}
-use Rattle.picture_rules.specs.Samples.{recordOf}
 use Rattle.picture_rules.specs.Line.{depth, planeSpan, planeOk, planesJudged, planeRuling, sceneRuling, stripeRuling, sheetRuling, rulingOf}
 use Rattle.line_planes.specs.declared.Listing.{Listing}
 use Rattle.line_sample.proofs.Laws.{product-small}
@@ -62,7 +61,7 @@ module _ (s : List ℕ) (extent : Extent) (d : List ℕ) (last : ℕ) (p : Plane
 
   pub plane-there : (r : Record) (b : Bool) → last < p .layer → p .layer ≤ extent .layers → r ≡ recordAt s (extent .first + (p .layer - 1))
       → b ≡ coded r && leb (p .start + planeSpan r) (length d) → b ≡ planeOk (bareScene s extent d) last p
-  unfolding planeOk recordOf
+  unfolding planeOk layerRecord
   plane-there r b h k e f = simp (lt-ltb last (p .layer) h, le-leb (p .layer) (extent .layers) k, f, e)
 
   pub plane-place : Whole s extent → last < p .layer → p .layer ≤ extent .layers → extent .first + (p .layer - 1) < length s / recordSize
@@ -107,7 +106,7 @@ module _ (s : List ℕ) (pl : PlaneList) (d : List ℕ) (y : ℕ) where
   -- an entry is judged without a look at the list
   bare : (extent : Extent) (part : Bool) (last i : ℕ) (ps qs : List Plane)
       → planesJudged (record { sheet = s; extent = extent; planes = qs; samples = d }) part last i ps ≡ planesJudged (bareScene s extent d) part last i ps
-  unfolding planesJudged planeOk recordOf
+  unfolding planesJudged planeOk layerRecord
   bare extent part last i [] qs = refl
   bare extent part last i (p ∷ ps) qs =
       ap (λ j. cond (planeOk (bareScene s extent d) last p) j (ListVerdict.Refused i)) (bare extent part (p .layer) (i + 1) ps qs)

@@ -7,10 +7,9 @@ use mathlib.Core.Path.{_≡_, refl, sym, ap, subst, _∙_}
 use mathlib.Core.Logic.{_⊎_, inl, inr, _≢_, ⊎-elim}
 use mathlib.Core.Bool.{Bool, true, false, not, cond}
 use mathlib.Core.List.{List, [], _∷_, _++_}
-use lib.ListN.{length, length-append, replicate}
+use lib.ListN.{length, length-append}
 use lib.Dec.{lit≤}
 use borrow.Author.Tests.{eq-eqb, ne-eqb}
-use Rattle.octets.specs.Octets.{octets16, octets32}
 use Rattle.laws.proofs.Says.{says-eq, says-not}
 use Rattle.sheet_rules.specs.declared.Record.{Record}
 use Rattle.sheet_rules.specs.declared.State.{State}
@@ -22,12 +21,12 @@ use Rattle.sheet_rules.proofs.New.{CodedFacts, UncodedFacts, ResFacts, New, say
 use Rattle.sheet_rules.proofs.Backward.{listed-nonzero}
 use Rattle.sheet_rules.proofs.Fold.{step-next, run-append, begun-unbroken}
 use Rattle.jpeg_rules.specs.Grammar.{Layer}
-use Rattle.page_rules.proofs.There.{length-start}
+use Rattle.page_rules.proofs.Parts.{backIn, maskIn, foreIn, stripe-length, page-within}
 use Rattle.page_rules.specs.declared.Head.{Head}
 use Rattle.page_rules.specs.declared.LayerData.{LayerData}
-use Rattle.page_rules.specs.Kinds.{hasBack, hasMask, hasFore, Fields, imageRecord, maskRecord}
+use Rattle.page_rules.specs.Kinds.{hasBack, hasMask, hasFore, imageRecord, maskRecord}
 use Rattle.sheet_rules.specs.declared.Colour.{Colour}
-use Rattle.page_rules.specs.Grammar.{startOf, GoodHead, MaskCoder, TypeOf, colourOf, headOf, Image, there, absent, Stripe, Stripes, last, next, Page}
+use Rattle.page_rules.specs.Grammar.{GoodHead, MaskCoder, TypeOf, Image, there, absent, Stripe, Stripes, last, next, Page}
 
 -- ---- an image layer's record
 
@@ -86,10 +85,6 @@ mask-coder c (inr (inr (inl e))) d = inr (refl, inl e)
 mask-coder c (inr (inr (inr (inl e)))) d = inr (refl, inr (inl e))
 mask-coder c (inr (inr (inr (inr e)))) d = inr (refl, inr (inr e))
 
-pub length-head : (f : Fields) → length (headOf f) ≡ 39
-unfolding headOf colourOf octets32 octets16
-length-head f = refl
-
 -- ---- the state where a stripe begins
 
 pub record Ready (hd : Head) (k left : ℕ) (st : State) : Type 0 where
@@ -139,43 +134,31 @@ record Ran (hd : Head) (k left height : ℕ) (st : State) (rs : List Record) : T
 
 module _ (hd : Head) (g : GoodHead hd) (k left at : ℕ) (l : List ℕ) (height : ℕ) (rs : List Record) (z : Stripe hd k left at l height rs)
     (few : k < 64) (small : at + length l ≤ 16777215) (st : State) (rdy : Ready hd k left st) where
-  r1 : Record
-  r1 = imageRecord hd k 1 (z .fields .back) (z .fields .backX) (z .fields .backY) (z .backIs)
+  abbrev r1 : Record
+  r1 = backIn z
 
-  r2 : Record
-  r2 = maskRecord hd k (z .fields .height) (cond (hasMask (z .fields .type)) (hd .mask) 0) (cond (hasMask (z .fields .type)) (at + 39) 0) (z .fields .maskLength)
+  abbrev r2 : Record
+  r2 = maskIn z
 
-  r3 : Record
-  r3 = imageRecord hd k 3 (z .fields .fore) (z .fields .foreX) (z .fields .foreY) (z .foreIs)
-
-  sizes : at + 39 + length (z .mask) + length (z .back) + length (z .fore) ≡ at + length l
-  sizes =
-      let a = ap length (z .octets) in
-      let b = length-append (headOf (z .fields)) (z .mask ++ (z .back ++ z .fore)) in
-      let c = length-append (z .mask) (z .back ++ z .fore) in
-      let d = length-append (z .back) (z .fore) in
-      let e = length-head (z .fields) in
-      omega arith
+  abbrev r3 : Record
+  r3 = foreIn z
 
   one : ImageFacts (hd .main) k 1 (hasBack (z .fields .type)) r1
-  unfolding r1
   one =
-      let q = sizes in
+      let q = stripe-length z in
       image-facts hd k 1 (at + 39 + length (z .mask)) (z .fields .back) (z .fields .backX) (z .fields .backY) (hasBack (z .fields .type)) (z .back) (z .backIs) refl (g .main) (omega arith) (z .backThere)
 
   two : MaskFacts (hasMask (z .fields .type)) r2
-  unfolding r2
   two =
-      let q = sizes in
+      let q = stripe-length z in
       let n = z .size in
       let w = g .width in
       let h = z .good .height in
       mask-facts hd k (z .fields .height) (at + 39) (z .fields .maskLength) (hasMask (z .fields .type)) (g .mask) (z .good .maskCoder) (w .0) (h .0) (omega arith) (z .good .mask)
 
   three : ImageFacts (hd .main) k 3 (hasFore (z .fields .type)) r3
-  unfolding r3
   three =
-      let q = sizes in
+      let q = stripe-length z in
       image-facts hd k 3 (at + 39 + length (z .mask) + length (z .back)) (z .fields .fore) (z .fields .foreX) (z .fields .foreY) (hasFore (z .fields .type)) (z .fore) (z .foreIs) refl (g .main) (omega arith) (z .foreThere)
 
   new1 : New st r1
@@ -201,7 +184,7 @@ module _ (hd : Head) (g : GoodHead hd) (k left at : ℕ) (l : List ℕ) (height 
   st1 = after1 st r1
 
   new2 : New st1 r2
-  unfolding st1 after1 r2 maskRecord
+  unfolding st1 after1 maskRecord
   new2 =
       let x = one in
       let si = x .stripe-is in
@@ -240,7 +223,7 @@ module _ (hd : Head) (g : GoodHead hd) (k left at : ℕ) (l : List ℕ) (height 
   st2 = after2 st1 r2
 
   new3 : New st2 r3
-  unfolding st2 st1 after2 after1 r2 maskRecord
+  unfolding st2 st1 after2 after1 maskRecord
   new3 =
       let x = three in
       let si = x .stripe-is in
@@ -274,7 +257,7 @@ module _ (hd : Head) (g : GoodHead hd) (k left at : ℕ) (l : List ℕ) (height 
   first-is = after-is-1 st r1 (one .layer-is)
 
   second-is : after st1 r2 ≡ st2
-  unfolding st2 r2 maskRecord
+  unfolding st2 maskRecord
   second-is = after-is-2 st1 r2 refl
 
   st3 : State
@@ -291,7 +274,7 @@ module _ (hd : Head) (g : GoodHead hd) (k left at : ℕ) (l : List ℕ) (height 
       ∙ ap (λ (x : Step). onStep x Stop (λ (t : State). run t [])) e3
 
   stripe-ran : Ran hd k left height st rs
-  unfolding st3 st2 st1 after3 after2 after1 r1 r2 r3 maskRecord
+  unfolding st3 st2 st1 after3 after2 after1 maskRecord
   stripe-ran =
       let si = three .stripe-is in
       let li = three .layer-is in
@@ -332,11 +315,7 @@ stripes-ran {hd} g {k} {left} {at} (next {l = l} {more = more} {rs = rs} {sr = s
 
 pub page-accepted : (s : List ℕ) (rs : List Record) → Page s rs → length s ≤ 16777215 → Sheet rs
 page-accepted s rs p h =
-    let a1 = ap length (p .octets) in
-    let a2 = length-append (startOf (p .head)) (p .optionals ++ (p .stripes ++ (0xFF ∷ 0xD9 ∷ 0xFF ∷ 0xD9 ∷ replicate (p .zeros) 0))) in
-    let a3 = length-append (p .optionals) (p .stripes ++ (0xFF ∷ 0xD9 ∷ 0xFF ∷ 0xD9 ∷ replicate (p .zeros) 0)) in
-    let a4 = length-append (p .stripes) (0xFF ∷ 0xD9 ∷ 0xFF ∷ 0xD9 ∷ replicate (p .zeros) 0) in
-    let a5 = length-start (p .head) in
+    let a = page-within s rs p in
     let w = stripes-ran (p .good) (p .striped) begin (record { place = inl (refl, refl, refl); left-is = refl }) (omega arith) in
     let b = begun-unbroken rs (w .t) (w .went) in
     let g = b .1 in

@@ -20,7 +20,7 @@ use Rattle.sheet_rules.specs.declared.Verdict.the-variants.{Good}
 use Rattle.sheet_rules.specs.Record.{recordAt, records, nth}
 use Rattle.sheet_rules.specs.Judge.{judgeOf, divides}
 use Rattle.sheet_rules.specs.Sentences.{Among, Listed, Sheet}
-use Rattle.sheet_rules.specs.StripeTable.{extentOf, findStripe}
+use Rattle.sheet_rules.specs.StripeTable.{extentOf, findStripe, layerRecord}
 use Rattle.sheet_rules.proofs.Among.{nth-among}
 use Rattle.sheet_rules.proofs.Cut.{records-count, record-nth}
 use Rattle.sheet_rules.proofs.Extents.{LayerCount}
@@ -167,7 +167,7 @@ module _ {s : List ℕ} {pl : PlaneList} {d : List ℕ} {k y : ℕ} {v : Scene} 
       subst (λ (extent : Extent). LayerCount (extent .layers)) (sym stage-extent) (sheet-table (records s) stage-sheet .layers k (omega arith))
 
   pub stage-record : (l : ℕ) → recordOf v l ≡ recordAt s (extentOf k (records s) .first + (l - 1))
-  unfolding recordOf
+  unfolding layerRecord
   stage-record l = let a = stage-extent in let b = g .sheet in cc
 
   -- layer l of the stripe is a record of the sheet with these numbers
