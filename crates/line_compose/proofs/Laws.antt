@@ -13,6 +13,7 @@ use Rattle.laws.proofs.Cases.{clash}
 use Rattle.octets.specs.Octets.{putAt}
 use Rattle.octets.proofs.Laws.{put-nothing, put-put, put-length}
 use Rattle.octets.proofs.Turns.{sets-put}
+use Rattle.line_fetch.specs.Rows.{rowSize, rowsSize}
 use Rattle.sheet_rules.specs.StripeTable.{layerRecord}
 use Rattle.answers.specs.declared.Answer.{Answer}
 use Rattle.answers.specs.declared.Answer.the-variants.{Done, NoRoom}
@@ -137,11 +138,11 @@ module _ (s : List ℕ) (extent : Extent) (t : Listing) (d : List ℕ) (y : ℕ)
         turns = λ l a b. scene-ratio-some stage l a b;
       }
 
-  pub shown-ninety : extent .layers * 6 ≤ length {A = ℕ} (replicate 90 0)
-  shown-ninety = let c = stage-layers stage in let n : length {A = ℕ} (replicate 90 0) ≡ 90 = refl in omega arith
+  pub shown-rows : extent .layers * rowSize ≤ length {A = ℕ} (replicate rowsSize 0)
+  shown-rows = let c = stage-layers stage in let n : length {A = ℕ} (replicate rowsSize 0) ≡ rowsSize = refl in omega arith
 
-  pub shown-fits : (rows : List ℕ) → rows ≡ putAt (replicate 90 0) 0 (rowsOf s extent (entriesOf t) (record { 0 = y }) (extent .layers)) → RowsFit s d rows (extent .layers / 2)
-  shown-fits rows e = subst (λ (r : List ℕ). RowsFit s d r (extent .layers / 2)) (sym e) (rows-fit here list (g .stripe) y (record { 0 = y }) stage whole (replicate 90 0) shown-ninety)
+  pub shown-fits : (rows : List ℕ) → rows ≡ putAt (replicate rowsSize 0) 0 (rowsOf s extent (entriesOf t) (record { 0 = y }) (extent .layers)) → RowsFit s d rows (extent .layers / 2)
+  shown-fits rows e = subst (λ (r : List ℕ). RowsFit s d r (extent .layers / 2)) (sym e) (rows-fit here list (g .stripe) y (record { 0 = y }) stage whole (replicate rowsSize 0) shown-rows)
 
   module _ (out : List ℕ) (second : Record) (width : ℕ) (es : second ≡ recordAt s (extent .first + 1)) (ew : width ≡ second .width) where
     wide-is : width ≡ widthOf here
@@ -154,7 +155,7 @@ module _ (s : List ℕ) (extent : Extent) (t : Listing) (d : List ℕ) (y : ℕ)
         let z = lt-ltb (length out) (widthOf here * 4) (subst (λ (n : ℕ). length out < n * 4) wide-is h) in
         record { answers = rw z refl; holds = rw z refl }
 
-    pub shown-done : (rows e : List ℕ) → width * 4 ≤ length out → rows ≡ putAt (replicate 90 0) 0 (rowsOf s extent (entriesOf t) (record { 0 = y }) (extent .layers))
+    pub shown-done : (rows e : List ℕ) → width * 4 ≤ length out → rows ≡ putAt (replicate rowsSize 0) 0 (rowsOf s extent (entriesOf t) (record { 0 = y }) (extent .layers))
         → e ≡ putAt out 0 (pixels (λ (x : MainPos). decide (rowStack s d rows x) (extent .layers / 2)) width) → Composed here y out (Done (width * 4)) e
     unfolding lineAnswer lineHolds linePixels
     shown-done rows e h er ee =
@@ -164,10 +165,10 @@ module _ (s : List ℕ) (extent : Extent) (t : Listing) (d : List ℕ) (y : ℕ)
           holds = rw z
               (ee ∙ ap₂ (λ (r : List ℕ) (n : ℕ). putAt out 0 (pixels (λ (x : MainPos). decide (rowStack s d r x) (extent .layers / 2)) n)) er wide-is
               ∙ ap (λ (f : MainPos → Sample). putAt out 0 (pixels f (widthOf here)))
-              (λ i x. pixel-is here list (g .stripe) y (record { 0 = y }) stage whole (replicate 90 0) shown-ninety x i));
+              (λ i x. pixel-is here list (g .stripe) y (record { 0 = y }) stage whole (replicate rowsSize 0) shown-rows x i));
         }
 
-pub ruleset showing = (needs, shown-place, shown-standing, shown-ninety, shown-fits, shown-no-room, shown-done)
+pub ruleset showing = (needs, shown-place, shown-standing, shown-rows, shown-fits, shown-no-room, shown-done)
 
 -- ---- behind the verdict
 

@@ -4,16 +4,17 @@
 --   rowBy                the one or the other
 --   otherOf              what a layer gives outside its area
 --   rowOf s extent ps y l   the row of layer l in line y
---   rowsOf               the numbers of the rows of layers 1 to n, one behind the other
+--   rowsOf               the numbers of the rows of layers 1 to n, one after the other
 --   Covered              the line crosses the layer's area, of samples of k main pixels each
 --   Layer                the same of one layer
 --   Standing             what of an accepted sheet the rows need
-use Prim.Native.Nat.{ℕ, zero, suc, _+_, _-_, _*_, _/_, _%_, _≤_, _<_}
+use Prim.Native.Nat.{ℕ, _+_, _-_, _*_, _/_, _%_, _≤_, _<_}
 use mathlib.Core.Path.{_≡_}
 use mathlib.Core.Bool.{Bool, true, _&&_, not, cond}
-use mathlib.Core.List.{List, [], _++_}
+use mathlib.Core.List.{List}
 use lib.ListN.{length}
 use lib.Dec.{eqb}
+use Rattle.octets.specs.Entries.{entriesFrom, joined}
 use Rattle.sheet_rules.specs.StripeTable.{layerRecord, mainRes}
 use Rattle.sheet_rules.specs.declared.Record.{Record}
 use Rattle.sheet_rules.specs.declared.Extent.{Extent}
@@ -53,10 +54,8 @@ rowOf s extent ps y l =
     rowBy (layerRecord s extent l) (ratio (mainRes s extent) (layerRecord s extent l)) y (planeStart ps l)
     (otherOf (coded (layerRecord s extent 3)) (layerRecord s extent l) (extent .first + (l - 1)) l)
 
-unfoldable pub rowsOf : List ℕ → Extent → List Plane → MainPos → ℕ → List ℕ
-unfolding rowOf
-rowsOf s extent ps y zero = []
-rowsOf s extent ps y (suc n) = rowsOf s extent ps y n ++ numbersOf (rowOf s extent ps y (suc n))
+abbrev pub rowsOf : List ℕ → Extent → List Plane → MainPos → ℕ → List ℕ
+rowsOf s extent ps y n = joined numbersOf (entriesFrom (rowOf s extent ps y) n 1)
 
 pub record Covered (r : Record) (k : ℕ) (y : MainPos) : Type 0 where
   pub some : 0 < k

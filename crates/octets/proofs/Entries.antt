@@ -98,6 +98,9 @@ module _ {A : Type 0} {size : ℕ} {at : List ℕ → ℕ → A} {enc : A → Li
       (λ m h. let p : 1 + m ≡ 0 + m + 1 = omega arith in ap (at (enc e ++ joined enc es)) p ∙ entry-after e (joined enc es) (0 + m))
       ∙ joined-entries es)
 
+  pub joined-entry : (d : A) (es : List A) (i : ℕ) → i < length es → at (joined enc es) i ≡ getD es i d
+  joined-entry d es i h = sym (entry-of (at (joined enc es)) d (length es) i h) ∙ ap (λ (l : List A). getD l i d) (joined-entries es)
+
   -- octets that were made of entries are cut into them, and none is left over
   pub joined-whole : (es : List A) → wholeEntries size at (joined enc es) ≡ es
   joined-whole es =
