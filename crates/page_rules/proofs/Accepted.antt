@@ -24,7 +24,7 @@ use Rattle.jpeg_rules.specs.Grammar.{Layer}
 use Rattle.page_rules.proofs.Parts.{backIn, maskIn, foreIn, stripe-length, page-within}
 use Rattle.page_rules.specs.declared.Head.{Head}
 use Rattle.page_rules.specs.declared.LayerData.{LayerData}
-use Rattle.page_rules.specs.Kinds.{hasBack, hasMask, hasFore, imageRecord, maskRecord}
+use Rattle.page_rules.specs.Kinds.{hasBack, hasMask, hasFore, imageRecord, maskRecord, longestPage}
 use Rattle.sheet_rules.specs.declared.Colour.{Colour}
 use Rattle.page_rules.specs.Grammar.{GoodHead, MaskCoder, TypeOf, Image, there, absent, Stripe, Stripes, last, next, Page}
 
@@ -43,7 +43,7 @@ record ImageFacts (main k l : ℕ) (b : Bool) (r : Record) : Type 0 where
 layer-size : {main w h r : ℕ} (l : List ℕ) → Layer main l w h r → length l ≢ 0
 layer-size l y z = let a = ap length (y .octets) in omega arith
 
-image-facts : (hd : Head) (k l at : ℕ) (base : Colour) (x y : ℕ) (b : Bool) (o : List ℕ) (c : LayerData) → (l % 2 ≡ 1) → Listed (hd .main) → at + length o ≤ 16777215
+image-facts : (hd : Head) (k l at : ℕ) (base : Colour) (x y : ℕ) (b : Bool) (o : List ℕ) (c : LayerData) → (l % 2 ≡ 1) → Listed (hd .main) → at + length o ≤ longestPage
     → Image (hd .main) at b o c → ImageFacts (hd .main) k l b (imageRecord hd k l base x y c)
 unfolding imageRecord
 image-facts hd k l at base x y b o c odd g small (there {w = w} {h = h} {r = r} z) =
@@ -97,7 +97,7 @@ record MaskFacts (b : Bool) (r : Record) : Type 0 where
   coded-is : isCoded r ≡ b
   contents : (Coded r × CodedFacts r) ⊎ (UncodedRecord r × UncodedFacts r)
 
-mask-facts : (hd : Head) (k height at n : ℕ) (b : Bool) → MaskCoder (hd .mask) → (b ≡ true → hd .mask ≢ 0) → 1 ≤ hd .width → 1 ≤ height → at + n ≤ 16777215
+mask-facts : (hd : Head) (k height at n : ℕ) (b : Bool) → MaskCoder (hd .mask) → (b ≡ true → hd .mask ≢ 0) → 1 ≤ hd .width → 1 ≤ height → at + n ≤ longestPage
     → (b ≡ true → n ≡ 0 → ⊥) × (b ≡ false → n ≡ 0) → MaskFacts b (maskRecord hd k height (cond b (hd .mask) 0) (cond b at 0) n)
 unfolding maskRecord
 mask-facts hd k height at n true g c w h small m =
@@ -133,7 +133,7 @@ record Ran (hd : Head) (k left height : ℕ) (st : State) (rs : List Record) : T
   third : t .layer ≡ 3
 
 module _ (hd : Head) (g : GoodHead hd) (k left at : ℕ) (l : List ℕ) (height : ℕ) (rs : List Record) (z : Stripe hd k left at l height rs)
-    (few : k < 64) (small : at + length l ≤ 16777215) (st : State) (rdy : Ready hd k left st) where
+    (few : k < 64) (small : at + length l ≤ longestPage) (st : State) (rdy : Ready hd k left st) where
   abbrev r1 : Record
   r1 = backIn z
 
@@ -299,7 +299,7 @@ record Whole (st : State) (rs : List Record) : Type 0 where
   third : t .layer ≡ 3
 
 stripes-ran : {hd : Head} → GoodHead hd → {k left at : ℕ} {l : List ℕ} {rs : List Record} → Stripes hd k left at l rs → (st : State) → Ready hd k left st
-    → at + length l ≤ 16777215 → Whole st rs
+    → at + length l ≤ longestPage → Whole st rs
 unfolding run
 stripes-ran g (last some) st rdy small =
     record {
@@ -313,7 +313,7 @@ stripes-ran {hd} g {k} {left} {at} (next {l = l} {more = more} {rs = rs} {sr = s
     let y = stripes-ran g rest (x .t) (x .ready) (omega arith) in
     record { t = y .t; went = run-more st (x .t) rs sr (x .went) ∙ y .went; third = y .third }
 
-pub page-accepted : (s : List ℕ) (rs : List Record) → Page s rs → length s ≤ 16777215 → Sheet rs
+pub page-accepted : (s : List ℕ) (rs : List Record) → Page s rs → length s ≤ longestPage → Sheet rs
 page-accepted s rs p h =
     let a = page-within s rs p in
     let w = stripes-ran (p .good) (p .striped) begin (record { place = inl (refl, refl, refl); left-is = refl }) (omega arith) in

@@ -12,6 +12,7 @@ use borrow.Author.Tests.{ltb-false}
 use Rattle.octets.specs.Octets.{Octets, putAt}
 use Rattle.octets.proofs.Laws.{put-back, put-rest, put-length}
 use Rattle.octets.proofs.Entries.{joined-length}
+use Rattle.page_rules.specs.Kinds.{longestPage}
 use Rattle.laws.proofs.Cases.{clash}
 use Rattle.answers.specs.declared.Answer.{Answer}
 use Rattle.answers.specs.declared.Answer.the-variants.{Done, NoRoom, TooLong}
@@ -45,14 +46,14 @@ module _ (s d : List ℕ) (P : Answer → List ℕ → Type 0) where
   into-room (no a) e bad good = bad a (inl e)
 
   by-answer : ((a : Answer) → Refuses s a → P a d)
-      → (length s ≤ 16777215 → (rs : List Record) (n : ℕ) → pageOf s ≡ ok rs n → length rs * recordSize ≤ length d → P (Done (length rs)) (putAt d 0 (sheetOf rs)))
+      → (length s ≤ longestPage → (rs : List Record) (n : ℕ) → pageOf s ≡ ok rs n → length rs * recordSize ≤ length d → P (Done (length rs)) (putAt d 0 (sheetOf rs)))
       → P (readOf s (length d)) (readInto s d)
   unfolding readOf readInto
-  by-answer bad good = by (ltb 16777215 (length s)) refl
+  by-answer bad good = by (ltb longestPage (length s)) refl
     where
-      by : (b : Bool) → ltb 16777215 (length s) ≡ b → P (cond b TooLong (roomOf (length d) (pageOf s))) (cond b d (intoOf d (pageOf s)))
+      by : (b : Bool) → ltb longestPage (length s) ≡ b → P (cond b TooLong (roomOf (length d) (pageOf s))) (cond b d (intoOf d (pageOf s)))
       by true t = bad TooLong (inr (inr refl))
-      by false t = into-room (pageOf s) refl bad (good (ltb-false 16777215 (length s) t))
+      by false t = into-room (pageOf s) refl bad (good (ltb-false longestPage (length s) t))
 
 -- ---- a refusal changes no octet, and no answer changes the buffer's length or the octets past the sheet
 

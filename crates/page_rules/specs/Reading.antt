@@ -32,7 +32,7 @@ use Rattle.jpeg_rules.specs.Walk.{walkOf}
 use Rattle.page_rules.specs.declared.Head.{Head}
 use Rattle.page_rules.specs.declared.LayerData.{LayerData}
 use Rattle.page_rules.specs.declared.LayerData.the-variants.{There, Absent}
-use Rattle.page_rules.specs.Kinds.{maskCoder, imageCoder, hasBack, hasMask, hasFore, typeOk, Fields, offsetOk}
+use Rattle.page_rules.specs.Kinds.{maskCoder, imageCoder, hasBack, hasMask, hasFore, typeOk, Fields, offsetOk, longestPage}
 use Rattle.page_rules.specs.Grammar.{recordsOf}
 
 -- a rule on a field of one number
@@ -190,7 +190,7 @@ roomOf room (no a) = a
 
 unfoldable pub readOf : List ℕ → ℕ → Answer
 unfolding pageOf roomOf
-readOf s room = cond (ltb 16777215 (length s)) TooLong (roomOf room (pageOf s))
+readOf s room = cond (ltb longestPage (length s)) TooLong (roomOf room (pageOf s))
 
 -- the sheet's octets in front, and the octets past them as they were; a refusal changes nothing
 unfoldable pub intoOf : List ℕ → Res (List Record) → List ℕ
@@ -199,7 +199,7 @@ intoOf d (no a) = d
 
 unfoldable pub readInto : List ℕ → List ℕ → List ℕ
 unfolding pageOf intoOf
-readInto s d = cond (ltb 16777215 (length s)) d (intoOf d (pageOf s))
+readInto s d = cond (ltb longestPage (length s)) d (intoOf d (pageOf s))
 
 pub record Reads (s d : List ℕ) (a : Answer) (e : List ℕ) : Type 0 where
   pub answers : a ≡ readOf s (length d)

@@ -10,6 +10,7 @@ use Rattle.octets.specs.Octets.{putAt}
 use Rattle.octets.proofs.Laws.{put-put, put-nothing, put-length}
 use Rattle.octets.specs.Entries.{joined}
 use Rattle.octets.proofs.Entries.{joined-length, joined-append}
+use Rattle.page_rules.specs.Kinds.{stripeSheet}
 use Rattle.sheet_rules.proofs.Cut.{record-entry}
 use Rattle.sheet_rules.specs.declared.Record.{Record}
 use Rattle.sheet_rules.specs.Record.{sheetOf, encode}
@@ -53,13 +54,13 @@ module _ (hd : Head) (s out₀ : List ℕ) (o : Opened out₀ s) where
     loop-standing = g .standing
 
     -- the records laid take so many octets
-    before : length (sheetOf (g .records)) ≡ p .stripe * 84
+    before : length (sheetOf (g .records)) ≡ p .stripe * stripeSheet
     before = let l = joined-length record-entry (g .records) in let c = g .counted in omega arith
 
-    laid-on : (rs : List Record) → putAt out (p .stripe * 84) (sheetOf rs) ≡ putAt out₀ 0 (sheetOf (g .records ++ rs))
+    laid-on : (rs : List Record) → putAt out (p .stripe * stripeSheet) (sheetOf rs) ≡ putAt out₀ 0 (sheetOf (g .records ++ rs))
     laid-on rs =
-        let b : p .stripe * 84 ≡ 0 + length (sheetOf (g .records)) = let c = before in omega arith in
-        ap (λ (l : List ℕ). putAt l (p .stripe * 84) (sheetOf rs)) (g .laid)
+        let b : p .stripe * stripeSheet ≡ 0 + length (sheetOf (g .records)) = let c = before in omega arith in
+        ap (λ (l : List ℕ). putAt l (p .stripe * stripeSheet) (sheetOf rs)) (g .laid)
         ∙ ap (λ (j : ℕ). putAt (putAt out₀ 0 (sheetOf (g .records))) j (sheetOf rs)) b
         ∙ put-put out₀ 0 (sheetOf (g .records)) (sheetOf rs) (omega arith)
         ∙ ap (putAt out₀ 0) (sym (joined-append encode (g .records) rs))
@@ -86,7 +87,7 @@ module _ (hd : Head) (s out₀ : List ℕ) (o : Opened out₀ s) where
             same = z ∙ x .same fuel (g .records);
             laid = w .laid ∙ laid-on (x .records);
             counted = omega arith;
-            standing = record { inside = w .inside; small = g .standing .small; few = w .few; low = omega arith; room = ap length (w .laid) ∙ put-length out (p .stripe * 84) (sheetOf (x .records)) (omega arith) ∙ l7 };
+            standing = record { inside = w .inside; small = g .standing .small; few = w .few; low = omega arith; room = ap length (w .laid) ∙ put-length out (p .stripe * stripeSheet) (sheetOf (x .records)) (omega arith) ∙ l7 };
           }
 
       pub loop-on : (q : Place) → r ≡ Go q → Going hd s out₀ q out′

@@ -14,6 +14,7 @@ use Rattle.laws.proofs.Cases.{cond-with, bool-else}
 use Rattle.octets.specs.Octets.{standsAt}
 use Rattle.octets.proofs.Laws.{put-nothing}
 use Rattle.octets.specs.Entries.{joined}
+use Rattle.page_rules.specs.Kinds.{stripeSheet}
 use Rattle.answers.specs.declared.Answer.{Answer}
 use Rattle.answers.specs.declared.Answer.the-variants.{BadStripe}
 use Rattle.field_rules.specs.Field.{Res, ok, no, bind, fields}
@@ -112,7 +113,7 @@ module _ (hd : Head) (p : Place) (s out : List ℕ) (i : Standing out s p) {g : 
       let r0 = r .0 in
       record {
         records = [];
-        onward = record { laid = sym (put-nothing out (p .stripe * 84)); counted = omega arith; few = i .few; low = omega arith; on = omega arith; inside = r .1 };
+        onward = record { laid = sym (put-nothing out (p .stripe * stripeSheet)); counted = omega arith; few = i .few; low = omega arith; on = omega arith; inside = r .1 };
         same = λ fuel acc.
             body-is fuel acc ∙ ap (onSegment fuel hd (p .stripe) (p .left) acc s (p .at)) z
             ∙ ap (λ (l : List Record). bodyFrom fuel hd (p .stripe) (p .left) l s next) (sym (append-nil acc));

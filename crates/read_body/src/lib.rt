@@ -1,6 +1,7 @@
 // The body of a page, segment by segment: optional segments, stripes and the end. The records of each stripe are laid where all of it is read.
 ghost use mathlib.Core.Path.{_≡_};
 ghost use Prim.Native.Nat.{_≤_};
+ghost use Rattle.page_rules.specs.Kinds.{longestPage};
 ghost use Rattle.read_body.specs.Steps.{Laying, layersAt, stepOf, laidOf, Ready, Striped, endedOf, StripeTurned, Standing, Turned, Opened, Bodied};
 use answers::Answer;
 use page_rules::Head;
@@ -70,7 +71,7 @@ fn stripe_step(out: &mut [u8], s: &[u8], hd: Head, k: u16, left: u32, at: u32, s
 
 // A page without stripes is faulted at the FF D9.
 fn body_end(p: Place) -> Body
-    requires { ⌜ p .at ≤ 16777215 ⌝ }
+    requires { ⌜ p .at ≤ longestPage ⌝ }
     ensures { λ r. ⌜ r ≡ endedOf p ⌝ }
 {
     if p.stripe == 0 {

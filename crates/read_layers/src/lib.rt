@@ -3,6 +3,7 @@ ghost use mathlib.Core.Path.{_≡_};
 ghost use Prim.Native.Nat.{_+_, _≤_};
 ghost use Rattle.answers.specs.Answers.{placeOf};
 ghost use Rattle.page_rules.specs.Reading.{faultOf, walked};
+ghost use Rattle.page_rules.specs.Kinds.{longestPage};
 ghost use Rattle.read_layers.specs.Layers.{Inside, layerOf, foreOf, layersIn};
 use answers::Answer;
 use jpeg_rules::Fault;
@@ -27,7 +28,7 @@ pub enum Layers {
 
 // A place of a page fits the answer.
 fn fault_answer(f: Fault) -> Answer
-    requires { ⌜ placeOf (faultOf f) ≤ 16777215 ⌝ }
+    requires { ⌜ placeOf (faultOf f) ≤ longestPage ⌝ }
     ensures { λ r. ⌜ r ≡ faultOf f ⌝ }
 {
     match f {

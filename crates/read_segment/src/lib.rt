@@ -4,6 +4,7 @@ ghost use mathlib.Core.Path.{_≡_};
 ghost use Prim.Native.Nat.{_+_, _≤_, _<_};
 ghost use lib.ListN.{length};
 ghost use Rattle.page_rules.specs.Reading.{spanOf};
+ghost use Rattle.page_rules.specs.Kinds.{longestPage};
 ghost use Rattle.read_segment.specs.Ends.{zerosFrom, closeOf};
 ghost use Rattle.read_segment.specs.Segments.{Behind, optionalAt, onSpan, identOf, lengthOf, segmentOf};
 use answers::Answer;
@@ -79,7 +80,7 @@ fn by_length(s: &[u8], k: u32, at: u32) -> Segment
 }
 
 pub fn segment_at(s: &[u8], k: u32, at: u32) -> Segment
-    requires { ⌜ at ≤ 16777215 ⌝ }
+    requires { ⌜ at ≤ longestPage ⌝ }
     ensures { λ r. ⌜ r ≡ segmentOf k (now (s .entry)) at ⌝ }
 {
     if read_field::fits(s, at, 2) {
@@ -99,7 +100,7 @@ pub fn segment_at(s: &[u8], k: u32, at: u32) -> Segment
 // ---- the end of page (9.2.4): its second FF D9, then zero octets only
 
 fn trailing(s: &[u8], from: usize) -> Judged
-    requires { ⌜ length (now s) ≤ 16777215 ⌝ }
+    requires { ⌜ length (now s) ≤ longestPage ⌝ }
     ensures { λ r. ⌜ r ≡ zerosFrom (now (s .entry)) from ⌝ }
 {
     let mut i = from;
@@ -113,7 +114,7 @@ fn trailing(s: &[u8], from: usize) -> Judged
 }
 
 pub fn judge_end(s: &[u8], at: u32) -> Judged
-    requires { ⌜ length (now s) ≤ 16777215 ⌝ }
+    requires { ⌜ length (now s) ≤ longestPage ⌝ }
     ensures { λ r. ⌜ r ≡ closeOf (now (s .entry)) at ⌝ }
 {
     let mark = octets::stands_at(s, at as usize, &EOI);

@@ -14,7 +14,7 @@ use Rattle.sheet_rules.specs.declared.State.{State}
 use Rattle.sheet_rules.specs.declared.Verdict.the-variants.{Good}
 use Rattle.sheet_rules.specs.declared.FoundStripe.the-variants.{Has, NoStripe}
 use Rattle.sheet_rules.specs.declared.FoundLayer.the-variants.{At}
-use Rattle.sheet_rules.specs.Record.{recordSize, recordAt, recordsFrom, records, nth, heightIn}
+use Rattle.sheet_rules.specs.Record.{recordSize, recordAt, recordsFrom, records, nth, heightIn, mostRecords}
 use Rattle.laws.specs.Tests.{only}
 use Rattle.sheet_rules.specs.Judge.{judgeOf}
 use Rattle.sheet_rules.specs.Sentences.{Closing, Sheet, stripeCount}
@@ -147,7 +147,7 @@ few-all : (s : List ℕ) (n m : ℕ) → judgeOf s ≡ Good n m → few s ≡ re
 unfolding few records
 few-all s n m e =
     let f = sheet-few s n m e in
-    let z : min (length s / recordSize) 960 ≡ length s / recordSize = omega arith in
+    let z : min (length s / recordSize) mostRecords ≡ length s / recordSize = omega arith in
     ap (λ (k : ℕ). recordsFrom s k 0) z
 
 module _ (s : List ℕ) (n m : ℕ) (e : judgeOf s ≡ Good n m) where

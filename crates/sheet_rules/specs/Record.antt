@@ -1,6 +1,8 @@
 -- The sheet's records: their octets, their values, and a sheet cut into records (01, "The sheet").
 --
 --   recordSize    the octets of a record
+--   mostRecords   how many records a good sheet has at most
+--   decisiveSize  so many octets of a sheet decide its verdict: those of one record more
 --   colourAt      the colour of the three octets from a place on
 --   recordFrom    the record of the 28 octets from a place on
 --   recordAt      the record of a number in a sheet
@@ -24,6 +26,13 @@ use Rattle.sheet_rules.specs.declared.Record.{Record}
 
 abbrev pub recordSize : ℕ
 recordSize = 28
+
+-- 64 stripes of 15 layers
+abbrev pub mostRecords : ℕ
+mostRecords = 960
+
+abbrev pub decisiveSize : ℕ
+decisiveSize = (mostRecords + 1) * recordSize
 
 abbrev pub colourAt : List ℕ → ℕ → Colour
 colourAt s at = record { c0 = getD s at 0; c1 = getD s (at + 1) 0; c2 = getD s (at + 2) 0 }

@@ -20,7 +20,7 @@ use Rattle.sheet_rules.specs.declared.FoundStripe.{FoundStripe}
 use Rattle.sheet_rules.specs.declared.FoundStripe.the-variants.{Has, NoStripe}
 use Rattle.sheet_rules.specs.declared.FoundLayer.{FoundLayer}
 use Rattle.sheet_rules.specs.declared.FoundLayer.the-variants.{At, NoLayer}
-use Rattle.sheet_rules.specs.Record.{recordSize, recordAt, recordsFrom, sumOf, heightIn}
+use Rattle.sheet_rules.specs.Record.{recordSize, recordAt, recordsFrom, sumOf, heightIn, mostRecords}
 use Rattle.laws.specs.Tests.{only}
 use Rattle.sheet_rules.specs.Judge.{begin}
 
@@ -47,7 +47,7 @@ withRecord k extent r =
 
 unfoldable pub few : List ℕ → List Record
 unfolding entriesFrom
-few s = recordsFrom s (min (length s / recordSize) 960) 0
+few s = recordsFrom s (min (length s / recordSize) mostRecords) 0
 
 unfoldable pub foundExtent : Extent → FoundStripe
 foundExtent extent = cond (eqb (extent .layers) 0) NoStripe (Has extent)

@@ -17,7 +17,7 @@ use Rattle.sheet_rules.specs.declared.Extent.{Extent}
 use Rattle.sheet_rules.specs.declared.FoundStripe.{FoundStripe}
 use Rattle.sheet_rules.specs.declared.FoundStripe.the-variants.{Has, NoStripe}
 use Rattle.sheet_rules.specs.declared.FoundLayer.the-variants.{At, NoLayer}
-use Rattle.sheet_rules.specs.Record.{recordSize, recordAt, recordsFrom, heightIn}
+use Rattle.sheet_rules.specs.Record.{recordSize, recordAt, recordsFrom, heightIn, mostRecords}
 use Rattle.laws.specs.Tests.{only}
 use Rattle.sheet_rules.specs.StripeTable.{extentOf, withRecord, few, foundExtent, findStripe, findLayer}
 use Rattle.sheet_rules.proofs.Table.{extent-none, extent-more}
@@ -121,11 +121,11 @@ counted-more s k i extent t r c e h q =
       height = omega arith;
     }
 
-pub counted-end : (s : List ℕ) (k n i : ℕ) (extent : Extent) (f : FoundStripe) → n ≡ min (length s / recordSize) 960 → Counted s k i extent → i ≤ n → n ≤ i
+pub counted-end : (s : List ℕ) (k n i : ℕ) (extent : Extent) (f : FoundStripe) → n ≡ min (length s / recordSize) mostRecords → Counted s k i extent → i ≤ n → n ≤ i
     → f ≡ foundExtent extent → f ≡ findStripe s k
 unfolding findStripe few
 counted-end s k n i extent f e c h g q =
-    let z : i ≡ min (length s / recordSize) 960 = omega arith in
+    let z : i ≡ min (length s / recordSize) mostRecords = omega arith in
     q ∙ ap foundExtent (c .extent-is) ∙ ap (λ (m : ℕ). foundExtent (extentOf k (recordsFrom s m 0))) z
 
 pub ruleset finding = (needs, layer-zero, layer-past, layer-at, extent-missing, extent-there, height-two, height-else, more-before, more-in, more-behind, counted-begin, counted-more, counted-end)

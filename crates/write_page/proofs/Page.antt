@@ -10,6 +10,7 @@ use borrow.Author.Tests.{lt-ltb, le-ltb}
 use Rattle.laws.proofs.Cases.{clash}
 use Rattle.octets.specs.Octets.{Octets, putAt}
 use Rattle.octets.proofs.Laws.{put-length}
+use Rattle.page_rules.specs.Kinds.{longestPage}
 use Rattle.answers.specs.declared.Answer.{Answer}
 use Rattle.answers.specs.declared.Answer.the-variants.{Done, NoRoom, TooLong}
 use Rattle.field_rules.specs.Field.{Res, ok, no}
@@ -35,11 +36,11 @@ use Rattle.write_page.specs.Steps.{Lined, Sound, Fitting}
 abbrev headWith : Tally → Record → Head
 headWith t r = record { mask = t .mask; image = t .image; main = r .res; width = r .width }
 
-pub head-none : (s : List ℕ) (t : Tally) → length s < 56
+pub head-none : (s : List ℕ) (t : Tally) → length s < 2 * recordSize
     → _≡_ {A = Head} (record { mask = t .mask; image = t .image; main = 0; width = 0 }) (headBy (records s) t)
 head-none s t l = ap (headWith t) (second-blank s l)
 
-pub head-read : (s : List ℕ) (t : Tally) {r : Record} → 56 ≤ length s → r ≡ recordAt s 1
+pub head-read : (s : List ℕ) (t : Tally) {r : Record} → 2 * recordSize ≤ length s → r ≡ recordAt s 1
     → _≡_ {A = Head} (record { mask = t .mask; image = t .image; main = r .res; width = r .width }) (headBy (records s) t)
 head-read s t l e = ap (headWith t) (second-read s l e)
 
@@ -117,25 +118,25 @@ module _ (out s d : List ℕ) (t : Tally) (os : Octets s) (od : Octets d) (f : F
 
 -- ---- write_sound and write_page
 module _ (s d p : List ℕ) (t : Tally) (v : Sound s d t) where
-  pub write-long : 16777215 < t .size → Writes s d p TooLong p
+  pub write-long : longestPage < t .size → Writes s d p TooLong p
   unfolding writeOf answerBy sizeAnswer writeInto intoBy
-  write-long l = record { answers = simp (v .verdict, lt-ltb 16777215 (t .size) l); holds = simp (v .verdict, lt-ltb 16777215 (t .size) l) }
+  write-long l = record { answers = simp (v .verdict, lt-ltb longestPage (t .size) l); holds = simp (v .verdict, lt-ltb longestPage (t .size) l) }
 
-  module _ (l : t .size ≤ 16777215) where
+  module _ (l : t .size ≤ longestPage) where
     pub write-none : length p < t .size → Writes s d p NoRoom p
     unfolding writeOf answerBy sizeAnswer writeInto intoBy
     write-none r =
         record {
-          answers = simp (v .verdict, le-ltb 16777215 (t .size) l, lt-ltb (length p) (t .size) r);
-          holds = simp (v .verdict, le-ltb 16777215 (t .size) l, lt-ltb (length p) (t .size) r);
+          answers = simp (v .verdict, le-ltb longestPage (t .size) l, lt-ltb (length p) (t .size) r);
+          holds = simp (v .verdict, le-ltb longestPage (t .size) l, lt-ltb (length p) (t .size) r);
         }
 
     pub write-done : t .size ≤ length p → (p′ : List ℕ) → p′ ≡ putAt p 0 (pageBy d (records s) t) → Writes s d p (Done (t .size)) p′
     unfolding writeOf answerBy sizeAnswer writeInto intoBy
     write-done r p′ e =
         record {
-          answers = simp (v .verdict, le-ltb 16777215 (t .size) l, le-ltb (length p) (t .size) r);
-          holds = e ∙ simp (v .verdict, le-ltb 16777215 (t .size) l, le-ltb (length p) (t .size) r);
+          answers = simp (v .verdict, le-ltb longestPage (t .size) l, le-ltb (length p) (t .size) r);
+          holds = e ∙ simp (v .verdict, le-ltb longestPage (t .size) l, le-ltb (length p) (t .size) r);
         }
 
 pub write-fits : (s d p : List ℕ) (t : Tally) → Sound s d t → t .size ≤ length p → Fitting p s d t

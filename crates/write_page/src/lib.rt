@@ -11,7 +11,9 @@ ghost use Rattle.write_page.specs.Steps.{Lined, Fitting, Sound};
 use answers::Answer;
 use page_rules::EOI;
 use page_rules::Head;
+use page_rules::LONGEST_PAGE;
 use sheet_rules::RECORD_SIZE;
+use sheet_rules::TWO_RECORDS;
 use write_rules::Tally;
 use write_verdict::Pass;
 
@@ -37,7 +39,7 @@ fn put_stripes(out: &mut [u8], s: &[u8], d: &[u8], n: usize) -> usize
 fn head_of(s: &[u8], t: Tally) -> Head
     ensures { λ r. ⌜ r ≡ headBy (records (now (s .entry))) t ⌝ }
 {
-    if s.len() < 56 {
+    if s.len() < TWO_RECORDS {
         return Head {
             mask: t.mask,
             image: t.image,
@@ -80,7 +82,7 @@ fn write_sound(s: &[u8], d: &[u8], page: &mut [u8], t: Tally) -> Answer
     ensures { λ r. ⌜ Writes (now (s .entry)) (now (d .entry)) (now (page .entry)) r (now (page .exit)) ⌝ }
 {
     let size = t.size;
-    if 16777215 < size {
+    if (LONGEST_PAGE as u64) < size {
         return Answer::TooLong;
     }
     if (page.len() as u64) < size {

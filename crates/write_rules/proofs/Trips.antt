@@ -7,6 +7,7 @@ use mathlib.Core.Logic.{⊎-elim}
 use mathlib.Core.Bool.{true, false}
 use mathlib.Core.List.{List, _∷_, _++_}
 use lib.ListN.{length, length-append, length-replicate, replicate}
+use Rattle.page_rules.specs.Kinds.{longestPage}
 use Rattle.laws.proofs.Cases.{bool-else}
 use Rattle.sheet_rules.specs.declared.Record.{Record}
 use Rattle.sheet_rules.specs.Record.{records, sheetOf}
@@ -40,7 +41,7 @@ length-page s rs y =
     let f = length-start (y .head) in
     omega arith
 
-module _ (s : List ℕ) (rs : List Record) (y : Page s rs) (short : length s ≤ 16777215) where
+module _ (s : List ℕ) (rs : List Record) (y : Page s rs) (short : length s ≤ longestPage) where
   lent : (r : Record) → Among r rs → Lent (y .head) r
   lent = stripes-lent (y .striped)
 

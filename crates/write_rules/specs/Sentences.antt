@@ -14,6 +14,7 @@ use mathlib.Core.Path.{_≡_}
 use mathlib.Core.Logic.{_≢_}
 use mathlib.Core.List.{List}
 use lib.ListN.{length, take}
+use Rattle.page_rules.specs.Kinds.{longestPage}
 use Rattle.answers.specs.declared.Answer.{Answer}
 use Rattle.answers.specs.declared.Answer.the-variants.{Done, Short, BadMode, NoRoom, BadSheet, Mismatch, TooLong}
 use Rattle.sheet_rules.specs.declared.Record.{Record}
@@ -68,6 +69,6 @@ pub data Gives (s d : List ℕ) (room : ℕ) : Answer → Type 0 where
   above-3 : {i : ℕ} → Accepted s → ModeAt (records s) i → Gives s d room (BadMode i)
   passing : {i : ℕ} → Accepted s → Low (records s) → ShortAt (sheetMain (records s)) d (records s) i → Gives s d room (Short i)
   differing : {i : ℕ} → Accepted s → Low (records s) → MismatchAt (sheetMain (records s)) d (records s) i → Gives s d room (Mismatch i)
-  too-long : Sound s d → 16777215 < sizeOf (records s) → Gives s d room TooLong
-  no-room : Sound s d → sizeOf (records s) ≤ 16777215 → room < sizeOf (records s) → Gives s d room NoRoom
-  written : {n : ℕ} → Sound s d → n ≡ sizeOf (records s) → n ≤ 16777215 → n ≤ room → Gives s d room (Done n)
+  too-long : Sound s d → longestPage < sizeOf (records s) → Gives s d room TooLong
+  no-room : Sound s d → sizeOf (records s) ≤ longestPage → room < sizeOf (records s) → Gives s d room NoRoom
+  written : {n : ℕ} → Sound s d → n ≡ sizeOf (records s) → n ≤ longestPage → n ≤ room → Gives s d room (Done n)

@@ -33,7 +33,7 @@ use Rattle.sheet_rules.specs.Record.{records, nth}
 use Rattle.laws.specs.Tests.{only}
 use Rattle.sheet_rules.specs.Judge.{coded, judgeOf, answerOf}
 use Rattle.page_rules.specs.declared.Head.{Head}
-use Rattle.page_rules.specs.Kinds.{Fields}
+use Rattle.page_rules.specs.Kinds.{Fields, longestPage}
 use Rattle.sheet_rules.specs.declared.Colour.{Colour}
 use Rattle.page_rules.specs.Grammar.{startOf, headOf}
 use Rattle.write_rules.specs.declared.Tally.{Tally}
@@ -145,7 +145,7 @@ pageBy d rs t = startOf (headBy rs t) ++ (stripesBy d rs ++ (0xFF ∷ 0xD9 ∷ 0
 -- ---- the call: behind the verdict TooLong, then NoRoom
 
 unfoldable pub sizeAnswer : ℕ → ℕ → Answer
-sizeAnswer room size = cond (ltb 16777215 size) TooLong (cond (ltb room size) NoRoom (Done size))
+sizeAnswer room size = cond (ltb longestPage size) TooLong (cond (ltb room size) NoRoom (Done size))
 
 unfoldable pub answerBy : ℕ → Res Tally → Answer
 unfolding sizeAnswer
@@ -159,7 +159,7 @@ writeOf s d room = answerBy room (verdictOf s d)
 -- the page in front, and the octets past it as they were; a refusal changes nothing
 unfoldable pub intoBy : List ℕ → List ℕ → List Record → Res Tally → List ℕ
 unfolding pageBy
-intoBy p d rs (ok t n) = cond (ltb 16777215 (t .size)) p (cond (ltb (length p) (t .size)) p (putAt p 0 (pageBy d rs t)))
+intoBy p d rs (ok t n) = cond (ltb longestPage (t .size)) p (cond (ltb (length p) (t .size)) p (putAt p 0 (pageBy d rs t)))
 intoBy p d rs (no a) = p
 
 unfoldable pub writeInto : List ℕ → List ℕ → List ℕ → List ℕ

@@ -129,10 +129,10 @@ module _ (s : List ℕ) (n : ℕ) (f : Few s n) where
 pub ruleset mode-laws = (needs, mode-begun, mode-fits, mode-low, mode-on, mode-above)
 
 -- ---- main_of
-pub main-none : (s : List ℕ) → length s < 56 → 0 ≡ sheetMain (records s)
+pub main-none : (s : List ℕ) → length s < 2 * recordSize → 0 ≡ sheetMain (records s)
 main-none s l = ap (λ (x : Record). x .res) (second-blank s l)
 
-pub main-read : (s : List ℕ) {r : Record} → 56 ≤ length s → r ≡ recordAt s 1 → r .res ≡ sheetMain (records s)
+pub main-read : (s : List ℕ) {r : Record} → 2 * recordSize ≤ length s → r ≡ recordAt s 1 → r .res ≡ sheetMain (records s)
 main-read s l e = ap (λ (x : Record). x .res) (second-read s l e)
 
 -- ---- judge_records and judge_write
