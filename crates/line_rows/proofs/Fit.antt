@@ -20,9 +20,8 @@ use Rattle.picture_rules.specs.declared.Start.{Start}
 use Rattle.picture_rules.specs.declared.Start.the-variants.{From, Unread}
 use Rattle.picture_rules.specs.Place.{ratio, scale, covers, inside}
 use Rattle.picture_rules.specs.Planes.{PlaneList, planeStart}
-use Rattle.picture_rules.specs.Samples.{Scene, recordOf, mainOf, indexOf, maskAt, imageAt}
-use Rattle.picture_rules.specs.Decide.{pairStep, decide, stackAt, pairsOf, pixelAt}
-use Rattle.picture_rules.specs.Line.{depth}
+use Rattle.picture_rules.specs.Samples.{Scene, recordOf, mainOf, indexOf, maskAt, imageAt, depth, pairsOf}
+use Rattle.picture_rules.specs.Decide.{pairStep, decide, stackAt, pixelAt}
 use Rattle.picture_rules.proofs.Division.{says-covers, says-inside}
 use Rattle.picture_rules.proofs.Scenes.{Stage, stage-layers, stage-placed, scene-ratio-some}
 use Rattle.picture_rules.proofs.Within.{mask-there, image-there}

@@ -28,7 +28,7 @@ use Rattle.picture_rules.specs.declared.Start.the-variants.{From, Unread}
 use Rattle.picture_rules.specs.declared.Plane.{Plane}
 use Rattle.picture_rules.specs.Planes.{planeStart}
 use Rattle.picture_rules.specs.Place.{scale, covers}
-use Rattle.picture_rules.specs.Line.{depth}
+use Rattle.picture_rules.specs.Samples.{depth}
 use Rattle.picture_rules.proofs.Division.{says-covers, scale-within}
 use Rattle.line_sample.proofs.Laws.{product-small}
 use Rattle.line_planes.specs.declared.Listing.{Listing}

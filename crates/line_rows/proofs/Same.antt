@@ -26,9 +26,8 @@ use Rattle.picture_rules.specs.declared.Start.{Start}
 use Rattle.picture_rules.specs.declared.Start.the-variants.{From, Unread}
 use Rattle.picture_rules.specs.Place.{ratio, scale, covers, inside}
 use Rattle.picture_rules.specs.Planes.{planeStart}
-use Rattle.picture_rules.specs.Samples.{Scene, recordOf, mainOf, indexOf, bitOf, baseOf, virtual, maskRead, imageRead, maskAt, imageAt}
+use Rattle.picture_rules.specs.Samples.{Scene, recordOf, mainOf, indexOf, bitOf, baseOf, virtual, maskRead, imageRead, maskAt, imageAt, depth}
 use Rattle.sheet_rules.specs.Record.{colourAt}
-use Rattle.picture_rules.specs.Line.{depth}
 use Rattle.line_fetch.specs.declared.Row.{Row}
 use Rattle.line_fetch.specs.Rows.{rowSize, rowAt, across, rowMask, rowImage}
 use Rattle.line_rows.specs.Rows.{rowIn, rowOut, rowBy, otherOf, rowOf, rowsOf}

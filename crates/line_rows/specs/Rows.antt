@@ -26,7 +26,7 @@ use Rattle.picture_rules.specs.declared.Start.{Start}
 use Rattle.picture_rules.specs.declared.Start.the-variants.{From, Unread}
 use Rattle.picture_rules.specs.Place.{ratio, scale, covers}
 use Rattle.picture_rules.specs.Planes.{planeStart}
-use Rattle.picture_rules.specs.Line.{depth}
+use Rattle.picture_rules.specs.Samples.{depth}
 use Rattle.line_fetch.specs.declared.Row.{Row}
 use Rattle.line_fetch.specs.Rows.{numbersOf}
 

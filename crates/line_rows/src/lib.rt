@@ -4,7 +4,7 @@ ghost use Prim.Native.Nat.{_+_, _-_, _*_, _/_, _<_, _≤_};
 ghost use lib.ListN.{length};
 ghost use Rattle.octets.specs.Octets.{putAt};
 ghost use Rattle.picture_rules.specs.Place.{covers};
-ghost use Rattle.picture_rules.specs.Line.{depth};
+ghost use Rattle.picture_rules.specs.Samples.{depth};
 ghost use Rattle.line_planes.specs.Listing.{entriesOf};
 ghost use Rattle.line_fetch.specs.Rows.{rowSize, numbersOf};
 ghost use Rattle.line_rows.specs.Rows.{rowIn, rowOut, rowBy, otherOf, rowOf, rowsOf, Covered, Layer, Standing};

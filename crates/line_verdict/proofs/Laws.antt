@@ -25,7 +25,8 @@ use Rattle.picture_rules.specs.declared.Plane.{Plane}
 use Rattle.picture_rules.specs.declared.ListVerdict.{ListVerdict}
 use Rattle.picture_rules.specs.declared.ListVerdict.the-variants.{Fine}
 use Rattle.picture_rules.specs.Planes.{PlaneList}
-use Rattle.picture_rules.specs.Line.{depth, planeSpan, planeOk, planesJudged, planeRuling, sceneRuling, stripeRuling, sheetRuling, rulingOf}
+use Rattle.picture_rules.specs.Samples.{depth, planeSpan}
+use Rattle.picture_rules.specs.Line.{planeOk, planesJudged, planeRuling, sceneRuling, stripeRuling, sheetRuling, rulingOf}
 use Rattle.line_planes.specs.declared.Listing.{Listing}
 use Rattle.line_sample.proofs.Laws.{product-small}
 use Rattle.line_planes.specs.Listing.{entryOf, entriesOf}

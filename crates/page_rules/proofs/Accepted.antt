@@ -134,21 +134,12 @@ record Ran (hd : Head) (k left height : ℕ) (st : State) (rs : List Record) : T
 
 module _ (hd : Head) (g : GoodHead hd) (k left at : ℕ) (l : List ℕ) (height : ℕ) (rs : List Record) (z : Stripe hd k left at l height rs)
     (few : k < 64) (small : at + length l ≤ longestPage) (st : State) (rdy : Ready hd k left st) where
-  abbrev r1 : Record
-  r1 = backIn z
-
-  abbrev r2 : Record
-  r2 = maskIn z
-
-  abbrev r3 : Record
-  r3 = foreIn z
-
-  one : ImageFacts (hd .main) k 1 (hasBack (z .fields .type)) r1
+  one : ImageFacts (hd .main) k 1 (hasBack (z .fields .type)) (backIn z)
   one =
       let q = stripe-length z in
       image-facts hd k 1 (at + 39 + length (z .mask)) (z .fields .back) (z .fields .backX) (z .fields .backY) (hasBack (z .fields .type)) (z .back) (z .backIs) refl (g .main) (omega arith) (z .backThere)
 
-  two : MaskFacts (hasMask (z .fields .type)) r2
+  two : MaskFacts (hasMask (z .fields .type)) (maskIn z)
   two =
       let q = stripe-length z in
       let n = z .size in
@@ -156,12 +147,12 @@ module _ (hd : Head) (g : GoodHead hd) (k left at : ℕ) (l : List ℕ) (height 
       let h = z .good .height in
       mask-facts hd k (z .fields .height) (at + 39) (z .fields .maskLength) (hasMask (z .fields .type)) (g .mask) (z .good .maskCoder) (w .0) (h .0) (omega arith) (z .good .mask)
 
-  three : ImageFacts (hd .main) k 3 (hasFore (z .fields .type)) r3
+  three : ImageFacts (hd .main) k 3 (hasFore (z .fields .type)) (foreIn z)
   three =
       let q = stripe-length z in
       image-facts hd k 3 (at + 39 + length (z .mask) + length (z .back)) (z .fields .fore) (z .fields .foreX) (z .fields .foreY) (hasFore (z .fields .type)) (z .fore) (z .foreIs) refl (g .main) (omega arith) (z .foreThere)
 
-  new1 : New st r1
+  new1 : New st (backIn z)
   new1 =
       let x = one in
       let si = x .stripe-is in
@@ -181,9 +172,9 @@ module _ (hd : Head) (g : GoodHead hd) (k left at : ℕ) (l : List ℕ) (height 
       }
 
   st1 : State
-  st1 = after1 st r1
+  st1 = after1 st (backIn z)
 
-  new2 : New st1 r2
+  new2 : New st1 (maskIn z)
   unfolding st1 after1 maskRecord
   new2 =
       let x = one in
@@ -214,15 +205,15 @@ module _ (hd : Head) (g : GoodHead hd) (k left at : ℕ) (l : List ℕ) (height 
                     ⊎-elim (λ (y : (k ≡ 0) × (st .stripe ≡ 0) × (st .layer ≡ 0)). inl (y .0))
                     (λ (y : (st .stripe + 1 ≡ k) × (st .layer ≡ 3) × (st .main ≡ hd .main) × (st .width ≡ hd .width)). inr (sym (y .3), sym (y .2)))
                     (rdy .place);
-                res = subst (λ (b : Bool). ResFacts b (r1 .res) (hd .main)) (sym (x .coded-is)) (x .res);
+                res = subst (λ (b : Bool). ResFacts b ((backIn z) .res) (hd .main)) (sym (x .coded-is)) (x .res);
               },
             ));
       }
 
   st2 : State
-  st2 = after2 st1 r2
+  st2 = after2 st1 (maskIn z)
 
-  new3 : New st2 r3
+  new3 : New st2 (foreIn z)
   unfolding st2 st1 after2 after1 maskRecord
   new3 =
       let x = three in
@@ -239,38 +230,38 @@ module _ (hd : Head) (g : GoodHead hd) (k left at : ℕ) (l : List ℕ) (height 
             (inr (
               omega arith,
               record {
-                res = subst (λ (b : Bool). ResFacts b (r3 .res) (hd .main)) (sym (x .coded-is)) (x .res);
-                choice = inr (says-choice (isCoded r1) (isCoded r2) (isCoded r3) .told picked);
+                res = subst (λ (b : Bool). ResFacts b ((foreIn z) .res) (hd .main)) (sym (x .coded-is)) (x .res);
+                choice = inr (says-choice (isCoded (backIn z)) (isCoded (maskIn z)) (isCoded (foreIn z)) .told picked);
               },
             ));
       }
     where
-      picked : choiceOk (isCoded r1) (isCoded r2) (isCoded r3) ≡ true
+      picked : choiceOk (isCoded (backIn z)) (isCoded (maskIn z)) (isCoded (foreIn z)) ≡ true
       picked =
-          ap (λ (b : Bool). choiceOk b (isCoded r2) (isCoded r3)) (one .coded-is)
-          ∙ ap (λ (b : Bool). choiceOk (hasBack (z .fields .type)) b (isCoded r3)) (two .coded-is)
+          ap (λ (b : Bool). choiceOk b (isCoded (maskIn z)) (isCoded (foreIn z))) (one .coded-is)
+          ∙ ap (λ (b : Bool). choiceOk (hasBack (z .fields .type)) b (isCoded (foreIn z))) (two .coded-is)
           ∙ ap (λ (b : Bool). choiceOk (hasBack (z .fields .type)) (hasMask (z .fields .type)) b) (three .coded-is)
           ∙ choice (z .fields .type) (z .good .type)
 
-  first-is : after st r1 ≡ st1
+  first-is : after st (backIn z) ≡ st1
   unfolding st1
-  first-is = after-is-1 st r1 (one .layer-is)
+  first-is = after-is-1 st (backIn z) (one .layer-is)
 
-  second-is : after st1 r2 ≡ st2
+  second-is : after st1 (maskIn z) ≡ st2
   unfolding st2 maskRecord
-  second-is = after-is-2 st1 r2 refl
+  second-is = after-is-2 st1 (maskIn z) refl
 
   st3 : State
-  st3 = after3 st2 r3
+  st3 = after3 st2 (foreIn z)
 
-  ran : run st (r1 ∷ r2 ∷ r3 ∷ []) ≡ Next st3
+  ran : run st ((backIn z) ∷ (maskIn z) ∷ (foreIn z) ∷ []) ≡ Next st3
   unfolding run onStep st3
   ran =
-      let e1 : stepOf st r1 ≡ Next st1 = step-next st r1 new1 ∙ ap Next first-is in
-      let e2 : stepOf st1 r2 ≡ Next st2 = step-next st1 r2 new2 ∙ ap Next second-is in
-      let e3 : stepOf st2 r3 ≡ Next (after3 st2 r3) = step-next st2 r3 new3 ∙ ap Next (after-is-3 st2 r3 (three .layer-is)) in
-      ap (λ (x : Step). onStep x Stop (λ (t : State). run t (r2 ∷ r3 ∷ []))) e1
-      ∙ ap (λ (x : Step). onStep x Stop (λ (t : State). run t (r3 ∷ []))) e2
+      let e1 : stepOf st (backIn z) ≡ Next st1 = step-next st (backIn z) new1 ∙ ap Next first-is in
+      let e2 : stepOf st1 (maskIn z) ≡ Next st2 = step-next st1 (maskIn z) new2 ∙ ap Next second-is in
+      let e3 : stepOf st2 (foreIn z) ≡ Next (after3 st2 (foreIn z)) = step-next st2 (foreIn z) new3 ∙ ap Next (after-is-3 st2 (foreIn z) (three .layer-is)) in
+      ap (λ (x : Step). onStep x Stop (λ (t : State). run t ((maskIn z) ∷ (foreIn z) ∷ []))) e1
+      ∙ ap (λ (x : Step). onStep x Stop (λ (t : State). run t ((foreIn z) ∷ []))) e2
       ∙ ap (λ (x : Step). onStep x Stop (λ (t : State). run t [])) e3
 
   stripe-ran : Ran hd k left height st rs

@@ -23,9 +23,9 @@ use Rattle.picture_rules.specs.Place.{inside}
 use Rattle.picture_rules.specs.declared.Start.{Start}
 use Rattle.picture_rules.specs.declared.Start.the-variants.{From, Unread}
 use Rattle.picture_rules.specs.Planes.{PlaneList, planeStart}
-use Rattle.picture_rules.specs.Samples.{Scene, recordOf, mainOf, widthOf, indexOf, bitOf, virtual, maskRead, imageRead, maskAt, imageAt}
-use Rattle.picture_rules.specs.Decide.{sameColour, agree, pairStep, Stack, decide, stackAt, pairsOf, pixelAt}
-use Rattle.picture_rules.specs.Line.{unseen, fourOf, planeSpan, lineOf, lineInto}
+use Rattle.picture_rules.specs.Samples.{Scene, recordOf, mainOf, widthOf, indexOf, bitOf, virtual, maskRead, imageRead, maskAt, imageAt, planeSpan, pairsOf}
+use Rattle.picture_rules.specs.Decide.{sameColour, agree, pairStep, Stack, decide, stackAt, pixelAt}
+use Rattle.picture_rules.specs.Line.{unseen, fourOf, lineOf, lineInto}
 use Rattle.picture_rules.specs.Sentences.{sceneOf, AllFine}
 use Rattle.picture_rules.specs.Demand.{fourAt, at, Reread, AllRead}
 use Rattle.picture_rules.proofs.Division.{mask-within, image-within}

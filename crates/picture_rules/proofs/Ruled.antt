@@ -25,8 +25,8 @@ use Rattle.picture_rules.specs.declared.Plane.{Plane}
 use Rattle.picture_rules.specs.declared.ListVerdict.{ListVerdict}
 use Rattle.picture_rules.specs.declared.ListVerdict.the-variants.{Fine}
 use Rattle.picture_rules.specs.Planes.{PlaneList}
-use Rattle.picture_rules.specs.Samples.{Scene, recordOf}
-use Rattle.picture_rules.specs.Line.{planeSpan, planeOk, planesJudged, Ruling, shows, refuses, planeRuling, sceneRuling, stripeRuling, sheetRuling, rulingOf}
+use Rattle.picture_rules.specs.Samples.{Scene, recordOf, planeSpan}
+use Rattle.picture_rules.specs.Line.{planeOk, planesJudged, Ruling, shows, refuses, planeRuling, sceneRuling, stripeRuling, sheetRuling, rulingOf}
 use Rattle.picture_rules.specs.Sentences.{HasLine, sceneOf, plane, FineEntry, AllFine, PlaneAt}
 use Rattle.sheet_rules.specs.Sentences.{Accepted}
 

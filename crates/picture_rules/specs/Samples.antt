@@ -4,11 +4,14 @@
 --   recordOf v l    the record of layer l
 --   mainOf v        the main resolution, that of layer 2
 --   widthOf v       the page's width, that of layer 2
+--   pairsOf v       the pairs of a stripe of N layers
+--   depth l         octets a sample: one in a mask, three in an image layer
+--   planeSpan r     octets of all samples of a layer
 --   indexOf         a sample's number in its layer, row by row
 --   bitOf           a mask octet's value: 0 is 0, all else 1
 --   virtual v l     what an uncoded mask gives
 --   maskAt          the sample of a mask at a place; imageAt: of an image layer
-use Prim.Native.Nat.{ℕ, _+_, _*_}
+use Prim.Native.Nat.{ℕ, _+_, _*_, _/_, _%_}
 use mathlib.Core.Bool.{_&&_, cond}
 use mathlib.Core.List.{List}
 use lib.ListN.{getD}
@@ -44,6 +47,16 @@ mainOf v = mainRes (v .sheet) (v .extent)
 
 abbrev pub widthOf : Scene → ℕ
 widthOf v = recordOf v 2 .width
+
+-- N is odd: layer 1 and the pairs above it
+abbrev pub pairsOf : Scene → ℕ
+pairsOf v = v .extent .layers / 2
+
+abbrev pub depth : ℕ → ℕ
+depth l = cond (eqb (l % 2) 0) 1 3
+
+unfoldable pub planeSpan : Record → ℕ
+planeSpan r = r .width * r .height * depth (r .layer)
 
 -- row by row
 unfoldable pub indexOf : ℕ → Record → MainPos → MainPos → ℕ

@@ -19,7 +19,8 @@ use Rattle.page_rules.specs.Grammar.{startOf, ImageCoder, headOf, TypeOf, Image
 use Rattle.page_rules.proofs.Parts.{backIn, maskIn, foreIn, back-octets, mask-octets, fore-octets, stripes-onward, closing, page-stripes, page-within}
 use Rattle.write_rules.specs.declared.Tally.{Tally}
 use Rattle.write_rules.specs.Layer.{layerOctets}
-use Rattle.write_rules.specs.Writing.{begun, sheetMain, typeBy, colourBy, fieldsBy, stripeBy, stripesBy, headBy, pageBy}
+use Rattle.write_rules.specs.Sentences.{sheetMain}
+use Rattle.write_rules.specs.Writing.{begun, typeBy, colourBy, fieldsBy, stripeBy, stripesBy, headBy, pageBy}
 use Rattle.write_rules.specs.Form.{TrimStripe, Trim, UsedMask, UsedImage, Formed}
 use Rattle.write_rules.proofs.Passed.{Passed}
 use Rattle.write_rules.proofs.Lent.{Lent, stripes-lent, stripes-main, coded-image, coded-mask}
@@ -60,16 +61,7 @@ fields-same f g e1 e2 e3 e4 e5 e6 e7 e8 e9 = let all : whole f ≡ whole g = cc 
         }
 
 module _ {hd : Head} {k left at : ℕ} {l : List ℕ} {height : ℕ} {rs : List Record} (z : Stripe hd k left at l height rs) (t : TrimStripe z) where
-  abbrev r1 : Record
-  r1 = backIn z
-
-  abbrev r2 : Record
-  r2 = maskIn z
-
-  abbrev r3 : Record
-  r3 = foreIn z
-
-  fields-again : fieldsBy r1 r2 r3 ≡ z .fields
+  fields-again : fieldsBy (backIn z) (maskIn z) (foreIn z) ≡ z .fields
   unfolding maskRecord
   fields-again =
       let f = z .fields in
@@ -77,25 +69,25 @@ module _ {hd : Head} {k left at : ℕ} {l : List ℕ} {height : ℕ} {rs : List 
       image-again hd k 1 (at + 39 + length (z .mask)) (f .back) (f .backX) (f .backY) (hasBack (f .type)) (z .back) (z .backIs) (z .backThere) (t .back) in
       let c =
       image-again hd k 3 (at + 39 + length (z .mask) + length (z .back)) (f .fore) (f .foreX) (f .foreY) (hasFore (f .type)) (z .fore) (z .foreIs) (z .foreThere) (t .fore) in
-      fields-same (fieldsBy r1 r2 r3) f type-is (b .0) (c .0) (b .1) (b .2) (c .1) (c .2) refl refl
+      fields-same (fieldsBy (backIn z) (maskIn z) (foreIn z)) f type-is (b .0) (c .0) (b .1) (b .2) (c .1) (c .2) refl refl
     where
-      type-is : typeBy (coded r1) (coded r2) (coded r3) ≡ z .fields .type
+      type-is : typeBy (coded (backIn z)) (coded (maskIn z)) (coded (foreIn z)) ≡ z .fields .type
       type-is =
           let f = z .fields in
-          ap (λ (b : Bool). typeBy b (coded r2) (coded r3))
+          ap (λ (b : Bool). typeBy b (coded (maskIn z)) (coded (foreIn z)))
           (coded-image hd k 1 (at + 39 + length (z .mask)) (f .back) (f .backX) (f .backY) (hasBack (f .type)) (z .back) (z .backIs) (z .backThere))
-          ∙ ap (λ (b : Bool). typeBy (hasBack (f .type)) b (coded r3))
+          ∙ ap (λ (b : Bool). typeBy (hasBack (f .type)) b (coded (foreIn z)))
           (coded-mask hd k (f .height) (cond (hasMask (f .type)) (hd .mask) 0) (cond (hasMask (f .type)) (at + 39) 0) (f .maskLength) (hasMask (f .type)) (z .good .mask))
           ∙ ap (λ (b : Bool). typeBy (hasBack (f .type)) (hasMask (f .type)) b)
           (coded-image hd k 3 (at + 39 + length (z .mask) + length (z .back)) (f .fore) (f .foreX) (f .foreY) (hasFore (f .type)) (z .fore) (z .foreIs) (z .foreThere))
           ∙ type-again (f .type) (z .good .type)
 
-  stripe-again : (s tail : List ℕ) → drop at s ≡ l ++ tail → stripeBy s r1 r2 r3 ≡ l
+  stripe-again : (s tail : List ℕ) → drop at s ≡ l ++ tail → stripeBy s (backIn z) (maskIn z) (foreIn z) ≡ l
   unfolding stripeBy
   stripe-again s tail e =
-      ap (λ (f : Fields). headOf f ++ (layerOctets s r2 ++ (layerOctets s r1 ++ layerOctets s r3))) fields-again
-      ∙ ap (λ (x : List ℕ). headOf (z .fields) ++ (x ++ (layerOctets s r1 ++ layerOctets s r3))) (mask-octets z s tail e)
-      ∙ ap (λ (x : List ℕ). headOf (z .fields) ++ (z .mask ++ (x ++ layerOctets s r3))) (back-octets z s tail e)
+      ap (λ (f : Fields). headOf f ++ (layerOctets s (maskIn z) ++ (layerOctets s (backIn z) ++ layerOctets s (foreIn z)))) fields-again
+      ∙ ap (λ (x : List ℕ). headOf (z .fields) ++ (x ++ (layerOctets s (backIn z) ++ layerOctets s (foreIn z)))) (mask-octets z s tail e)
+      ∙ ap (λ (x : List ℕ). headOf (z .fields) ++ (z .mask ++ (x ++ layerOctets s (foreIn z)))) (back-octets z s tail e)
       ∙ ap (λ (x : List ℕ). headOf (z .fields) ++ (z .mask ++ (z .back ++ x))) (fore-octets z s tail e)
       ∙ sym (z .octets)
 

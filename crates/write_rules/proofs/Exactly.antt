@@ -14,8 +14,8 @@ use Rattle.answers.specs.declared.Answer.the-variants.{Done, Short, BadMode, No
 use Rattle.field_rules.specs.Field.{Res, ok, no}
 use Rattle.sheet_rules.specs.Record.{records}
 use Rattle.write_rules.specs.declared.Tally.{Tally}
-use Rattle.write_rules.specs.Writing.{sheetMain, verdictOf, sizeAnswer, answerBy, writeOf}
-use Rattle.write_rules.specs.Sentences.{sizeOf, Sound, Gives, no-sheet, above-3, passing, differing, too-long, no-room, written}
+use Rattle.write_rules.specs.Writing.{verdictOf, sizeAnswer, answerBy, writeOf}
+use Rattle.write_rules.specs.Sentences.{sizeOf, Sound, Gives, no-sheet, above-3, passing, differing, too-long, no-room, written, sheetMain}
 use Rattle.write_rules.proofs.Answered.{verdict-back, accepted-sound, sheet-plain, verdict-sheet, verdict-mode, verdict-passes, verdict-there, short-there, mismatch-there, verdict-refused}
 use Rattle.write_rules.proofs.Into.{tally-size}
 

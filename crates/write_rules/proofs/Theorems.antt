@@ -25,10 +25,10 @@ use Rattle.page_rules.specs.Reading.{pageOf, roomOf, readOf, intoOf, readInto}
 use Rattle.page_rules.proofs.There.{page-there}
 use Rattle.page_rules.proofs.Back.{page-back}
 use Rattle.write_rules.specs.declared.Tally.{Tally}
-use Rattle.write_rules.specs.Writing.{begun, sheetMain, verdictOf, pageBy, sizeAnswer, answerBy, writeOf, intoBy, writeInto}
+use Rattle.write_rules.specs.Writing.{begun, verdictOf, pageBy, sizeAnswer, answerBy, writeOf, intoBy, writeInto}
 use Rattle.write_rules.specs.Layer.{layerOctets}
 use Rattle.write_rules.specs.Form.{bare, Lands, Formed}
-use Rattle.write_rules.specs.Sentences.{Fine, Low, sizeOf, Sound, Gives, no-sheet, above-3, passing, differing, too-long, no-room, written}
+use Rattle.write_rules.specs.Sentences.{Fine, Low, sizeOf, Sound, Gives, no-sheet, above-3, passing, differing, too-long, no-room, written, sheetMain}
 use Rattle.write_rules.proofs.Passed.{Passed}
 use Rattle.write_rules.proofs.Exactly.{write-gives, gives-write}
 use Rattle.write_rules.proofs.Written.{records-sized}

@@ -20,8 +20,7 @@ use Rattle.page_rules.proofs.There.{length-start}
 use Rattle.page_rules.proofs.Accepted.{page-accepted}
 use Rattle.page_rules.proofs.Named.{page-named}
 use Rattle.write_rules.specs.Layer.{layerOctets}
-use Rattle.write_rules.specs.Writing.{sheetMain}
-use Rattle.write_rules.specs.Sentences.{Fine, Low, sizeOf}
+use Rattle.write_rules.specs.Sentences.{Fine, Low, sizeOf, sheetMain}
 use Rattle.write_rules.proofs.Threes.{sheet-threes}
 use Rattle.write_rules.proofs.Sizes.{size-threes}
 use Rattle.write_rules.proofs.Placed.{uncoded-is}

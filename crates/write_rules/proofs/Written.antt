@@ -18,12 +18,12 @@ use Rattle.page_rules.specs.Grammar.{startOf, MaskCoder, GoodHead, no-more}
 use Rattle.page_rules.proofs.There.{length-start}
 use Rattle.write_rules.specs.declared.Tally.{Tally}
 use Rattle.write_rules.specs.Layer.{layerOctets}
-use Rattle.write_rules.specs.Writing.{begun, sheetMain, headBy, stripesBy, pageBy}
+use Rattle.write_rules.specs.Writing.{begun, headBy, stripesBy, pageBy}
 use Rattle.write_rules.specs.Form.{bare, UsedMask, UsedImage, Formed}
 use Rattle.write_rules.proofs.Agreed.{length-data}
 use Rattle.write_rules.proofs.Passed.{Passed}
 use Rattle.write_rules.proofs.Threes.{Threes, ended, another, sheet-threes}
-use Rattle.write_rules.specs.Sentences.{Low}
+use Rattle.write_rules.specs.Sentences.{Low, sheetMain}
 use Rattle.write_rules.proofs.Small.{close-octets, start-octets, stripes-octets}
 use Rattle.write_rules.proofs.Lands.{Sized, Ready, movedBy, stripes-land, moved-same, moved-data, length-stripes}
 

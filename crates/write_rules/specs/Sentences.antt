@@ -1,5 +1,7 @@
--- Writing as sentences: when each answer is given (01, "Numbers that a call returns"), without the steps of Writing.antt.
+-- Writing as sentences: when each answer is given (01, "Numbers that a call returns"). What is written is said in Form.antt; the steps, in Writing.antt,
+-- come last.
 --
+--   sheetMain rs      the main resolution
 --   Fine main d rs    each coded record of rs has its data in the buffer d; an image layer's data is a JPEG layer of the record's width, height and
 --                     resolution; and the coded masks have one coder
 --   Low rs            no layer above 3
@@ -22,7 +24,10 @@ use Rattle.sheet_rules.specs.Record.{records, rest, nth, sumOf}
 use Rattle.sheet_rules.specs.Sentences.{Among, Coded, Sheet, stripeCount, Accepted, BadSheetAt}
 use Rattle.jpeg_rules.specs.Grammar.{Layer}
 use Rattle.write_rules.specs.Layer.{layerOctets}
-use Rattle.write_rules.specs.Writing.{sheetMain}
+
+-- the main resolution is that of layer 2, the second record
+abbrev pub sheetMain : List Record → ℕ
+sheetMain rs = nth rs 1 .res
 
 pub record Fine (main : ℕ) (d : List ℕ) (rs : List Record) : Type 0 where
   pub fits : (r : Record) → Among r rs → Coded r → r .start + r .len ≤ length d

@@ -1,11 +1,12 @@
--- Writing a Mode 1 page from a sheet and the buffer that its starts point into (01, the writer and its order, under "Numbers that a call returns").
+-- The steps of writing a Mode 1 page from a sheet and the buffer that its starts point into (01, the writer and its order, under "Numbers that a call
+-- returns"). Read Sentences.antt and Form.antt first, which say when each answer is given and what is written: `write-exactly` and the theorems beside it
+-- (proofs/Theorems.antt) tie these steps to them.
 --
 --   modeFrom i rs          BadMode at the first record above layer 3, the records being numbered from i
 --   begun, counted         the tally before the first record, and with one more
 --   matches d main t r     a record's data agrees with it, and its coder with that of the masks before
 --   recordStep             one record: Short before Mismatch
 --   recordsPass            each record in order
---   sheetMain rs           the main resolution
 --   verdictOf s d          the sheet, the mode, the records: what the page will be, or the refusal; verdictBy: by the judge's verdict
 --   typeBy, colourBy       a stripe's type by which of its layers are coded, and a record's base colour
 --   fieldsBy a b c         the fields of a stripe whose layers 1 to 3 have the records a, b and c
@@ -23,6 +24,7 @@ use mathlib.Core.List.{List, [], _∷_, _++_}
 use lib.ListN.{length}
 use lib.Dec.{eqb, ltb}
 use Rattle.octets.specs.Octets.{putAt}
+use Rattle.write_rules.specs.Sentences.{sheetMain}
 use Rattle.answers.specs.declared.Answer.{Answer}
 use Rattle.answers.specs.declared.Answer.the-variants.{Done, Short, BadMode, NoRoom, Mismatch, TooLong}
 use Rattle.field_rules.specs.Field.{Res, ok, no, bind}
@@ -83,10 +85,6 @@ recordsPass d main t i [] = ok t i
 recordsPass d main t i (r ∷ rs) = bind (recordStep d main t i r) (λ (u : Tally) (n : ℕ). recordsPass d main u n rs)
 
 -- ---- the verdict: BadSheet, BadMode, each record
-
--- the main resolution is that of layer 2, the second record
-abbrev pub sheetMain : List Record → ℕ
-sheetMain rs = nth rs 1 .res
 
 unfoldable pub verdictBy : Verdict → List ℕ → List Record → Res Tally
 unfolding bind modeFrom recordsPass

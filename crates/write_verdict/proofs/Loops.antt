@@ -27,7 +27,8 @@ use Rattle.sheet_rules.specs.Judge.{judgeOf, answerOf}
 use Rattle.sheet_rules.proofs.Cut.{second-blank, second-read}
 use Rattle.sheet_rules.proofs.Theorems.{sheet-few, refused-few}
 use Rattle.write_rules.specs.declared.Tally.{Tally}
-use Rattle.write_rules.specs.Writing.{counted, matches, recordStep, modeFrom, begun, sheetMain, recordsPass, verdictBy, verdictOf}
+use Rattle.write_rules.specs.Sentences.{sheetMain}
+use Rattle.write_rules.specs.Writing.{counted, matches, recordStep, modeFrom, begun, recordsPass, verdictBy, verdictOf}
 use Rattle.write_verdict.specs.declared.Pass.{Pass}
 use Rattle.write_verdict.specs.declared.Pass.the-variants.{Next}
 use Rattle.write_verdict.specs.declared.Mode.{Mode}

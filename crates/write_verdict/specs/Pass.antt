@@ -15,7 +15,8 @@ use Rattle.sheet_rules.specs.declared.Verdict.the-variants.{Good}
 use Rattle.sheet_rules.specs.Record.{recordSize, records, mostRecords}
 use Rattle.sheet_rules.specs.Judge.{judgeOf}
 use Rattle.write_rules.specs.declared.Tally.{Tally}
-use Rattle.write_rules.specs.Writing.{modeFrom, begun, sheetMain, recordsPass}
+use Rattle.write_rules.specs.Sentences.{sheetMain}
+use Rattle.write_rules.specs.Writing.{modeFrom, begun, recordsPass}
 use Rattle.write_verdict.specs.declared.Pass.{Pass}
 use Rattle.write_verdict.specs.declared.Pass.the-variants.{Next, Refused}
 use Rattle.write_verdict.specs.declared.Mode.{Mode}
