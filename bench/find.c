@@ -1,4 +1,5 @@
-// A stripe's row as C would have it. All records are counted, since the answer is fixed for sheets in any order too.
+// A stripe's row as C would have it. All records are counted, since the answer is fixed for sheets
+// in any order too.
 #include "sheet.h"
 
 struct row {
@@ -9,7 +10,8 @@ static uint64_t packed(struct row r)
 {
     if (r.layers == 0)
         return 0;
-    return (uint64_t)(uint16_t)r.first << 48 | (uint64_t)(uint16_t)r.layers << 32 | (uint64_t)(uint16_t)r.top << 16 | (uint16_t)r.height;
+    return (uint64_t)(uint16_t)r.first << 48 | (uint64_t)(uint16_t)r.layers << 32 |
+           (uint64_t)(uint16_t)r.top << 16 | (uint16_t)r.height;
 }
 
 uint64_t c_find_stripe(const uint8_t *sheet, size_t octets, uint32_t k)

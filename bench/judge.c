@@ -1,14 +1,15 @@
-// The judge of a sheet as C would have it: one pass, fields read where they are tested, out at the first fault.
+// The judge of a sheet as C would have it: one pass, fields read where they are tested, out at the
+// first fault.
 #include "sheet.h"
 
 #include <stdbool.h>
 
 struct state {
-    uint32_t stripe, layer;     // of the last record; layer 0 before the first
-    bool coded1, coded2;        // of this stripe
+    uint32_t stripe, layer; // of the last record; layer 0 before the first
+    bool coded1, coded2;    // of this stripe
     uint32_t res1;
-    uint32_t main, width;       // of the last layer 2
-    uint32_t left;              // of the page's height
+    uint32_t main, width; // of the last layer 2
+    uint32_t left;        // of the page's height
 };
 
 struct record {
@@ -39,16 +40,20 @@ static bool data_ok(const struct record *r)
     uint32_t start = be32(p + 18);
     if (r->len == 0)
         return p[3] == 0 && start == 0 && (r->layer == 2 || (be32(p + 4) | be32(p + 8)) == 0);
-    return coder_ok(r->layer, p[3]) && be16(p + 8) != 0 && be16(p + 10) != 0 && (uint64_t)start + r->len < 4294967296u;
+    return coder_ok(r->layer, p[3]) && be16(p + 8) != 0 && be16(p + 10) != 0 &&
+           (uint64_t)start + r->len < 4294967296u;
 }
 
 static bool listed(uint32_t res)
 {
     switch (res) {
-    case 100: case 200: case 300: case 400: case 600: case 1200:
-        return true;
-    default:
-        return false;
+    case 100:
+    case 200:
+    case 300:
+    case 400:
+    case 600:
+    case 1200: return true;
+    default: return false;
     }
 }
 
@@ -86,13 +91,15 @@ static bool layer_ok(const struct state *st, const struct record *r)
         return true;
     if (r->layer == 2)
         return page_ok(st, r);
-    return res_ok(coded, r->res, st->main) && (r->layer != 3 || choice_ok(st->coded1, st->coded2, coded));
+    return res_ok(coded, r->res, st->main) &&
+           (r->layer != 3 || choice_ok(st->coded1, st->coded2, coded));
 }
 
 static bool keeps_rules(const struct state *st, const struct record *r)
 {
     const uint8_t *p = r->at;
-    return (p[17] | p[26] | p[27]) == 0 && placed(st, r) && data_ok(r) && listed(r->res) && base_ok(r) && layer_ok(st, r);
+    return (p[17] | p[26] | p[27]) == 0 && placed(st, r) && data_ok(r) && listed(r->res) &&
+           base_ok(r) && layer_ok(st, r);
 }
 
 static void advance(struct state *st, const struct record *r)

@@ -41,8 +41,10 @@ static double mean(side *f, const void *work, unsigned calls)
     return (now() - from) / calls;
 }
 
-// The best of each side counts: other work on the machine slows all of them, and none makes one faster.
-void take_turns(side *const sides[], size_t count, const void *work, double round_ns, int rounds, double best[])
+// The best of each side counts: other work on the machine slows all of them, and none makes one
+// faster.
+void take_turns(side *const sides[], size_t count, const void *work, double round_ns, int rounds,
+                double best[])
 {
     unsigned calls = 1;
     if (mean(sides[count - 1], work, 1) < round_ns)

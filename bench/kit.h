@@ -14,9 +14,10 @@ uint8_t octet_near(uint8_t v);
 // One side of a comparison: its answer goes where no compiler can leave the call out.
 typedef uint64_t side(const void *work);
 
-// Times `count` sides on the same work, in nanoseconds a call, and lowers what is best so far. A round calls each as often as fills `round_ns`, at
-// least once.
+// Times `count` sides on the same work, in nanoseconds a call, and lowers what is best so far. A
+// round calls each as often as fills `round_ns`, at least once.
 #define NO_TIME 1e18
-void take_turns(side *const sides[], size_t count, const void *work, double round_ns, int rounds, double best[]);
+void take_turns(side *const sides[], size_t count, const void *work, double round_ns, int rounds,
+                double best[]);
 
 #endif

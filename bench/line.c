@@ -1,5 +1,6 @@
-// A line of pixels as C would have it: the sheet and the plane list are judged, the records of the stripe are decoded once, then the paper's rule is
-// done for each layer of each pixel, a division and a fetch each. Compiled twice: with BY_ROWS the row of a layer is found once a line.
+// A line of pixels as C would have it: the sheet and the plane list are judged, the records of the
+// stripe are decoded once, then the paper's rule is done for each layer of each pixel, a division
+// and a fetch each. Compiled twice: with BY_ROWS the row of a layer is found once a line.
 #include "line.h"
 #include "sheet.h"
 
@@ -7,8 +8,8 @@
 
 #define ENTRY_SIZE 5
 #define MOST_LAYERS 15
-#define SEEN (1u << 24)     // above a colour's three octets; 0 is a colour that is not known
-#define UNREAD 2            // beside 0 and 1, a bit that is not known
+#define SEEN (1u << 24) // above a colour's three octets; 0 is a colour that is not known
+#define UNREAD 2        // beside 0 and 1, a bit that is not known
 
 #ifdef BY_ROWS
 #define LINE c_line_by_rows
@@ -20,9 +21,9 @@ struct layer {
     const uint8_t *samples; // null: none were read
     bool coded;
     uint32_t x, y, width, height, k;
-    uint32_t outside;       // the value where the layer is not: its base colour, or a bit
+    uint32_t outside; // the value where the layer is not: its base colour, or a bit
 #ifdef BY_ROWS
-    bool crossed;           // whether the line meets the area
+    bool crossed; // whether the line meets the area
     const uint8_t *row;
 #endif
 };
@@ -70,7 +71,8 @@ static bool find_stripe(struct stripe *s, const uint8_t *sheet, size_t octets, u
 }
 
 // Answers how many entries are good.
-static size_t take_planes(struct stripe *s, const uint8_t *planes, size_t count, const uint8_t *samples, size_t samples_len)
+static size_t take_planes(struct stripe *s, const uint8_t *planes, size_t count,
+                          const uint8_t *samples, size_t samples_len)
 {
     uint32_t last = 0;
     for (size_t i = 0; i < count; i++) {
@@ -113,7 +115,8 @@ static const uint8_t *sample(const struct layer *l, uint32_t x, uint32_t y, size
 #else
 static bool inside(const struct layer *l, uint32_t x, uint32_t y)
 {
-    return l->coded && x >= l->x && x - l->x < l->width * l->k && y >= l->y && y - l->y < l->height * l->k;
+    return l->coded && x >= l->x && x - l->x < l->width * l->k && y >= l->y &&
+           y - l->y < l->height * l->k;
 }
 
 static const uint8_t *sample(const struct layer *l, uint32_t x, uint32_t y, size_t size)
@@ -165,7 +168,8 @@ static void put_pixel(uint8_t *out, uint32_t shown)
     out[3] = (uint8_t)(shown >> 24);
 }
 
-spirerook_answer LINE(const uint8_t *sheet, size_t sheet_len, const uint8_t *planes, size_t planes_len, const uint8_t *samples, size_t samples_len,
+spirerook_answer LINE(const uint8_t *sheet, size_t sheet_len, const uint8_t *planes,
+                      size_t planes_len, const uint8_t *samples, size_t samples_len,
                       uint32_t stripe, uint32_t line, uint8_t *out, size_t out_len)
 {
     struct stripe s;

@@ -1,5 +1,6 @@
-// Times the proved composing of a line beside two composers in C, on the same sheets and samples in one run. First all must agree, answer and line
-// octet for octet, on what is timed and on small calls, good and damaged: a fast wrong answer is no result.
+// Times the proved composing of a line beside two composers in C, on the same sheets and samples in
+// one run. First all must agree, answer and line octet for octet, on what is timed and on small
+// calls, good and damaged: a fast wrong answer is no result.
 #include "kit.h"
 #include "line.h"
 
@@ -9,14 +10,14 @@
 #include <stdlib.h>
 #include <string.h>
 
-#define PASSES 4                // over all rows, since a machine can be slow for seconds
+#define PASSES 4 // over all rows, since a machine can be slow for seconds
 #define ROUNDS 25
 #define SMALL 20000
 #define ROUND_NS 20000.0
 #define LIMIT 1.3
 #define MAIN 1200
 #define WIDTH 4096
-#define LINES 16                // of a stripe, where a row says nothing else
+#define LINES 16 // of a stripe, where a row says nothing else
 #define MOST_SHEET (64 * 15 * RECORD_SIZE)
 #define MOST_SAMPLES (256u << 20)
 #define MOST_OUT (4 * 32768)
@@ -34,9 +35,9 @@ struct work {
 // What a timed line is made of.
 struct shape {
     uint32_t width, height, layers, k;
-    uint32_t run;               // main pixels of a mask that are alike; 0: each sample by itself
-    bool half;                  // layers 3, 4, 7, 8, 11, 12 and 15 are not read
-    bool shared;                // one stretch of samples for all image layers, one for all masks
+    uint32_t run; // main pixels of a mask that are alike; 0: each sample by itself
+    bool half;    // layers 3, 4, 7, 8, 11, 12 and 15 are not read
+    bool shared;  // one stretch of samples for all image layers, one for all masks
 };
 
 // ---- sheets
@@ -79,7 +80,8 @@ static void add_stripe(struct work *w, uint32_t stripe, const struct shape *s)
             continue;
         }
         put16(p + 12, MAIN / s->k);
-        put_area(p, s->width > 64 ? any(64) : 0, 0, (s->width + s->k - 1) / s->k, (s->height + s->k - 1) / s->k);
+        put_area(p, s->width > 64 ? any(64) : 0, 0, (s->width + s->k - 1) / s->k,
+                 (s->height + s->k - 1) / s->k);
     }
 }
 
@@ -114,7 +116,8 @@ static void list(struct work *w, uint32_t layer, size_t start)
 }
 
 // Layer 2 has samples of its own, since its k is 1.
-static void read_layer(struct work *w, const struct shape *s, const uint8_t *record, size_t starts[3])
+static void read_layer(struct work *w, const struct shape *s, const uint8_t *record,
+                       size_t starts[3])
 {
     uint32_t layer = record[2], run = layer == 2 ? s->run : s->run / s->k;
     size_t count = (size_t)be16(record + 8) * be16(record + 10), kind = layer == 2 ? 2 : layer % 2;
@@ -176,7 +179,8 @@ static void code_small(uint8_t *p, uint32_t layer, uint32_t width, uint32_t heig
 
 static void add_small(struct work *w, uint32_t stripe, uint32_t width)
 {
-    static const uint8_t types[] = {1, 2, 3, 4, 6, 7};   // which of layers 1 to 3 are coded, a bit each
+    static const uint8_t types[] = {1, 2, 3,
+                                    4, 6, 7}; // which of layers 1 to 3 are coded, a bit each
     uint32_t layers = 3 + 2 * any(7), height = 1 + any(4), type = types[any(6)];
     for (uint32_t layer = 1; layer <= layers; layer++) {
         uint8_t *p = add_record(w, stripe, layer, MAIN);
@@ -210,7 +214,8 @@ static void make_small(struct work *w)
 
 static void damage(struct work *w)
 {
-    uint8_t *o = w->sheet + any((uint32_t)w->sheet_size), *e = w->planes + any((uint32_t)w->planes_size + 1);
+    uint8_t *o = w->sheet + any((uint32_t)w->sheet_size),
+            *e = w->planes + any((uint32_t)w->planes_size + 1);
     switch (any(9)) {
     case 0: *o = octet_near(*o); break;
     case 1: w->sheet_size = any((uint32_t)w->sheet_size + 1); break;
@@ -231,7 +236,8 @@ static composer *const composers[SIDES] = {spirerook_line, c_line, c_line_by_row
 
 static spirerook_answer call(composer *f, const struct work *w, uint8_t *out)
 {
-    return f(w->sheet, w->sheet_size, w->planes, w->planes_size, w->samples, w->samples_size, w->stripe, w->line, out, w->room);
+    return f(w->sheet, w->sheet_size, w->planes, w->planes_size, w->samples, w->samples_size,
+             w->stripe, w->line, out, w->room);
 }
 
 static uint32_t agreed(const char *what, const struct work *w)
@@ -240,9 +246,12 @@ static uint32_t agreed(const char *what, const struct work *w)
     for (int k = 0; k < SIDES; k++) {
         memset(lines[k], 0xA5, w->room);
         a[k] = call(composers[k], w, lines[k]);
-        if (a[k].number != a[0].number || a[k].place != a[0].place || a[k].count != a[0].count || memcmp(lines[k], lines[0], w->room) != 0) {
-            fprintf(stderr, "bench: %s: Rattle answers %" PRIu32 " at %" PRIu32 " and C %" PRIu32 " at %" PRIu32 ", or the lines differ\n", what,
-                    a[0].number, a[0].place, a[k].number, a[k].place);
+        if (a[k].number != a[0].number || a[k].place != a[0].place || a[k].count != a[0].count ||
+            memcmp(lines[k], lines[0], w->room) != 0) {
+            fprintf(stderr,
+                    "bench: %s: Rattle answers %" PRIu32 " at %" PRIu32 " and C %" PRIu32
+                    " at %" PRIu32 ", or the lines differ\n",
+                    what, a[0].number, a[0].place, a[k].number, a[k].place);
             exit(1);
         }
     }
@@ -267,7 +276,9 @@ static void agree_on_small(struct work *w)
             damage(w);
         good += agreed("a damaged call", w) == SPIREROOK_DONE;
     }
-    printf("Rattle and both in C agree on %d lines and on each call once damaged: %u still good, %u refused\n\n", SMALL, good, SMALL - good);
+    printf(
+        "Rattle and both in C agree on %d lines and on each call once damaged: %u still good, %u refused\n\n",
+        SMALL, good, SMALL - good);
 }
 
 // ---- times
@@ -278,9 +289,18 @@ static uint64_t timed(int k, const void *work)
     return a.count + a.number;
 }
 
-static uint64_t rattle(const void *work) { return timed(0, work); }
-static uint64_t literal(const void *work) { return timed(1, work); }
-static uint64_t by_rows(const void *work) { return timed(2, work); }
+static uint64_t rattle(const void *work)
+{
+    return timed(0, work);
+}
+static uint64_t literal(const void *work)
+{
+    return timed(1, work);
+}
+static uint64_t by_rows(const void *work)
+{
+    return timed(2, work);
+}
 
 static void time_work(const char *name, const struct work *w, double best[])
 {
@@ -295,14 +315,19 @@ static const uint32_t layer_counts[] = {3, 9, 15}, ks[] = {1, 2, 3, 4, 6, 12};
 
 static struct shape pixel_shape(size_t i)
 {
-    return (struct shape){.width = WIDTH, .height = LINES, .layers = layer_counts[i / 24], .k = ks[i / 4 % 6], .run = i / 2 % 2 == 0 ? 64 : 0,
+    return (struct shape){.width = WIDTH,
+                          .height = LINES,
+                          .layers = layer_counts[i / 24],
+                          .k = ks[i / 4 % 6],
+                          .run = i / 2 % 2 == 0 ? 64 : 0,
                           .half = i % 2 == 1};
 }
 
 static const char *pixel_name(const struct shape *s)
 {
     static char name[80];
-    snprintf(name, sizeof name, "%2u layers, k %2u, masks %s, %s", (unsigned)s->layers, (unsigned)s->k, s->run != 0 ? "in runs  " : "at random",
+    snprintf(name, sizeof name, "%2u layers, k %2u, masks %s, %s", (unsigned)s->layers,
+             (unsigned)s->k, s->run != 0 ? "in runs  " : "at random",
              s->half ? "half unread" : "all read");
     return name;
 }
@@ -311,11 +336,17 @@ static const char *pixel_name(const struct shape *s)
 struct other {
     const char *name;
     struct shape shape;
-    uint32_t stripes, height;   // before the one called for
+    uint32_t stripes, height; // before the one called for
 };
 
-#define PLAIN {.width = WIDTH, .height = LINES, .layers = 15, .k = 1, .run = 64, .shared = true}
-#define HIGH {.width = WIDTH, .height = 6000, .layers = 15, .k = 1, .run = 64, .shared = true}
+#define PLAIN \
+    { \
+        .width = WIDTH, .height = LINES, .layers = 15, .k = 1, .run = 64, .shared = true \
+    }
+#define HIGH \
+    { \
+        .width = WIDTH, .height = 6000, .layers = 15, .k = 1, .run = 64, .shared = true \
+    }
 
 static const struct other others[] = {
     {"1 pixel, 15 layers, 960 records", {.width = 1, .height = 2, .layers = 15, .k = 1}, 63, 1},
@@ -348,13 +379,15 @@ static void time_all(struct work *w)
 static void print_pixels(void)
 {
     unsigned over = 0;
-    printf("%-46s %10s %10s %10s %9s %9s\n", "nanoseconds a pixel, best of many rounds", "Rattle", "C", "C by rows", "/ C", "/ by rows");
+    printf("%-46s %10s %10s %10s %9s %9s\n", "nanoseconds a pixel, best of many rounds", "Rattle",
+           "C", "C by rows", "/ C", "/ by rows");
     for (size_t i = 0; i < PIXEL_ROWS; i++) {
         struct shape s = pixel_shape(i);
         const double *t = best[i];
         bool slow = t[0] / t[1] > LIMIT;
         over += slow;
-        printf("%-46s %10.2f %10.2f %10.2f %9.2f %9.2f%s\n", pixel_name(&s), t[0] / WIDTH, t[1] / WIDTH, t[2] / WIDTH, t[0] / t[1], t[0] / t[2],
+        printf("%-46s %10.2f %10.2f %10.2f %9.2f %9.2f%s\n", pixel_name(&s), t[0] / WIDTH,
+               t[1] / WIDTH, t[2] / WIDTH, t[0] / t[1], t[0] / t[2],
                slow ? "  over the limit" : "");
     }
     printf("\n%u of %d rows are over the limit, %.1f times C\n\n", over, PIXEL_ROWS, LIMIT);
@@ -362,13 +395,16 @@ static void print_pixels(void)
 
 static void print_others(void)
 {
-    printf("%-46s %10s %10s %10s %9s %9s\n", "microseconds a line, best of many rounds", "Rattle", "C", "C by rows", "/ C", "/ by rows");
+    printf("%-46s %10s %10s %10s %9s %9s\n", "microseconds a line, best of many rounds", "Rattle",
+           "C", "C by rows", "/ C", "/ by rows");
     for (size_t i = 0; i < OTHERS; i++) {
         const double *t = best[PIXEL_ROWS + i];
-        printf("%-46s %10.2f %10.2f %10.2f %9.2f %9.2f\n", others[i].name, t[0] / 1e3, t[1] / 1e3, t[2] / 1e3, t[0] / t[1], t[0] / t[2]);
+        printf("%-46s %10.2f %10.2f %10.2f %9.2f %9.2f\n", others[i].name, t[0] / 1e3, t[1] / 1e3,
+               t[2] / 1e3, t[0] / t[1], t[0] / t[2]);
     }
-    puts("\nratios: Rattle / the other, below 1 is faster; C does all of the rule for each layer of each pixel, C by rows finds a layer's row once a "
-         "line;\nlines that differ in heights only should take the same time, and stripes before a line only that of judging them");
+    puts(
+        "\nratios: Rattle / the other, below 1 is faster; C does all of the rule for each layer of each pixel, C by rows finds a layer's row once a "
+        "line;\nlines that differ in heights only should take the same time, and stripes before a line only that of judging them");
 }
 
 int main(void)

@@ -1,5 +1,7 @@
-// Times the proved judge and the proved search for a stripe beside the same two in C, on the same sheets in one run.
-// First the two must agree, on the sheets that are timed and on damaged ones: a fast wrong answer is no result.
+// Times the proved judge and the proved search for a stripe beside the same two in C, on the same
+// sheets in one run.
+// First the two must agree, on the sheets that are timed and on damaged ones: a fast wrong answer
+// is no result.
 #include "kit.h"
 #include "sheet.h"
 
@@ -33,7 +35,7 @@ static void put_coded(uint8_t *p, unsigned layer, uint32_t main)
     put16(p + 6, any(1000));
     put16(p + 8, 1 + any(4000));
     put16(p + 10, 1 + any(1000));
-    put16(p + 12, main >> any(3));   // 400, 200 or 100
+    put16(p + 12, main >> any(3)); // 400, 200 or 100
 }
 
 static void put_record(uint8_t *p, unsigned stripe, unsigned layer, bool coded)
@@ -55,7 +57,8 @@ static void put_record(uint8_t *p, unsigned stripe, unsigned layer, bool coded)
 
 static void make_good(struct sheet *s, unsigned stripes, unsigned layers)
 {
-    static const uint8_t types[] = {1, 2, 3, 4, 6, 7};   // which of layers 1 to 3 are coded, a bit each
+    static const uint8_t types[] = {1, 2, 3,
+                                    4, 6, 7}; // which of layers 1 to 3 are coded, a bit each
     uint8_t *p = s->octets;
     for (unsigned k = 0; k < stripes; k++) {
         unsigned type = types[any(6)];
@@ -79,7 +82,8 @@ static void make_bad(struct sheet *s, unsigned stripes, unsigned layers, size_t 
 static void damage(struct sheet *s)
 {
     size_t n = s->size / RECORD_SIZE;
-    uint8_t *p = s->octets + any((uint32_t)n) * RECORD_SIZE, *q = s->octets + any((uint32_t)n) * RECORD_SIZE;
+    uint8_t *p = s->octets + any((uint32_t)n) * RECORD_SIZE,
+            *q = s->octets + any((uint32_t)n) * RECORD_SIZE;
     switch (any(8)) {
     case 0: s->size = any((uint32_t)s->size + 1); break;
     case 1: memmove(p, q, RECORD_SIZE); break;
@@ -109,7 +113,8 @@ static uint64_t agreed_verdict(const struct sheet *s)
 
 static void agree_on_stripe(const struct sheet *s, uint32_t k)
 {
-    uint64_t rattle = bench_find_stripe(s->octets, s->size, k), c = c_find_stripe(s->octets, s->size, k);
+    uint64_t rattle = bench_find_stripe(s->octets, s->size, k),
+             c = c_find_stripe(s->octets, s->size, k);
     if (rattle != c)
         differ("find_stripe", rattle, c);
 }
@@ -135,7 +140,9 @@ static void agree_on_damaged(void)
         good += agreed_verdict(&s) < REFUSED;
         agree_on_stripe(&s, any(s.stripes + 2));
     }
-    printf("Rattle and C agree on %d sheets and on each once damaged: %u still good, %u refused\n\n", DAMAGED, good, DAMAGED - good);
+    printf(
+        "Rattle and C agree on %d sheets and on each once damaged: %u still good, %u refused\n\n",
+        DAMAGED, good, DAMAGED - good);
 }
 
 // ---- times
@@ -174,7 +181,8 @@ static void time_row(const char *name, side *rattle, side *c, struct question q,
     side *const sides[] = {rattle, c};
     double best[] = {NO_TIME, NO_TIME};
     take_turns(sides, 2, &q, ROUND_NS, ROUNDS, best);
-    printf("%-42s %10.1f %10.1f %8.2f %8.2f\n", name, best[0], best[1], best[0] / best[1], (double)octets / best[0]);
+    printf("%-42s %10.1f %10.1f %8.2f %8.2f\n", name, best[0], best[1], best[0] / best[1],
+           (double)octets / best[0]);
 }
 
 static void time_judge(const char *name, const struct sheet *s, size_t octets)
@@ -203,7 +211,8 @@ int main(void)
     expect(&early, REFUSED + 3);
     agree_on_damaged();
 
-    printf("%-42s %10s %10s %8s %8s\n", "best of many rounds", "Rattle ns", "C ns", "ratio", "GB/s");
+    printf("%-42s %10s %10s %8s %8s\n", "best of many rounds", "Rattle ns", "C ns", "ratio",
+           "GB/s");
     time_judge("judge 960 records, good", &most, most.size);
     time_judge("judge 192 records, good", &three, three.size);
     time_judge("judge 3 records, good", &least, least.size);
@@ -213,6 +222,7 @@ int main(void)
     time_find("find stripe 63 among 960 records", &most, 63);
     time_find("find stripe 63 among 192 records", &three, 63);
     time_find("find stripe 0 among 3 records", &least, 0);
-    puts("\nratio: Rattle / C, below 1 is faster than C; GB/s: octets of the sheet that the Rattle call looks at");
+    puts(
+        "\nratio: Rattle / C, below 1 is faster than C; GB/s: octets of the sheet that the Rattle call looks at");
     return 0;
 }

@@ -1,5 +1,6 @@
-// Reading a page as C would have it: one pass, fields read where they are tested, out at the first fault. Records stand in a scratch and reach the
-// sheet when all is judged and fits, as the proved call has it. Compiled twice: with BY_MEMCHR scan data is searched by memchr, else octet by octet.
+// Reading a page as C would have it: one pass, fields read where they are tested, out at the first
+// fault. Records stand in a scratch and reach the sheet when all is judged and fits, as the proved
+// call has it. Compiled twice: with BY_MEMCHR scan data is searched by memchr, else octet by octet.
 #include "page.h"
 
 #include <stdbool.h>
@@ -11,10 +12,10 @@
 
 struct reader {
     const uint8_t *page;
-    size_t size, at;            // at: the first octet not read, never past size
-    uint32_t number, place;     // of a fault
+    size_t size, at;        // at: the first octet not read, never past size
+    uint32_t number, place; // of a fault
     uint32_t mask_coder, image_coder, main, width;
-    uint32_t left;              // of the page's height
+    uint32_t left; // of the page's height
     unsigned stripes;
     uint8_t records[MOST_STRIPES * STRIPE_RECORDS];
 };
@@ -42,14 +43,12 @@ static inline const uint8_t *take(struct reader *r, size_t octets)
 
 enum class { ALONE, FRAME, SCAN, END, FAULT, SEGMENT };
 
-static inline enum class class_of(uint32_t code)
-{
-    if (code >= 0xDB)
-        return code == 0xFF ? FAULT : SEGMENT;
-    if (code >= 0xD0)
-        return code == 0xDA ? SCAN : code == 0xD9 ? END : FAULT;
-    if (code >= 0xC0)
-        return code % 4 == 0 && code != 0xC0 ? SEGMENT : FRAME;
+static inline enum class class_of(uint32_t code) {
+    if (code >= 0xDB) return code == 0xFF ? FAULT : SEGMENT;
+    if (code >= 0xD0) return code == 0xDA ? SCAN
+    : code == 0xD9                        ? END
+                                          : FAULT;
+    if (code >= 0xC0) return code % 4 == 0 && code != 0xC0 ? SEGMENT : FRAME;
     return code == 0x01 ? ALONE : FAULT;
 }
 
@@ -87,10 +86,13 @@ static size_t scan_end(const uint8_t *page, size_t at, size_t size)
 static bool listed(uint32_t res)
 {
     switch (res) {
-    case 100: case 200: case 300: case 400: case 600: case 1200:
-        return true;
-    default:
-        return false;
+    case 100:
+    case 200:
+    case 300:
+    case 400:
+    case 600:
+    case 1200: return true;
+    default: return false;
     }
 }
 
@@ -138,8 +140,10 @@ static void put_layer(const struct layer *l, size_t begin, size_t end, uint8_t *
     put32(record + 22, (uint32_t)(end - begin));
 }
 
-// A marker that has a length, and the scan data behind a scan header. Answers where the next marker is due, or 0.
-static inline size_t segment(struct reader *r, struct layer *l, enum class c, uint32_t code, size_t at)
+// A marker that has a length, and the scan data behind a scan header. Answers where the next marker
+// is due, or 0.
+static inline size_t segment(struct reader *r, struct layer *l, enum class c, uint32_t code,
+                             size_t at)
 {
     if (r->size - at < 4)
         return fail(r, SPIREROOK_SHORT, at + 2);
@@ -240,7 +244,8 @@ static bool height_and_mask(struct reader *r, bool masked, uint8_t *record)
 
 static bool stripe(struct reader *r)
 {
-    uint8_t *back = r->records + r->stripes * STRIPE_RECORDS, *mask = back + RECORD_SIZE, *fore = mask + RECORD_SIZE;
+    uint8_t *back = r->records + r->stripes * STRIPE_RECORDS, *mask = back + RECORD_SIZE,
+            *fore = mask + RECORD_SIZE;
     const uint8_t *p = take(r, 1), *colours[2];
     if (p == NULL)
         return false;
@@ -257,7 +262,8 @@ static bool stripe(struct reader *r)
         return false;
     memcpy(back + 14, colours[0], 3);
     memcpy(fore + 14, colours[1], 3);
-    if (!offset(r, type & 1, back) || !offset(r, type & 4, fore) || !height_and_mask(r, type & 2, mask))
+    if (!offset(r, type & 1, back) || !offset(r, type & 4, fore) ||
+        !height_and_mask(r, type & 2, mask))
         return false;
     if (((type & 1) && !walk(r, back)) || ((type & 4) && !walk(r, fore)))
         return false;

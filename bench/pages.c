@@ -1,5 +1,6 @@
-// Times the proved reading of a page beside two readers in C, on the same pages in one run. First the three must agree, answer and sheet octet for
-// octet, on the pages that are timed and on damaged ones: a fast wrong answer is no result.
+// Times the proved reading of a page beside two readers in C, on the same pages in one run. First
+// the three must agree, answer and sheet octet for octet, on the pages that are timed and on
+// damaged ones: a fast wrong answer is no result.
 #include "kit.h"
 #include "page.h"
 
@@ -11,9 +12,9 @@
 
 #define MB 1048576
 #define LONGEST (16 * MB - 1)
-#define ENDS 256                // octets of a page besides what fills it
+#define ENDS 256 // octets of a page besides what fills it
 #define DAMAGED 20000
-#define PASSES 6                // over all rows, since a machine can be slow for seconds
+#define PASSES 6 // over all rows, since a machine can be slow for seconds
 #define ROUNDS 12
 #define ROUND_NS 20000.0
 #define SHEET_SIZE (64 * 3 * RECORD_SIZE)
@@ -21,7 +22,7 @@
 struct page {
     uint8_t octets[LONGEST + 1];
     size_t size;
-    size_t start, end;          // of the layer, where there is one only
+    size_t start, end; // of the layer, where there is one only
 };
 
 // ---- pages
@@ -34,7 +35,8 @@ static void add(struct page *p, const void *octets, size_t size)
 
 static void add_start(struct page *p)
 {
-    static const uint8_t start[] = {0xFF, 0xD8, 0xFF, 0xED, 0, 16, 'M', 'R', 'C', 0, 0, 1, 4, 1, 0x01, 0x90, 0, 0, 0x13, 0x60, 0xFF, 0xD9};
+    static const uint8_t start[] = {0xFF, 0xD8, 0xFF, 0xED, 0,    16, 'M', 'R',  'C',  0,    0,
+                                    1,    4,    1,    0x01, 0x90, 0,  0,   0x13, 0x60, 0xFF, 0xD9};
     p->size = 0;
     add(p, start, sizeof start);
 }
@@ -103,12 +105,30 @@ static void marked(struct page *p, size_t size, uint32_t code, uint32_t length, 
     }
 }
 
-static void segments_of_4(struct page *p, size_t size) { marked(p, size, 0xE0, 2, 4); }
-static void segments_of_32(struct page *p, size_t size) { marked(p, size, 0xE0, 30, 32); }
-static void segments_of_64(struct page *p, size_t size) { marked(p, size, 0xE0, 62, 64); }
-static void scans_of_4(struct page *p, size_t size) { marked(p, size, 0xDA, 2, 4); }
-static void scans_of_32(struct page *p, size_t size) { marked(p, size, 0xDA, 2, 32); }
-static void scans_of_64(struct page *p, size_t size) { marked(p, size, 0xDA, 2, 64); }
+static void segments_of_4(struct page *p, size_t size)
+{
+    marked(p, size, 0xE0, 2, 4);
+}
+static void segments_of_32(struct page *p, size_t size)
+{
+    marked(p, size, 0xE0, 30, 32);
+}
+static void segments_of_64(struct page *p, size_t size)
+{
+    marked(p, size, 0xE0, 62, 64);
+}
+static void scans_of_4(struct page *p, size_t size)
+{
+    marked(p, size, 0xDA, 2, 4);
+}
+static void scans_of_32(struct page *p, size_t size)
+{
+    marked(p, size, 0xDA, 2, 32);
+}
+static void scans_of_64(struct page *p, size_t size)
+{
+    marked(p, size, 0xDA, 2, 64);
+}
 
 static void nothing(struct page *p, size_t size)
 {
@@ -116,8 +136,10 @@ static void nothing(struct page *p, size_t size)
     (void)size;
 }
 
-// One stripe with a background alone; one of the four places of the page is filled, the others get `nothing`.
-static void make_large(struct page *p, size_t size, filler *optionals, filler *segments, filler *data, filler *behind)
+// One stripe with a background alone; one of the four places of the page is filled, the others get
+// `nothing`.
+static void make_large(struct page *p, size_t size, filler *optionals, filler *segments,
+                       filler *data, filler *behind)
 {
     size_t full = size - ENDS;
     add_start(p);
@@ -158,7 +180,7 @@ static void make_small(struct page *p, unsigned stripes)
 static void damage(struct page *p)
 {
     size_t at = any((uint32_t)p->size);
-    if (any(4) == 0)            // a code behind an FF
+    if (any(4) == 0) // a code behind an FF
         while (at > 0 && p->octets[at - 1] != 0xFF)
             at--;
     if (any(8) == 0)
@@ -169,20 +191,25 @@ static void damage(struct page *p)
 
 // ---- all must agree
 
-typedef spirerook_answer reader(const uint8_t *page, size_t page_len, uint8_t *sheet, size_t sheet_len);
+typedef spirerook_answer reader(const uint8_t *page, size_t page_len, uint8_t *sheet,
+                                size_t sheet_len);
 
 static reader *const readers[] = {spirerook_read, c_read_by_octets, c_read_by_memchr};
 static const char *const names[] = {"Rattle", "C by octets", "C by memchr"};
 
 static void differ(const char *what, size_t k, spirerook_answer one, spirerook_answer other)
 {
-    fprintf(stderr, "bench: %s: Rattle answers %" PRIu32 " %" PRIu32 " %" PRIu64 ", %s %" PRIu32 " %" PRIu32 " %" PRIu64 "\n", what, one.number,
-            one.place, one.count, names[k], other.number, other.place, other.count);
+    fprintf(stderr,
+            "bench: %s: Rattle answers %" PRIu32 " %" PRIu32 " %" PRIu64 ", %s %" PRIu32 " %" PRIu32
+            " %" PRIu64 "\n",
+            what, one.number, one.place, one.count, names[k], other.number, other.place,
+            other.count);
     exit(1);
 }
 
 // Answers what all three answer; the sheet is theirs.
-static spirerook_answer agreed(const char *what, const struct page *p, size_t room, uint8_t sheet[SHEET_SIZE])
+static spirerook_answer agreed(const char *what, const struct page *p, size_t room,
+                               uint8_t sheet[SHEET_SIZE])
 {
     uint8_t other[SHEET_SIZE];
     memset(sheet, 0xA5, SHEET_SIZE);
@@ -203,16 +230,20 @@ static void expect(const char *what, const struct page *p)
 {
     uint8_t sheet[SHEET_SIZE];
     spirerook_answer a = agreed(what, p, SHEET_SIZE, sheet);
-    if (a.number != SPIREROOK_DONE || a.count != 3 || be32(sheet + 18) != p->start || be32(sheet + 22) != p->end - p->start) {
+    if (a.number != SPIREROOK_DONE || a.count != 3 || be32(sheet + 18) != p->start ||
+        be32(sheet + 22) != p->end - p->start) {
         fprintf(stderr, "bench: %s: not the records that were made\n", what);
         exit(1);
     }
 }
 
-static void expect_small(const struct page *p, uint32_t stripes, size_t room, uint8_t sheet[SHEET_SIZE])
+static void expect_small(const struct page *p, uint32_t stripes, size_t room,
+                         uint8_t sheet[SHEET_SIZE])
 {
     size_t records = 3 * (size_t)stripes;
-    uint32_t number = stripes > 64 ? SPIREROOK_BAD_STRIPE : room < records * RECORD_SIZE ? SPIREROOK_NO_ROOM : SPIREROOK_DONE;
+    uint32_t number = stripes > 64                   ? SPIREROOK_BAD_STRIPE
+                      : room < records * RECORD_SIZE ? SPIREROOK_NO_ROOM
+                                                     : SPIREROOK_DONE;
     spirerook_answer a = agreed("a small page", p, room, sheet);
     if (a.number != number || a.count != (number == SPIREROOK_DONE ? records : 0))
         differ("a small page, against what was made", 0, a, (spirerook_answer){number, 0, records});
@@ -231,7 +262,9 @@ static void agree_on_damaged(struct page *p)
             damage(p);
         good += agreed("a damaged page", p, SHEET_SIZE, sheet).number == SPIREROOK_DONE;
     }
-    printf("Rattle and both in C agree on %d pages and on each once damaged: %u still good, %u refused\n\n", DAMAGED, good, DAMAGED - good);
+    printf(
+        "Rattle and both in C agree on %d pages and on each once damaged: %u still good, %u refused\n\n",
+        DAMAGED, good, DAMAGED - good);
 }
 
 // ---- times
@@ -245,9 +278,18 @@ static uint64_t timed(reader *f, const void *work)
     return a.count + a.number;
 }
 
-static uint64_t rattle(const void *work) { return timed(spirerook_read, work); }
-static uint64_t by_octets(const void *work) { return timed(c_read_by_octets, work); }
-static uint64_t by_memchr(const void *work) { return timed(c_read_by_memchr, work); }
+static uint64_t rattle(const void *work)
+{
+    return timed(spirerook_read, work);
+}
+static uint64_t by_octets(const void *work)
+{
+    return timed(c_read_by_octets, work);
+}
+static uint64_t by_memchr(const void *work)
+{
+    return timed(c_read_by_memchr, work);
+}
 
 static unsigned over;
 
@@ -286,7 +328,7 @@ static const struct row rows[] = {
 
 #define ROWS (sizeof rows / sizeof rows[0])
 
-static double best[ROWS + 1][3];    // of each side; the last row is the small page
+static double best[ROWS + 1][3]; // of each side; the last row is the small page
 static size_t sizes[ROWS + 1];
 
 static void time_page(size_t row, const struct page *p)
@@ -326,12 +368,15 @@ int main(void)
             best[i][k] = NO_TIME;
     for (int pass = 0; pass < PASSES; pass++)
         time_all(&p);
-    printf("%-34s %10s %10s %10s %17s %17s %6s\n", "best of many rounds, microseconds", "Rattle", "C octets", "C memchr", "/ octets  limit",
-           "/ memchr  limit", "GB/s");
+    printf("%-34s %10s %10s %10s %17s %17s %6s\n", "best of many rounds, microseconds", "Rattle",
+           "C octets", "C memchr", "/ octets  limit", "/ memchr  limit", "GB/s");
     for (size_t i = 0; i < ROWS; i++)
         print_row(i, rows[i].name, rows[i].octets_limit, rows[i].memchr_limit);
     print_row(ROWS, "64 stripes of small layers", 0, 0);
-    printf("\nrandom scan data: 4 MB take %.2f times what 1 MB takes, 16 MB %.2f times\n", best[1][0] / best[0][0], best[2][0] / best[0][0]);
-    printf("ratios: Rattle / C, below 1 is faster than C; %u over their limits, marked !; GB/s: octets of the page that the Rattle call reads\n", over);
+    printf("\nrandom scan data: 4 MB take %.2f times what 1 MB takes, 16 MB %.2f times\n",
+           best[1][0] / best[0][0], best[2][0] / best[0][0]);
+    printf(
+        "ratios: Rattle / C, below 1 is faster than C; %u over their limits, marked !; GB/s: octets of the page that the Rattle call reads\n",
+        over);
     return 0;
 }

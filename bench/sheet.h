@@ -1,6 +1,7 @@
 // What is timed, in Rattle and in C. Both pack their answers in the same way:
 //   judge         good: records * 65536 + stripes; bad: REFUSED + the record at fault
-//   find_stripe   first record, layers, top and height of stripe k, sixteen bits each; 0 where there is no such stripe
+//   find_stripe   first record, layers, top and height of stripe k, sixteen bits each; 0 where
+//     there is no such stripe
 #ifndef BENCH_SHEET_H
 #define BENCH_SHEET_H
 

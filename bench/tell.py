@@ -2,22 +2,29 @@
 
 import re
 import sys
+import textwrap
 
 HEAD = """# How fast it is
 
-`make bench` builds the proved calls and the same work in plain C, checks that both give the same answers, and times them side by side, in turns, in one
-run. Only ratios are told: the library's time over the other's, so below 1 it is faster. Seconds belong to a machine. `make bench >LOG` and `python3
-bench/tell.py <LOG >docs/BENCH.md` make this page again; all figures are of one run on two shared processors.
+`make bench` builds the proved calls and the same work in plain C, checks that both give the same
+answers, and times them side by side, in turns, in one run. Only ratios are told: the library's time
+over the other's, so below 1 it is faster. Seconds belong to a machine. `make bench >LOG` and
+`python3 bench/tell.py <LOG >docs/BENCH.md` make this page again; all figures are of one run on two
+shared processors.
 """
 
+def wrapped(said):
+    return textwrap.fill(said, 100, break_on_hyphens=False)
+
+
 def table(title, said, columns, rows):
-    print("\n## %s\n\n%s\n\n| %s |\n|%s" % (title, said, " | ".join(columns), "---|" * len(columns)))
+    print("\n## %s\n\n%s\n\n| %s |\n|%s" % (title, wrapped(said), " | ".join(columns), "---|" * len(columns)))
     for row in rows:
         print("| %s |" % " | ".join(row))
 
 
 def block(lines, begin):
-    """The rows behind a heading, up to the next empty line."""
+    """The rows after a heading, up to the next empty line."""
     at = next(k for k, line in enumerate(lines) if begin in line) + 1
     rows = []
     while at < len(lines) and lines[at].strip():
@@ -62,8 +69,9 @@ def lines_of_pixels(lines):
         groups.setdefault(int(found[1]), []).append((float(found[6]), float(found[7])))
     rows = [("%d layers, %d rows" % (layers, len(ratios)), *("%.2f to %.2f" % (min(column), max(column)) for column in zip(*ratios)))
             for layers, ratios in sorted(groups.items())]
-    table("A line of pixels", "Beside the literal C composer, which does the paper's rule for each layer of each pixel, and beside C that finds each layer's row once a "
-          "line.\nRows differ in the resolution, the masks (in runs, at random) and in what is read; the limit is 1.3 of the literal one.",
+    table("A line of pixels", "Beside the literal C composer, which does the paper's rule for each layer of each pixel, and beside C "
+          "that finds each layer's row once a line. Rows differ in the resolution, the masks (in runs, at "
+          "random) and in what is read; the limit is 1.3 of the literal one.",
           ("stripe", "beside literal C", "beside C by rows"), rows)
     others = [name_and_numbers(line) for line in block(lines, "microseconds a line")]
     table("Lines of other kinds", "The same two, a line each.", ("line", "beside literal C", "beside C by rows"),
@@ -72,13 +80,13 @@ def lines_of_pixels(lines):
 
 def viewer(lines):
     at = next(k for k, line in enumerate(lines) if line.startswith("the viewer on"))
-    print("\n## The viewer\n\nT%s.\n\n| part | share |\n|---|---|" % lines[at][1:].rstrip())
+    print("\n## The viewer\n\n%s\n\n| part | share |\n|---|---|" % wrapped("T%s." % lines[at][1:].rstrip()))
     for line in lines[at + 1:at + 6]:
         part, share = line.rsplit(None, 1)
         print("| %s | %s |" % (part.strip(), share))
     ratio = re.search(r"literal C composer: ([\d.]+), limit ([\d.]+)", lines[at + 6])
-    print("\nComposing through the library takes %s of what the same viewer takes with the literal C composer in its place; the limit is %s. The picture is the\n"
-          "same, octet for octet." % ratio.groups())
+    print("\n" + wrapped("Composing through the library takes %s of what the same viewer takes with the literal C composer in "
+                         "its place; the limit is %s. The picture is the same, octet for octet." % ratio.groups()))
 
 
 def main():

@@ -1,5 +1,7 @@
-// Writing a page as C would have it: the sheet is judged, then one pass over the records looks at their data and adds up the page, then memcpy.
-// Compiled twice, as page.c is: with BY_MEMCHR scan data is searched by memchr, else octet by octet.
+// Writing a page as C would have it: the sheet is judged, then one pass over the records looks at
+// their data and adds up the page, then memcpy.
+// Compiled twice, as page.c is: with BY_MEMCHR scan data is searched by memchr, else octet by
+// octet.
 #include "page.h"
 #include "sheet.h"
 
@@ -20,16 +22,16 @@
 
 struct writer {
     const uint8_t *sheet, *data;
-    size_t records, size;               // size: of the data
-    uint32_t mask_coder, image_coder;   // used so far
-    uint64_t length;                    // of the page so far
+    size_t records, size;             // size: of the data
+    uint32_t mask_coder, image_coder; // used so far
+    uint64_t length;                  // of the page so far
 };
 
 // Whether the data of an image layer is just the layer that its record tells.
 static bool agrees(const struct writer *w, const uint8_t *record)
 {
     uint8_t found[RECORD_SIZE];
-    uint32_t main = be16(w->sheet + RECORD_SIZE + 12);   // layer 2's, the same in all stripes
+    uint32_t main = be16(w->sheet + RECORD_SIZE + 12); // layer 2's, the same in all stripes
     if (!WALK(w->data + be32(record + 18), be32(record + 22), main, found))
         return false;
     return memcmp(found + 8, record + 8, 6) == 0 && memcmp(found + 22, record + 22, 4) == 0;
@@ -80,7 +82,8 @@ static uint8_t *put_stripe(const struct writer *w, const uint8_t *back, uint8_t 
     static const uint8_t head[] = {0xFF, 0xED, 0, 37, 'M', 'R', 'C', 1};
     const uint8_t *mask = back + RECORD_SIZE, *fore = mask + RECORD_SIZE;
     memcpy(p, head, sizeof head);
-    p[8] = (uint8_t)((be32(back + 22) != 0) | (be32(mask + 22) != 0) << 1 | (be32(fore + 22) != 0) << 2);
+    p[8] = (uint8_t)((be32(back + 22) != 0) | (be32(mask + 22) != 0) << 1 |
+                     (be32(fore + 22) != 0) << 2);
     memcpy(p + 9, back + 14, 3);
     memcpy(p + 12, fore + 14, 3);
     put32(p + 15, be16(back + 4));
@@ -107,7 +110,8 @@ static spirerook_answer refusal(uint32_t number, size_t place)
     return (spirerook_answer){number, (uint32_t)place, 0};
 }
 
-spirerook_answer WRITE(const uint8_t *sheet, size_t sheet_len, const uint8_t *data, size_t data_len, uint8_t *page, size_t page_len)
+spirerook_answer WRITE(const uint8_t *sheet, size_t sheet_len, const uint8_t *data, size_t data_len,
+                       uint8_t *page, size_t page_len)
 {
     uint64_t verdict = c_judge(sheet, sheet_len);
     if (verdict >= REFUSED)

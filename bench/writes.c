@@ -1,5 +1,7 @@
-// Times the proved writing of a page beside two writers in C, and beside one memcpy of the page and one proved reading of it, on the same sheets in
-// one run. First all must agree, answer and page octet for octet, on what is timed and on damaged sheets and data: a fast wrong answer is no result.
+// Times the proved writing of a page beside two writers in C, and beside one memcpy of the page and
+// one proved reading of it, on the same sheets in one run. First all must agree, answer and page
+// octet for octet, on what is timed and on damaged sheets and data: a fast wrong answer is no
+// result.
 #include "kit.h"
 #include "page.h"
 
@@ -11,7 +13,7 @@
 #define MB 1048576
 #define LONGEST (16 * MB - 1)
 #define DAMAGED 20000
-#define PASSES 6                // over all rows, since a machine can be slow for seconds
+#define PASSES 6 // over all rows, since a machine can be slow for seconds
 #define ROUNDS 12
 #define ROUND_NS 20000.0
 #define SHEET_SIZE (64 * 3 * RECORD_SIZE)
@@ -20,8 +22,8 @@
 struct work {
     uint8_t sheet[SHEET_SIZE], data[LONGEST + 1];
     size_t sheet_size, data_size;
-    uint8_t page[LONGEST + 1];  // as the proved call writes it
-    size_t page_size;           // 0: a refusal
+    uint8_t page[LONGEST + 1]; // as the proved call writes it
+    size_t page_size;          // 0: a refusal
 };
 
 // ---- sheets and data
@@ -122,11 +124,21 @@ static void make_background(struct work *w, filler *scan)
     code_image(add_stripe(w), 0, w->data_size);
 }
 
-static void make_random(struct work *w) { make_background(w, random_scan); }
-static void make_stuffed(struct work *w) { make_background(w, stuffed_scan); }
-static void make_scans(struct work *w) { make_background(w, short_scans); }
+static void make_random(struct work *w)
+{
+    make_background(w, random_scan);
+}
+static void make_stuffed(struct work *w)
+{
+    make_background(w, stuffed_scan);
+}
+static void make_scans(struct work *w)
+{
+    make_background(w, short_scans);
+}
 
-// Image layers 1 and 3 of 64 stripes, all on one picture of so many octets; the masks are its first octet.
+// Image layers 1 and 3 of 64 stripes, all on one picture of so many octets; the masks are its first
+// octet.
 static void make_shared(struct work *w, size_t size)
 {
     clear(w);
@@ -139,8 +151,14 @@ static void make_shared(struct work *w, size_t size)
     }
 }
 
-static void make_shared_small(struct work *w) { make_shared(w, 130 * 1000); }
-static void make_shared_large(struct work *w) { make_shared(w, LONGEST - 256); }
+static void make_shared_small(struct work *w)
+{
+    make_shared(w, 130 * 1000);
+}
+static void make_shared_large(struct work *w)
+{
+    make_shared(w, LONGEST - 256);
+}
 
 // A few stripes of small layers with data of their own, as most damage wants them.
 static void make_some(struct work *w, unsigned stripes)
@@ -168,7 +186,10 @@ static void make_some(struct work *w, unsigned stripes)
     }
 }
 
-static void make_small(struct work *w) { make_some(w, 64); }
+static void make_small(struct work *w)
+{
+    make_some(w, 64);
+}
 
 static void damage(struct work *w)
 {
@@ -185,18 +206,22 @@ static void damage(struct work *w)
 
 // ---- all must agree
 
-typedef spirerook_answer writer(const uint8_t *sheet, size_t sheet_len, const uint8_t *data, size_t data_len, uint8_t *page, size_t page_len);
+typedef spirerook_answer writer(const uint8_t *sheet, size_t sheet_len, const uint8_t *data,
+                                size_t data_len, uint8_t *page, size_t page_len);
 
 static uint8_t other[LONGEST + 1];
 
 static void differ(const char *what, const char *name, spirerook_answer one, spirerook_answer two)
 {
-    fprintf(stderr, "bench: %s: Rattle answers %" PRIu32 " %" PRIu32 " %" PRIu64 ", %s %" PRIu32 " %" PRIu32 " %" PRIu64 "\n", what, one.number,
-            one.place, one.count, name, two.number, two.place, two.count);
+    fprintf(stderr,
+            "bench: %s: Rattle answers %" PRIu32 " %" PRIu32 " %" PRIu64 ", %s %" PRIu32 " %" PRIu32
+            " %" PRIu64 "\n",
+            what, one.number, one.place, one.count, name, two.number, two.place, two.count);
     exit(1);
 }
 
-static void agree(const char *what, const struct work *w, size_t room, size_t seen, writer *f, const char *name, spirerook_answer first)
+static void agree(const char *what, const struct work *w, size_t room, size_t seen, writer *f,
+                  const char *name, spirerook_answer first)
 {
     memset(other, 0xA5, seen);
     spirerook_answer a = f(w->sheet, w->sheet_size, w->data, w->data_size, other, room);
@@ -210,14 +235,16 @@ static void agree(const char *what, const struct work *w, size_t room, size_t se
 static spirerook_answer agreed(const char *what, struct work *w, size_t room, size_t seen)
 {
     memset(w->page, 0xA5, seen);
-    spirerook_answer first = spirerook_write(w->sheet, w->sheet_size, w->data, w->data_size, w->page, room);
+    spirerook_answer first = spirerook_write(w->sheet, w->sheet_size, w->data, w->data_size,
+                                             w->page, room);
     agree(what, w, room, seen, c_write_by_octets, "C by octets", first);
     agree(what, w, room, seen, c_write_by_memchr, "C by memchr", first);
     w->page_size = (size_t)first.count;
     return first;
 }
 
-// Against what the maker knows, so that three wrong writers do not pass: the page is read, and gives the sheet but for where coded data stand.
+// Against what the maker knows, so that three wrong writers do not pass: the page is read, and
+// gives the sheet but for where coded data stand.
 static void expect(const char *what, struct work *w, uint32_t number, size_t room, size_t seen)
 {
     uint8_t sheet[SHEET_SIZE];
@@ -246,7 +273,9 @@ static void agree_on_damaged(struct work *w)
             damage(w);
         good += agreed("a damaged sheet", w, room, 65536).number == SPIREROOK_DONE;
     }
-    printf("Rattle and both in C agree on %d sheets and on each once damaged: %u still good, %u refused\n\n", DAMAGED, good, DAMAGED - good);
+    printf(
+        "Rattle and both in C agree on %d sheets and on each once damaged: %u still good, %u refused\n\n",
+        DAMAGED, good, DAMAGED - good);
 }
 
 // ---- times
@@ -260,9 +289,18 @@ static uint64_t timed(writer *f, const void *work)
     return a.count + a.number;
 }
 
-static uint64_t rattle(const void *work) { return timed(spirerook_write, work); }
-static uint64_t by_octets(const void *work) { return timed(c_write_by_octets, work); }
-static uint64_t by_memchr(const void *work) { return timed(c_write_by_memchr, work); }
+static uint64_t rattle(const void *work)
+{
+    return timed(spirerook_write, work);
+}
+static uint64_t by_octets(const void *work)
+{
+    return timed(c_write_by_octets, work);
+}
+static uint64_t by_memchr(const void *work)
+{
+    return timed(c_write_by_memchr, work);
+}
 
 // What a page costs at the least where its layers are walked: it is copied once and read once.
 static uint64_t copied_and_read(const void *work)
@@ -311,7 +349,8 @@ static void print_row(size_t i)
     if (sizes[i] == 0)
         printf(" %11s %9.2f %9.2f\n", "-", t[0] / t[1], t[0] / t[2]);
     else
-        printf(" %11.1f %9.2f %9.2f %12.2f %6.2f\n", t[3] / 1e3, t[0] / t[1], t[0] / t[2], t[0] / t[3], (double)sizes[i] / t[0]);
+        printf(" %11.1f %9.2f %9.2f %12.2f %6.2f\n", t[3] / 1e3, t[0] / t[1], t[0] / t[2],
+               t[0] / t[3], (double)sizes[i] / t[0]);
 }
 
 int main(void)
@@ -325,11 +364,13 @@ int main(void)
         for (size_t i = 0; i < ROWS; i++)
             if (pass < rows[i].passes)
                 time_row(i, &w);
-    printf("%-34s %10s %10s %10s %11s %9s %9s %12s %6s\n", "best of many rounds, microseconds", "Rattle", "C octets", "C memchr", "copy + read",
-           "/ octets", "/ memchr", "/ copy+read", "GB/s");
+    printf("%-34s %10s %10s %10s %11s %9s %9s %12s %6s\n", "best of many rounds, microseconds",
+           "Rattle", "C octets", "C memchr", "copy + read", "/ octets", "/ memchr", "/ copy+read",
+           "GB/s");
     for (size_t i = 0; i < ROWS; i++)
         print_row(i);
-    puts("\nratios: Rattle / the other, below 1 is faster; copy + read: one memcpy of the page and one proved reading of it; GB/s: octets "
-         "of the page written");
+    puts(
+        "\nratios: Rattle / the other, below 1 is faster; copy + read: one memcpy of the page and one proved reading of it; GB/s: octets "
+        "of the page written");
     return 0;
 }

@@ -1,4 +1,5 @@
-/* T.42: the default range of codes, under D50; sRGB stands under D65, and the matrices adapt from one to the other (Bradford). */
+/* T.42: the default range of codes, under D50; sRGB stands under D65, and the matrices adapt from
+ * one to the other (Bradford). */
 #include "colour.h"
 
 #include <math.h>
@@ -37,8 +38,9 @@ static uint8_t nearest(double value)
 
 void srgb_of_lab(const uint8_t lab[3], uint8_t srgb[3])
 {
-    static const double matrix[3][3] = {
-        {3.1338561, -1.6168667, -0.4906146}, {-0.9787684, 1.9161415, 0.0334540}, {0.0719453, -0.2289914, 1.4052427}};
+    static const double matrix[3][3] = {{3.1338561, -1.6168667, -0.4906146},
+                                        {-0.9787684, 1.9161415, 0.0334540},
+                                        {0.0719453, -0.2289914, 1.4052427}};
     double y = (lab[0] * 100 / lightest + 16) / 116;
     double x = y + (lab[1] - 128) * 170 / lightest / 500;
     double z = y - (lab[2] - 96) * 200 / lightest / 200;
@@ -51,14 +53,17 @@ void srgb_of_lab(const uint8_t lab[3], uint8_t srgb[3])
 
 void lab_of_srgb(const uint8_t srgb[3], uint8_t lab[3])
 {
-    static const double matrix[3][3] = {
-        {0.4360747, 0.3850649, 0.1430804}, {0.2225045, 0.7168786, 0.0606169}, {0.0139322, 0.0971045, 0.7141733}};
+    static const double matrix[3][3] = {{0.4360747, 0.3850649, 0.1430804},
+                                        {0.2225045, 0.7168786, 0.0606169},
+                                        {0.0139322, 0.0971045, 0.7141733}};
     double linear[3], light[3];
     for (int k = 0; k < 3; k++) {
         linear[k] = from_screen(srgb[k] / lightest);
     }
     for (int k = 0; k < 3; k++) {
-        light[k] = root((matrix[k][0] * linear[0] + matrix[k][1] * linear[1] + matrix[k][2] * linear[2]) / white[k]);
+        light[k] = root(
+            (matrix[k][0] * linear[0] + matrix[k][1] * linear[1] + matrix[k][2] * linear[2]) /
+            white[k]);
     }
     lab[0] = nearest((116 * light[1] - 16) * lightest / 100);
     lab[1] = nearest(128 + 500 * (light[0] - light[1]) * lightest / 170);

@@ -137,7 +137,9 @@ const char *open_beside(const char *name, new_file *file)
     memcpy(file->beside + length, ".XXXXXX", sizeof ".XXXXXX");
     watch_signals();
     file->file = make_beside(file->beside);
-    const char *why = file->file == NULL ? strerror(errno) : remember(file->beside) ? NULL : "too many files are being written";
+    const char *why = file->file == NULL       ? strerror(errno)
+                      : remember(file->beside) ? NULL
+                                               : "too many files are being written";
     if (why != NULL && file->file == NULL) {
         forget(file);
     } else if (why != NULL) {
@@ -148,7 +150,10 @@ const char *open_beside(const char *name, new_file *file)
 
 const char *keep_file(new_file *file)
 {
-    const char *why = ferror(file->file) || fflush(file->file) != 0 || fsync(fileno(file->file)) != 0 ? strerror(errno) : NULL;
+    const char *why = ferror(file->file) || fflush(file->file) != 0 ||
+                              fsync(fileno(file->file)) != 0
+                          ? strerror(errno)
+                          : NULL;
     if (fclose(file->file) != 0 && why == NULL) {
         why = strerror(errno);
     }
@@ -174,5 +179,6 @@ void drop_file(new_file *file)
 bool same_file(const char *one, const char *other)
 {
     struct stat first, second;
-    return stat(one, &first) == 0 && stat(other, &second) == 0 && first.st_dev == second.st_dev && first.st_ino == second.st_ino;
+    return stat(one, &first) == 0 && stat(other, &second) == 0 && first.st_dev == second.st_dev &&
+           first.st_ino == second.st_ino;
 }

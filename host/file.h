@@ -12,14 +12,17 @@ typedef struct {
     size_t length;
 } whole_file;
 
-/* For the start of a program: where standard input, output or error is closed, no file that is opened later may take its number, or words meant for people
- * would go into it.  What is written to such a one fails. */
+/* For the start of a program: where standard input, output or error is closed, no file that is
+ * opened later may take its number, or words meant for people would go into it.  What is written to
+ * such a one fails. */
 void hold_standard_files(void);
 
-/* Reads at most `most` octets; a longer file is read so far.  NULL, or why it cannot be read.  The octets are the caller's to free. */
+/* Reads at most `most` octets; a longer file is read so far.  NULL, or why it cannot be read.  The
+ * octets are the caller's to free. */
 const char *read_file(const char *name, size_t most, whole_file *file);
 
-/* A file that is written beside its place and takes it only when it is kept: a run that fails, or is stopped by a signal, leaves what stood there. */
+/* A file that is written beside its place and takes it only when it is kept: a run that fails, or
+ * is stopped by a signal, leaves what stood there. */
 typedef struct {
     FILE *file;
     char *place, *beside;

@@ -1,13 +1,17 @@
-/* Spirerook reads a mixed raster page (ITU-T T.44, Mode 1) into a table of its layers, the sheet; writes a page from a sheet; hands out the coded
- * data of a layer; and composes decoded layers into lines of pixels.  docs/C-API.md is the manual, with an example.
+/* Spirerook reads a mixed raster page (ITU-T T.44, Mode 1) into a table of its layers, the sheet;
+ * writes a page from a sheet; judges a sheet; hands out the coded data of a layer; and composes
+ * decoded layers into lines of pixels.  docs/C-API.md is the manual, with an example.
  *
- * Of all four calls:
- * - A caller lends octets for the time of the call, a length beside each pointer.  Any octets of any length may be lent, and any numbers given: a call
- *   does its work, or refuses with a number and a place.  A null pointer is taken where the length is 0.
- * - What is lent for reading (const) is left as it was and may overlap or be the same.  What is lent for writing may overlap nothing else that is lent.
- * - A refusal changes no octet; Done changes those that it counts, from the first on, and none behind them.
- * - No call allocates, keeps anything from one call to the next, reads a clock or a file, or calls back.  They share no state: threads may call at once,
- *   each with its own buffers for writing.
+ * Of all calls:
+ * - A caller lends octets for the time of the call, a length beside each pointer.  Any octets of
+ *   any length may be lent, and any numbers given: a call does its work, or refuses with a number
+ *   and a place.  A null pointer is taken where the length is 0.
+ * - What is lent for reading (const) is left as it was and may overlap or be the same.  What is
+ *   lent for writing may overlap nothing else that is lent.
+ * - A refusal changes no octet; Done changes those that it counts, from the first on, and none
+ *   behind them.
+ * - No call allocates, keeps anything from one call to the next, reads a clock or a file, or calls
+ *   back.  They share no state: threads may call at once, each with its own buffers for writing.
  * - No call recurses; each takes less stack than SPIREROOK_STACK, whatever it is lent.
  * - All numbers in octets are most significant octet first. */
 #ifndef SPIREROOK_H
@@ -20,11 +24,14 @@
 extern "C" {
 #endif
 
-/* The first number changes with a call or struct that viewers link, the second with a call that is added. */
-#define SPIREROOK_VERSION "1.0.0"
+/* The first number changes with a call or struct that viewers link, the second with a call that is
+ * added. */
+/* 1.1.0: spirerook_judge. */
+#define SPIREROOK_VERSION "1.1.0"
 
 /* ---- Bounds ---- */
 
+/* clang-format off */
 #define SPIREROOK_RECORD_OCTETS 28      /* of a record of the sheet */
 #define SPIREROOK_STRIPES 64            /* of a page, at most */
 #define SPIREROOK_LAYERS 15             /* of a stripe, at most; 3 in a Mode 1 page */
@@ -92,18 +99,22 @@ static inline const char *spirerook_text(uint32_t number)
     }
 }
 
+/* clang-format on */
+
 /* ---- Answers ---- */
 
 /* number: one of the above.
  * place:  of a refusal, where the fault is, as each call says below; of Done, 0.
- * count:  of Done, the records or octets written, or the octets of the part; of a refusal, 0. */
+ * count:  of Done, the records or octets written, the records judged, or the octets of the part; of a
+ *         refusal, 0. */
 typedef struct {
     uint32_t number, place;
     uint64_t count;
 } spirerook_answer;
 
-/* The same, and where the part stands: count octets from start on, of the page (source 0) or of the pencil file (source 1).  An empty part, that is
- * every one of count 0, has source 0 and start 0. */
+/* The same, and where the part stands: count octets from start on, of the page (source 0) or of the
+ * pencil file (source 1).  An empty part, that is every one of count 0, has source 0 and start
+ * 0. */
 typedef struct {
     uint32_t number, place;
     uint64_t count;
@@ -115,56 +126,84 @@ enum { SPIREROOK_FROM_PAGE = 0, SPIREROOK_FROM_PENCIL = 1 };
 /* ---- Calls ---- */
 
 /* Reads a page into the sheet: three records a stripe; count tells how many records.
- * Lent: the page, for reading; room for the sheet, for writing (SPIREROOK_PAGE_SHEET_OCTETS are enough for any page).
+ * Lent: the page, for reading; room for the sheet, for writing (SPIREROOK_PAGE_SHEET_OCTETS are
+ * enough for any page).
  * Numbers, in this order:
- *   TooLong, place 0: the page has more than SPIREROOK_PAGE_OCTETS octets; nothing of it is looked at.
- *   Short, BadMark, BadLength, BadVersion, BadMode, BadCoder, BadRes, BadWidth, BadType, BadStripe, BadLayer, Trailing: the first fault in the order of
- *     the page's octets.  The place is the first octet of the field at fault, from 0; it equals the page's length where a field is due at its end.
+ *   TooLong, place 0: the page has more than SPIREROOK_PAGE_OCTETS octets; nothing of it is looked
+ *     at.
+ *   Short, BadMark, BadLength, BadVersion, BadMode, BadCoder, BadRes, BadWidth, BadType, BadStripe,
+ *     BadLayer, Trailing: the first fault in the order of the page's octets.  The place is the
+ *     first octet of the field at fault, from 0; it equals the page's length where a field is due
+ *     at its end.
  *   NoRoom, place 0: 28 octets a record do not fit.
  *   Done.  Octets behind the records stay as they were. */
-spirerook_answer spirerook_read(const uint8_t *page, size_t page_len, uint8_t *sheet, size_t sheet_len);
+spirerook_answer spirerook_read(const uint8_t *page, size_t page_len, uint8_t *sheet,
+                                size_t sheet_len);
 
-/* Writes the page of a sheet; count tells how many octets: 26, 39 a stripe, and the coded data.  There are no optional segments and no padding.
- * Lent: the sheet and the data that the starts of its records point into, both for reading; room for the page, for writing.  Records may share data.
+/* Writes the page of a sheet; count tells how many octets: 26, 39 a stripe, and the coded data.
+ * There are no optional segments and no padding.
+ * Lent: the sheet and the data that the starts of its records point into, both for reading; room
+ * for the page, for writing.  Records may share data.
  * Numbers, in this order; places are records, from 0:
- *   BadSheet: the first record that breaks a rule; it equals the number of whole records where one more was due.
+ *   BadSheet: the first record that breaks a rule; it equals the number of whole records where one
+ *     more was due.
  *   BadMode: the first record of a layer above 3.
- *   Short or Mismatch, record by record: coded data passes the end of the data (Short, judged first); or an image's data is not just the JPEG layer
- *     that its record tells, or a mask's coder is not that of an earlier coded mask (Mismatch).
+ *   Short or Mismatch, record by record: coded data passes the end of the data (Short, judged
+ *     first); or an image's data is not just the JPEG layer that its record tells, or a mask's
+ *     coder is not that of an earlier coded mask (Mismatch).
  *   TooLong, place 0: the page would have more than SPIREROOK_PAGE_OCTETS octets.
  *   NoRoom, place 0: the page does not fit.
  *   Done.  Octets behind the page stay as they were.
- * Time: a walk over the data of each coded image record, 128 of them at most, and one copy of the page.  Records that share long data are walked
- * each, even where the page turns out too long. */
-spirerook_answer spirerook_write(const uint8_t *sheet, size_t sheet_len, const uint8_t *data, size_t data_len, uint8_t *page, size_t page_len);
+ * Time: a walk over the data of each coded image record, 128 of them at most, and one copy of the
+ * page.  Records that share long data are walked each, even where the page turns out too long. */
+spirerook_answer spirerook_write(const uint8_t *sheet, size_t sheet_len, const uint8_t *data,
+                                 size_t data_len, uint8_t *page, size_t page_len);
 
-/* Composes a line of a stripe, both counted from 0, out of decoded layers; count tells how many octets: four a pixel of the page's width, left to right.
- * A pixel is its colour and 1 where it is seen, or 0 0 0 0 where it is unseen: it is seen exactly if it has one colour whatever the layers hold that
- * were not read.
+/* Composes a line of a stripe, both counted from 0, out of decoded layers; count tells how many
+ * octets: four a pixel of the page's width, left to right.
+ * A pixel is its colour and 1 where it is seen, or 0 0 0 0 where it is unseen: it is seen exactly
+ * if it has one colour whatever the layers hold that were not read.
  * Lent: the sheet, the plane list and the samples, for reading; room for the line, for writing.
- * The plane list tells which coded layers of the stripe were read: entries of five octets, the layer and four of its start in the samples, layers
- * rising.  From its start a layer has its own width by height, row by row, one octet a sample of a mask (0 is 0, all else 1) and three of an image
- * layer.  Layers may share samples; coded layers that are not listed are unread.
+ * The plane list tells which coded layers of the stripe were read: entries of five octets, the
+ * layer and four of its start in the samples, layers rising.  From its start a layer has its own
+ * width by height, row by row, one octet a sample of a mask (0 is 0, all else 1) and three of an
+ * image layer.  Layers may share samples; coded layers that are not listed are unread.
  * Numbers, in this order:
- *   BadSheet: the place is the first record that breaks a rule, from 0, or the number of whole records where one more was due.
+ *   BadSheet: the place is the first record that breaks a rule, from 0, or the number of whole
+ *     records where one more was due.
  *   BadLine, place 0: the sheet has no such stripe, or the stripe no such line.
- *   BadPlane: the place is the first entry, from 0, whose layer the stripe does not have or has uncoded, or is not above that of the entry before, or
- *     runs past the samples; or the number of whole entries, where a part of one stands behind them.
+ *   BadPlane: the place is the first entry, from 0, whose layer the stripe does not have or has
+ *     uncoded, or is not above that of the entry before, or runs past the samples; or the number of
+ *     whole entries, where a part of one stands behind them.
  *   NoRoom, place 0: four octets a pixel do not fit.
  *   Done.  Octets behind the line stay as they were. */
-spirerook_answer spirerook_line(const uint8_t *sheet, size_t sheet_len, const uint8_t *planes, size_t planes_len, const uint8_t *samples,
-                                size_t samples_len, uint32_t stripe, uint32_t line, uint8_t *out, size_t out_len);
+spirerook_answer spirerook_line(const uint8_t *sheet, size_t sheet_len, const uint8_t *planes,
+                                size_t planes_len, const uint8_t *samples, size_t samples_len,
+                                uint32_t stripe, uint32_t line, uint8_t *out, size_t out_len);
 
-/* Tells where the coded data of a layer stands, and copies none of it: layers 1 to 3 have it in the page, higher ones in the pencil file.  Stripes are
- * counted from 0, layers from 1.  The part of a layer that is not coded is empty, and so is that of a refusal.
- * Lent: the sheet, the page and the pencil file, all for reading.  Nothing is written, and of the page and the pencil file only the lengths matter.
+/* Tells where the coded data of a layer stands, and copies none of it: layers 1 to 3 have it in the
+ * page, higher ones in the pencil file.  Stripes are counted from 0, layers from 1.  The part of a
+ * layer that is not coded is empty, and so is that of a refusal.
+ * Lent: the sheet, the page and the pencil file, all for reading.  Nothing is written, and of the
+ * page and the pencil file only the lengths matter.
  * Numbers, in this order:
- *   BadSheet: the place is the first record that breaks a rule, from 0, or the number of whole records where one more was due.
+ *   BadSheet: the place is the first record that breaks a rule, from 0, or the number of whole
+ *     records where one more was due.
  *   BadLine, place 0: the sheet has no such stripe, or the stripe no such layer.
  *   Short: the layer's data passes the end of its source; the place is the layer's record, from 0.
  *   Done: the part lies within its source. */
-spirerook_part spirerook_data(const uint8_t *sheet, size_t sheet_len, const uint8_t *page, size_t page_len, const uint8_t *pencil, size_t pencil_len,
+spirerook_part spirerook_data(const uint8_t *sheet, size_t sheet_len, const uint8_t *page,
+                              size_t page_len, const uint8_t *pencil, size_t pencil_len,
                               uint32_t stripe, uint32_t layer);
+
+/* Judges a sheet; count tells how many records it has.  Every call that is lent a sheet judges it
+ * first, by the same rules: this one does nothing else, for those who get or make one.
+ * Lent: the sheet, for reading.  Nothing is written.
+ * Numbers:
+ *   BadSheet: the place is the first record that breaks a rule, from 0, or the number of whole
+ *     records where one more was due.  A sheet of no octets is refused, at 0.
+ *   Done. */
+spirerook_answer spirerook_judge(const uint8_t *sheet, size_t sheet_len);
 
 /* ---- Records ---- */
 
@@ -185,19 +224,23 @@ static inline const uint8_t *spirerook_record_at(const uint8_t *sheet, size_t k)
     return sheet + k * SPIREROOK_RECORD_OCTETS;
 }
 
+/* clang-format off */
 static inline uint32_t spirerook_record_stripe(const uint8_t *record) { return spirerook_get2(record); }
 
-/* 1 the background, 2 the mask, 3 the foreground; above, even ones are masks and odd ones images. */
+/* 1 the background, 2 the mask, 3 the foreground; above, even ones are masks and odd ones
+ * images. */
 static inline uint32_t spirerook_record_layer(const uint8_t *record) { return record[2]; }
 
-/* Of a mask 1 (MH), 2 (MR), 4 (MMR) or 8 (JBIG as T.85 has it), of an image 1 (JPEG); 0 where the layer is not coded. */
+/* Of a mask 1 (MH), 2 (MR), 4 (MMR) or 8 (JBIG as T.85 has it), of an image 1 (JPEG); 0 where the
+ * layer is not coded. */
 static inline uint32_t spirerook_record_coder(const uint8_t *record) { return record[3]; }
 
 /* Offsets in pixels of the page, from the stripe's upper left corner. */
 static inline uint32_t spirerook_record_x(const uint8_t *record) { return spirerook_get2(record + 4); }
 static inline uint32_t spirerook_record_y(const uint8_t *record) { return spirerook_get2(record + 6); }
 
-/* In the layer's own samples.  Those of layer 2 are the page's width and the stripe's height, coded or not. */
+/* In the layer's own samples.  Those of layer 2 are the page's width and the stripe's height, coded
+ * or not. */
 static inline uint32_t spirerook_record_width(const uint8_t *record) { return spirerook_get2(record + 8); }
 static inline uint32_t spirerook_record_height(const uint8_t *record) { return spirerook_get2(record + 10); }
 
@@ -217,7 +260,10 @@ static inline int spirerook_record_coded(const uint8_t *record) { return spirero
 /* 1 where the layer is a mask, 0 where it is an image. */
 static inline int spirerook_record_mask(const uint8_t *record) { return record[2] % 2 == 0; }
 
-/* The octets that the layer's decoded samples take: one a sample of a mask, three of an image; 0 where it is not coded. */
+/* clang-format on */
+
+/* The octets that the layer's decoded samples take: one a sample of a mask, three of an image; 0
+ * where it is not coded. */
 static inline uint64_t spirerook_record_samples(const uint8_t *record)
 {
     uint64_t count = (uint64_t)spirerook_record_width(record) * spirerook_record_height(record);
@@ -238,7 +284,8 @@ static inline void spirerook_put4(uint8_t *octets, uint32_t value)
     spirerook_put2(octets + 2, value & 65535);
 }
 
-/* An entry of the plane list: SPIREROOK_PLANE_OCTETS octets.  Layers rise from entry to entry, and are at most SPIREROOK_LAYERS. */
+/* An entry of the plane list: SPIREROOK_PLANE_OCTETS octets.  Layers rise from entry to entry, and
+ * are at most SPIREROOK_LAYERS. */
 static inline void spirerook_put_plane(uint8_t *entry, uint32_t layer, uint32_t start)
 {
     entry[0] = (uint8_t)(layer & 255);
@@ -252,7 +299,8 @@ typedef struct {
     uint32_t start, length;
 } spirerook_record;
 
-/* A record: SPIREROOK_RECORD_OCTETS octets.  Whether it keeps the rules of a sheet, the calls say. */
+/* A record: SPIREROOK_RECORD_OCTETS octets.  Whether it keeps the rules of a sheet, spirerook_judge
+ * says. */
 static inline void spirerook_put_record(uint8_t *record, const spirerook_record *fields)
 {
     spirerook_put2(record, fields->stripe);

@@ -1,4 +1,4 @@
-"""Cases for all four calls: good ones, damaged ones, random octets, and every length of small ones.
+"""Cases for all calls: good ones, damaged ones, random octets, and every length of small ones.
 
 A case is what a driver of the call is given (tests/calls.py). The good ones and
 most of the damage come from the generators that each call has for itself; here
@@ -45,7 +45,14 @@ def good_data(rng):
     return data_random.Work(rng).call()
 
 
-GOOD = {"read": good_read, "write": good_write, "line": good_line, "data": good_data}
+def good_judge(rng):
+    """Of few stripes most often: the reference takes its time over many records."""
+    stripes = rng.choice([1, 1, 2, 2, 3, 4, 6]) if rng.random() < 0.995 else rng.choice([63, 64])
+    return (bytes(sheet_random.good_sheet(rng, stripes, None if stripes < 9 else 3)),)
+
+
+GOOD = {"read": good_read, "write": good_write, "line": good_line, "data": good_data,
+        "judge": good_judge}
 
 
 # Damaged cases
@@ -129,8 +136,12 @@ def damaged_data(rng):
     return data_random.damaged_call(rng, work)
 
 
+def damaged_judge(rng):
+    return (bytes(sheet_random.damaged(rng, bytearray(good_judge(rng)[0]))),)
+
+
 DAMAGED = {"read": damaged_read, "write": damaged_write, "line": damaged_line,
-           "data": damaged_data}
+           "data": damaged_data, "judge": damaged_judge}
 
 
 # Changes without regard to meaning

@@ -1,4 +1,4 @@
-"""The four calls in one form: a case is what a driver is given, an answer its line and octets."""
+"""The calls in one form: a case is what a driver is given, an answer its line and octets."""
 
 import counts
 import page_making
@@ -17,10 +17,10 @@ def read_answers(program, cases):
 
 
 class Call:
-    """A call: its driver, how a case is told to it, and where what is in a case."""
+    """A call: how its driver answers cases, and where what is in a case."""
 
-    def __init__(self, name, driver, many, octets, room, sheet):
-        self.name, self.driver, self.many = name, driver, many
+    def __init__(self, name, octets, room, sheet, many=reference_run.call_many):
+        self.name, self.many = name, many
         self.octets = octets    # the places of octets in a case
         self.room = room        # the place of the room, or None
         self.sheet = sheet      # the place of the sheet, or None
@@ -50,16 +50,8 @@ class Call:
 
 
 ALL = {call.name: call for call in (
-    Call("read", reference_run.READ_DRIVER, read_answers, (0,), 1, None),
-    Call("write", reference_run.WRITE_DRIVER, reference_run.write_many, (0, 1), 2, 0),
-    Call("line", reference_run.LINE_DRIVER, reference_run.line_many, (0, 1, 2), 3, 0),
-    Call("data", reference_run.DATA_DRIVER, reference_run.data_many, (0, 1, 2), None, 0))}
-
-
-def reference_parts(call):
-    """The files of a call's driver over the reference."""
-    sheet = () if "sheet.c" in call.driver else ("sheet.c",)
-    return reference_run.CALLS + sheet + call.driver
+    Call("read", (0,), 1, None, read_answers), Call("write", (0, 1), 2, 0),
+    Call("line", (0, 1, 2), 3, 0), Call("data", (0, 1, 2), None, 0), Call("judge", (0,), None, 0))}
 
 
 class Both:
@@ -68,8 +60,8 @@ class Both:
     def __init__(self, tally, call, name=None, flags=("-O2",), library=None, counted=None):
         self.tally, self.call = tally, call
         self.reference = reference_run.build(name or "reference_%s_plain" % call.name,
-                                             flags=flags, parts=reference_parts(call))
-        self.library = library or reference_run.build_library_driver(tally, call.name, call.driver)
+                                             flags=flags, parts=reference_run.parts_of(call.name))
+        self.library = library or reference_run.build_library_driver(tally, call.name)
         self.counts = counted or counts.Counts()
         self.wrong = 0
 

@@ -20,7 +20,7 @@ NAMES = ("Done", "Short", "BadMark", "BadLength", "BadVersion", "BadMode", "BadC
          "BadPlane", "Mismatch", "BadLine", "TooLong")
 # what each call can give, by the paper's orders of refusals
 GIVEN = {"read": (*range(14), 18), "write": (0, 1, 5, 13, 14, 16, 18),
-         "line": (0, 13, 14, 15, 17), "data": (0, 1, 14, 17)}
+         "line": (0, 13, 14, 15, 17), "data": (0, 1, 14, 17), "judge": (0, 14)}
 LEAST_DONE, LEAST = 1000, 100
 
 
@@ -29,7 +29,7 @@ def number_of(answer):
     words = answer.split()
     if words[:1] == ["refused"]:
         return int(words[1])
-    return 0 if words and (words[0] == "done" or words[0].isdigit()) else -1
+    return 0 if words and (words[0] in ("done", "good") or words[0].isdigit()) else -1
 
 
 def stamp():

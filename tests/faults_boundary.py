@@ -9,6 +9,7 @@ The tables of answers find the others too; here random cases do.
 import os
 import random
 import sys
+import threading
 
 import boundary_making
 import calls
@@ -18,8 +19,8 @@ import reference_run
 
 SEED = 20
 COUNT = 1000         # good cases, and as many damaged; tests/test_boundary.py has more
-READ, WRITE, LINE, DATA = ("    return same;", "    return told;", "    return shown;",
-                           "    return handed;")
+READ, WRITE, LINE, DATA, JUDGE = ("    return same;", "    return told;", "    return shown;",
+                                  "    return handed;", "    return judged;")
 
 
 def before(answer, code):
@@ -101,7 +102,18 @@ FAULTS = [
     ("data", "layer 3 in the pencil file", "data.c", "r.layer <= 3", "r.layer < 3"),
     ("data", "a part may not end with its source", "data.c", "r.length > octets",
      "r.length >= octets"),
+    *answered("judge", JUDGE),
+    ("judge", "the sheet changed", *before(
+        JUDGE, "if (sheet_len) ((uint8_t *)sheet)[sheet_len - 1] ^= 1;")),
+    ("judge", "an octet behind the sheet read", *before(
+        JUDGE, "*(volatile const uint8_t *)(sheet + sheet_len);")),
+    ("judge", "null taken", *before(
+        JUDGE, "if (sheet == NULL) judged.number = 0;")),
+    ("judge", "octets counted", *before(JUDGE, "if (judged.count) judged.count = sheet_len;")),
+    ("judge", "stripes counted", "as_library.c", "verdict.place, verdict.records}",
+     "verdict.place, verdict.stripes}"),
     # the sheet's rules, through each call that is lent one
+    ("judge", "a coder that no mask has", "sheet.c", "coder == 8", "coder >= 8"),
     ("write", "a coder that no mask has", "sheet.c", "coder == 8", "coder >= 8"),
     ("line", "any coder of an image layer", "sheet.c", "!is_even(r.layer) && r.coder != 1",
      "!is_even(r.layer) && r.coder > 200"),
@@ -114,18 +126,21 @@ class Due:
     """The cases of each call and what the sound reference answers, made once."""
 
     def __init__(self):
-        self.made = {}
+        self.made, self.one = {}, threading.Lock()
 
     def of(self, call):
-        if call.name not in self.made:
-            sound = reference_run.build("reference_%s_plain" % call.name,
-                                        parts=calls.reference_parts(call))
-            batches = list(boundary_making.batches(call, random.Random(SEED), COUNT, 1))
-            if call.name == "read":
-                longest = bytes(boundary_making.LONGEST)
-                batches.append(("longest", [(longest, 84), (longest[:-1], 84)]))
-            self.made[call.name] = [(what, cases, call.answers(sound, cases))
-                                    for what, cases in batches]
+        with self.one:
+            return self.made.get(call.name) or self.make(call)
+
+    def make(self, call):
+        sound = reference_run.build("reference_%s_plain" % call.name,
+                                    parts=reference_run.parts_of(call.name))
+        batches = list(boundary_making.batches(call, random.Random(SEED), COUNT, 1))
+        if call.name == "read":
+            longest = bytes(boundary_making.LONGEST)
+            batches.append(("longest", [(longest, 84), (longest[:-1], 84)]))
+        self.made[call.name] = [(what, cases, call.answers(sound, cases))
+                                for what, cases in batches]
         return self.made[call.name]
 
 
@@ -143,18 +158,17 @@ def found_by(program, call, due):
 def main():
     tally, due = reference_run.Tally(), Due()
     kept = os.environ.get("FUZZ_CASES")     # where found cases are put, if anywhere
-    for number, (name, what, file, old, new) in enumerate(FAULTS):
-        fault = (file, "%s: %s" % (name, what), old, new)
-        folder = planting.planted(tally, "faults_boundary", number, fault)
-        if folder is None:
-            continue
-        call = calls.ALL[name]
-        program = planting.build("faults_boundary", number, folder, calls.reference_parts(call))
-        found = found_by(program, call, due)
-        planting.tell(tally, fault, found and found[0])
+
+    def first(planted, number):
+        name = FAULTS[number][0]
+        program = planted.build(reference_run.parts_of(name))
+        found = found_by(program, calls.ALL[name], due)
         if found and kept:
             fuzz.keep(name, found[1], kept)
-    print("%d faults" % len(FAULTS))
+        return found and found[0]
+
+    planting.check_all(tally, "faults_boundary", [
+        (file, "%s: %s" % (name, what), old, new) for name, what, file, old, new in FAULTS], first)
     return tally.end()
 
 

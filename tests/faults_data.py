@@ -131,7 +131,7 @@ FAULTS = [
 
 def found_by(program, cases):
     """The first call of the table whose answer or part is not the table's."""
-    answers = reference_run.data_many(program, [case.call() for case in cases])
+    answers = reference_run.call_many(program, [case.call() for case in cases])
     for case, got in zip(cases, answers):
         if got != case.due():
             return "data %s, %s" % (case.number, case.name)
@@ -139,20 +139,10 @@ def found_by(program, cases):
 
 
 def main():
-    tally = reference_run.Tally()
     cases = data_making.table()
     large = [case for case in cases if len(case.sheet) > FEW or max(case.lent) > 10 ** 6]
     groups = [[case for case in cases if case not in large], large]
-    sound = reference_run.build("reference_data_sound", parts=reference_run.DATA)
-    for group in groups:
-        tally.check(found_by(sound, group) is None, "the sound reference does not fit the table")
-    for number, fault in enumerate(FAULTS):
-        folder = planting.planted(tally, "faults_data", number, fault)
-        if folder is not None:
-            program = planting.build("faults_data", number, folder, reference_run.DATA)
-            finder = next(filter(None, (found_by(program, group) for group in groups)), None)
-            planting.tell(tally, fault, finder)
-    return tally.end()
+    return planting.check_table("data", FAULTS, groups, found_by)
 
 
 if __name__ == "__main__":

@@ -5,11 +5,10 @@ otherwise than the table does. So a rule that no line tests shows here, as a
 fault that nobody finds.
 """
 
-import os
-import shutil
 import sys
 
 import line_making
+import planting
 import reference_run
 
 MANY = 15 * 28
@@ -341,21 +340,9 @@ FAULTS = [
 ]
 
 
-def plant(number, file, text):
-    """Builds the composer with one fault and answers its path."""
-    folder = os.path.join(reference_run.ROOT, "build", "faults_line", str(number))
-    shutil.rmtree(folder, ignore_errors=True)
-    shutil.copytree(reference_run.SOURCES, folder)
-    with open(os.path.join(folder, file), "w", encoding="utf-8") as faulty:
-        faulty.write(text)
-    # no warnings here: a fault may leave a name unused
-    return reference_run.build(os.path.join("faults_line", str(number), "line"), folder,
-                               ("-O1", "-w"), reference_run.LINE)
-
-
 def found_by(program, cases):
     """The first call of the table whose answer or line is not the table's."""
-    answers = reference_run.line_many(program, [case.work() for case in cases])
+    answers = reference_run.call_many(program, [case.work() for case in cases])
     for case, got in zip(cases, answers):
         if got != (case.answer, case.due):
             return "line %s, %s" % (case.number, case.name)
@@ -363,26 +350,11 @@ def found_by(program, cases):
 
 
 def main():
-    tally = reference_run.Tally()
     cases = line_making.table()
     # those first that take the least: few records
     groups = ([case for case in cases if len(case.sheet) <= MANY],
               [case for case in cases if len(case.sheet) > MANY])
-    sound = reference_run.build("reference_line_sound", parts=reference_run.LINE)
-    for group in groups:
-        tally.check(found_by(sound, group) is None, "the sound composer does not fit the table")
-    for number, (file, what, old, new) in enumerate(FAULTS):
-        with open(os.path.join(reference_run.SOURCES, file), encoding="utf-8") as source:
-            text = source.read()
-        if text.count(old) != 1:
-            tally.check(False, "%s: its text stands %d times" % (what, text.count(old)))
-            continue
-        program = plant(number, file, text.replace(old, new))
-        finder = next(filter(None, (found_by(program, group) for group in groups)), None)
-        tally.check(finder is not None, "%s: %s: nobody found it" % (file, what))
-        if finder is not None:
-            print("%s: %s: found by %s" % (file, what, finder))
-    return tally.end()
+    return planting.check_table("line", FAULTS, groups, found_by)
 
 
 if __name__ == "__main__":

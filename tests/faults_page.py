@@ -5,11 +5,10 @@ otherwise than the table does. So a rule that no page tests shows here, as a
 fault that nobody finds.
 """
 
-import os
-import shutil
 import sys
 
 import page_making
+import planting
 import reference_run
 
 LARGE = 100000
@@ -31,7 +30,7 @@ FAULTS = [
     ("reading.c", "a length of 6 refused at once", "*length < 6", "*length <= 6"),
     ("reading.c", "the ident's third octet free", "|| reading->page[*field + 1] != 0x52 ||\n"
      "        reading->page[*field + 2] != 0x43", "|| reading->page[*field + 1] != 0x52"),
-    ("page.c", "mask coder 8 refused", " &&\n        reading->mask_coder != 8", ""),
+    ("page.c", "mask coder 8 refused", " && reading->mask_coder != 8", ""),
     ("page.c", "mask coder 3 taken", "reading->mask_coder != 2 &&",
      "reading->mask_coder != 2 && reading->mask_coder != 3 &&"),
     ("page.c", "image coder 2 taken", "reading->image_coder != 1)",
@@ -121,7 +120,7 @@ FAULTS = [
      "record->resolution = layer.resolution;", ""),
     ("jpeg.c", "FF 01 has a length", "return STANDS_ALONE;", "return WITH_LENGTH;"),
     ("jpeg.c", "FF C4 a frame", "code != 0xC4 && ", ""),
-    ("jpeg.c", "FF CC a frame", " &&\n        code != 0xCC", ""),
+    ("jpeg.c", "FF CC a frame", " && code != 0xCC", ""),
     ("jpeg.c", "FF C9 no frame", "code <= 0xCF &&", "code <= 0xCF && code != 0xC9 &&"),
     ("jpeg.c", "restart markers outside a scan", "code <= 0xD7) {\n        return FAULT;",
      "code <= 0xD7) {\n        return STANDS_ALONE;"),
@@ -140,7 +139,7 @@ FAULTS = [
     ("jpeg.c", "the tag in any segment", "walk->page[marker + 1] == 0xE1 && ", ""),
     ("jpeg.c", "a tagged segment of 11", "length >= 12", "length >= 11"),
     ("jpeg.c", "a tagged segment of exactly 12", "length >= 12", "length == 12"),
-    ("jpeg.c", "the last tagged segment counts", " && !walk->has_resolution) {", ") {"),
+    ("jpeg.c", "the last tagged segment counts", " &&\n        !walk->has_resolution) {", ") {"),
     ("jpeg.c", "300 under 400",
      "walk->main_resolution % resolution != 0", "walk->main_resolution < resolution"),
     ("jpeg.c", "two frames", "if (walk->has_frame) {", "if (false) {"),
@@ -188,18 +187,6 @@ FAULTS = [
 ]
 
 
-def plant(number, file, text):
-    """Builds the reader with one fault and answers its path."""
-    folder = os.path.join(reference_run.ROOT, "build", "faults", str(number))
-    shutil.rmtree(folder, ignore_errors=True)
-    shutil.copytree(reference_run.SOURCES, folder)
-    with open(os.path.join(folder, file), "w", encoding="utf-8") as faulty:
-        faulty.write(text)
-    # no warnings here: a fault may leave a name unused
-    return reference_run.build(os.path.join("faults", str(number), "read"), folder, ("-O1", "-w"),
-                               reference_run.READ)
-
-
 def found_by(program, cases):
     """The first page of the table whose answer is not the table's."""
     answers = reference_run.read_many(program, [(case.page, case.room) for case in cases])
@@ -210,24 +197,10 @@ def found_by(program, cases):
 
 
 def main():
-    tally = reference_run.Tally()
     cases = page_making.table()
-    small = [case for case in cases if len(case.page) <= LARGE]
-    large = [case for case in cases if len(case.page) > LARGE]
-    sound = reference_run.build("reference_read_sound", parts=reference_run.READ)
-    tally.check(found_by(sound, small) is None, "the sound reader does not fit the table")
-    for number, (file, what, old, new) in enumerate(FAULTS):
-        with open(os.path.join(reference_run.SOURCES, file), encoding="utf-8") as source:
-            text = source.read()
-        if text.count(old) != 1:
-            tally.check(False, "%s: its text stands %d times" % (what, text.count(old)))
-            continue
-        program = plant(number, file, text.replace(old, new))
-        finder = found_by(program, small) or found_by(program, large)
-        tally.check(finder is not None, "%s: %s: nobody found it" % (file, what))
-        if finder is not None:
-            print("%s: %s: found by %s" % (file, what, finder))
-    return tally.end()
+    groups = ([case for case in cases if len(case.page) <= LARGE],
+              [case for case in cases if len(case.page) > LARGE])
+    return planting.check_table("read", FAULTS, groups, found_by)
 
 
 if __name__ == "__main__":

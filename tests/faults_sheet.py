@@ -5,12 +5,11 @@ table, or else a random one, differently. So a rule that no sheet tests shows
 here, as a fault that nobody finds.
 """
 
-import concurrent.futures
-import os
 import random
-import shutil
 import sys
 
+import calls
+import planting
 import reference_run
 import sheet_making
 import sheet_random
@@ -23,7 +22,7 @@ FAULTS = [
     ("least significant octet first",
      "number * 256 + octets[at + k]", "number * 256 + octets[at + size - 1 - k]"),
     ("the stripe's first octet is not read",
-     "number_at(octets, 0, 2)", "number_at(octets, 1, 1)"),
+     "RECORD_OCTETS, 0, 2)", "RECORD_OCTETS, 1, 1)"),
     ("octet 27 is not read",
      "number_at(octets, 26, 2)", "number_at(octets, 26, 1)"),
     ("a length's top octet is not read",
@@ -88,56 +87,47 @@ FAULTS = [
 ]
 
 
-def plant(number, text, old, new):
-    """Builds the reference with one fault and answers its path."""
-    folder = os.path.join(reference_run.ROOT, "build", "faults", str(number))
-    shutil.rmtree(folder, ignore_errors=True)
-    shutil.copytree(reference_run.SOURCES, folder)
-    with open(os.path.join(folder, "sheet.c"), "w", encoding="utf-8") as faulty:
-        faulty.write(text.replace(old, new))
-    # no warnings here: a fault may leave a name unused
-    return reference_run.build(os.path.join("faults", str(number), "list"), folder, ("-O1", "-w"))
+class Sheets:
+    """The sheets, small ones of the table first, and what the sound reference says of them."""
 
+    def __init__(self):
+        rng = random.Random(SEED)
+        sheets = [("sheet %s, %s" % (case.number, case.name), case.sheet)
+                  for case in sheet_making.table()]
+        self.known = sorted(sheets, key=lambda named: len(named[1]))
+        self.random = [("random sheet %d" % k, bytes(sheet_random.damaged(
+            rng, sheet_random.good_sheet(rng)))) for k in range(RANDOM_SHEETS)]
+        judge = reference_run.build("reference_judge_sound", parts=reference_run.parts_of("judge"))
+        self.judged = {id(group): self.answers(judge, group) for group in (self.known, self.random)}
+        self.list = reference_run.build()
+        self.listed = {}
 
-def found_by(program, sheets):
-    """The name of the first sheet that tells the faulty build from the sound one."""
-    for name, sheet, sound in sheets:
-        if reference_run.run(program, sheet)[0] != sound:
-            return name
-    return None
+    @staticmethod
+    def answers(judge, sheets):
+        return calls.ALL["judge"].answers(judge, [(sheet,) for _, sheet in sheets])
 
+    def listing(self, name, sheet):
+        """Of the sound reference; asked for late, since it takes a process for each sheet."""
+        if name not in self.listed:
+            self.listed[name] = reference_run.run(self.list, sheet)[0]
+        return self.listed[name]
 
-def test_sheets(program):
-    """(name, sheet, listing of the sound build): small sheets of the table first."""
-    rng = random.Random(SEED)
-    sheets = [("sheet %s, %s" % (case.number, case.name), case.sheet)
-              for case in sheet_making.table()]
-    sheets.sort(key=lambda named: len(named[1]))
-    for k in range(RANDOM_SHEETS):
-        sheets.append(("random sheet %d" % k,
-                       bytes(sheet_random.damaged(rng, sheet_random.good_sheet(rng)))))
-    with concurrent.futures.ThreadPoolExecutor(max_workers=2) as workers:
-        listings = workers.map(lambda named: reference_run.run(program, named[1])[0], sheets)
-        return [(name, sheet, listing) for (name, sheet), listing in zip(sheets, listings)]
+    def found_by(self, planted, _):
+        """The first sheet that is judged otherwise; or else the first that is listed otherwise."""
+        judge = planted.build(reference_run.parts_of("judge"))
+        for group in (self.known, self.random):
+            for named, due, got in zip(group, self.judged[id(group)], self.answers(judge, group)):
+                if due != got:
+                    return named[0]
+        listing = planted.build(reference_run.LIST)
+        return next((name for name, sheet in self.known
+                     if reference_run.run(listing, sheet)[0] != self.listing(name, sheet)), None)
 
 
 def main():
     tally = reference_run.Tally()
-    sheets = test_sheets(reference_run.build())
-    with open(os.path.join(reference_run.SOURCES, "sheet.c"), encoding="utf-8") as source:
-        text = source.read()
-
-    def outcome(numbered):
-        number, (what, old, new) = numbered
-        if text.count(old) != 1:
-            return what, "the text of the fault stands %d times" % text.count(old), None
-        return what, "nobody found it", found_by(plant(number, text, old, new), sheets)
-
-    with concurrent.futures.ThreadPoolExecutor(max_workers=2) as workers:
-        for what, otherwise, name in workers.map(outcome, enumerate(FAULTS)):
-            tally.check(name is not None, "%s: %s" % (what, otherwise))
-            if name is not None:
-                print("%s: found by %s" % (what, name))
+    planting.check_all(tally, "faults_sheet", [("sheet.c", *fault) for fault in FAULTS],
+                       Sheets().found_by)
     return tally.end()
 
 

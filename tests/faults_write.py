@@ -5,10 +5,9 @@ otherwise than the table does. So a rule that no sheet tests shows here, as a
 fault that nobody finds.
 """
 
-import os
-import shutil
 import sys
 
+import planting
 import reference_run
 import write_making
 
@@ -104,7 +103,7 @@ FAULTS = [
     ("write.c", "the width is not looked at", "layer.width != r.width || ", ""),
     ("write.c", "the height is not looked at", "layer.height != r.height ||", ""),
     ("write.c", "the resolution is not looked at",
-     " ||\n           layer.resolution != r.resolution", ""),
+     " || layer.resolution != r.resolution", ""),
     ("write.c", "width and height swapped", "layer.width != r.width || layer.height != r.height",
      "layer.width != r.height || layer.height != r.width"),
     ("write.c", "the low octet of the width only",
@@ -253,22 +252,10 @@ FAULTS += [
 ]
 
 
-def plant(number, file, text):
-    """Builds the writer with one fault and answers its path."""
-    folder = os.path.join(reference_run.ROOT, "build", "faults_write", str(number))
-    shutil.rmtree(folder, ignore_errors=True)
-    shutil.copytree(reference_run.SOURCES, folder)
-    with open(os.path.join(folder, file), "w", encoding="utf-8") as faulty:
-        faulty.write(text)
-    # no warnings here: a fault may leave a name unused
-    return reference_run.build(os.path.join("faults_write", str(number), "write"), folder,
-                               ("-O1", "-w"), reference_run.WRITE)
-
-
 def found_by(program, cases):
     """The first sheet of the table whose answer or page is not the table's."""
-    answers = reference_run.write_many(program, [(case.sheet, case.data, case.room)
-                                                 for case in cases])
+    answers = reference_run.call_many(program, [(case.sheet, case.data, case.room)
+                                                for case in cases])
     for case, got in zip(cases, answers):
         if got != (case.answer, case.page):
             return "write %s, %s" % (case.number, case.name)
@@ -283,23 +270,7 @@ def by_effort(cases):
 
 
 def main():
-    tally = reference_run.Tally()
-    groups = by_effort(write_making.table())
-    sound = reference_run.build("reference_write_sound", parts=reference_run.WRITE)
-    for group in groups:
-        tally.check(found_by(sound, group) is None, "the sound writer does not fit the table")
-    for number, (file, what, old, new) in enumerate(FAULTS):
-        with open(os.path.join(reference_run.SOURCES, file), encoding="utf-8") as source:
-            text = source.read()
-        if text.count(old) != 1:
-            tally.check(False, "%s: its text stands %d times" % (what, text.count(old)))
-            continue
-        program = plant(number, file, text.replace(old, new))
-        finder = next(filter(None, (found_by(program, group) for group in groups)), None)
-        tally.check(finder is not None, "%s: %s: nobody found it" % (file, what))
-        if finder is not None:
-            print("%s: %s: found by %s" % (file, what, finder))
-    return tally.end()
+    return planting.check_table("write", FAULTS, by_effort(write_making.table()), found_by)
 
 
 if __name__ == "__main__":

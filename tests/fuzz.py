@@ -1,8 +1,8 @@
-"""A longer run of the library beside the reference: good cases of all four calls, changed without
+"""A longer run of the library beside the reference: good cases of all calls, changed without
 regard to what they mean, for FUZZ_SECONDS (60 where nothing is said).
 
 What differs is cut down while it still differs, and kept in tests/cases, where
-`make test` finds it. FUZZ_CALLS names the calls that are tried, `read write line data`
+`make test` finds it. FUZZ_CALLS names the calls that are tried, all of them
 where nothing is said; SEED makes a run again; LIBRARY names another archive than
 build/libspirerook.a, FUZZ_CASES another folder than tests/cases.
 """
@@ -22,10 +22,6 @@ BATCH = 150
 POOL = 60            # good cases that changes begin with, renewed piece by piece
 KEPT = 10            # findings of one run
 TRIES = 300          # shorter cases tried of a finding
-WORDS = {"read": lambda page, room: reference_run.numbers(len(page), room) + page,
-         "write": lambda sheet, data, room:
-         reference_run.numbers(len(sheet), len(data), room) + sheet + data,
-         "line": reference_run.line_words, "data": reference_run.data_words}
 
 
 def setting(name, default):
@@ -99,7 +95,7 @@ class Fuzz:
 
 def keep(name, case, folder):
     """Writes a case where `make test` finds it; answers its path."""
-    octets = WORDS[name](*case)
+    octets = reference_run.words(*case)
     os.makedirs(folder, exist_ok=True)
     path = os.path.join(folder, "%s-%s.case" % (name, hashlib.sha256(octets).hexdigest()[:12]))
     with open(path, "wb") as file:

@@ -14,18 +14,26 @@ DRIVER = os.path.join(ROOT, "tests", "driver")
 WARNINGS = ["-std=c11", "-Wall", "-Wextra", "-Wpedantic", "-Werror"]
 SECONDS = 20
 LIST = ("sheet.c", "console.c", "list.c")
-READ_DRIVER = ("sheet.c", "console.c", os.path.join(DRIVER, "lent.c"),
-               os.path.join(DRIVER, "read.c"))
-WRITE_DRIVER = READ_DRIVER[:-1] + (os.path.join(DRIVER, "write.c"),)
-LINE_DRIVER = READ_DRIVER[:-1] + (os.path.join(DRIVER, "line.c"),)
-DATA_DRIVER = ("console.c", os.path.join(DRIVER, "lent.c"), os.path.join(DRIVER, "data.c"))
-FAR_DRIVER = ("sheet.c", "console.c", os.path.join(DRIVER, "line_far.c"))
-CALLS = ("page.c", "reading.c", "stripe.c", "jpeg.c", "write.c", "line.c", "data.c",
+CALLS = ("page.c", "reading.c", "stripe.c", "jpeg.c", "write.c", "line.c", "data.c", "sheet.c",
          "as_library.c")
-READ = CALLS + READ_DRIVER
-WRITE = CALLS + WRITE_DRIVER
-LINE = CALLS + LINE_DRIVER
-DATA = CALLS + ("sheet.c",) + DATA_DRIVER
+
+
+def in_driver(*files):
+    return tuple(os.path.join(DRIVER, file) for file in files)
+
+
+FAR_DRIVER = ("console.c", *in_driver("line_far.c"))
+
+
+def driver_of(name):
+    """The files of the driver of a call, as it stands over the library."""
+    judge = ("sheet.c",) if name == "read" else ()      # it judges the sheets that are read
+    return (*judge, "console.c", *in_driver("lent.c", "drive.c", name + ".c"))
+
+
+def parts_of(name):
+    """The files of the driver of a call and of the reference."""
+    return CALLS + tuple(file for file in driver_of(name) if file not in CALLS)
 
 
 def build(name="reference_list", sources=SOURCES, flags=("-O2",), parts=LIST):
@@ -50,7 +58,7 @@ def build_archive(name, sources=SOURCES, flags=("-O2",)):
     folder = os.path.join(ROOT, "build", name + ".objects")
     os.makedirs(folder, exist_ok=True)
     objects = []
-    for file in CALLS + ("sheet.c",):
+    for file in CALLS:
         objects.append(os.path.join(folder, file[:-2] + ".o"))
         subprocess.run(["cc", *WARNINGS, *flags, "-I", sources, "-I", HEADERS, "-c",
                         os.path.join(sources, file), "-o", objects[-1]], check=True)
@@ -81,8 +89,8 @@ def exported(path):
             if len(words) == 3 and words[1] in "TtWi"}
 
 
-def build_library_driver(tally, name="read", driver=READ_DRIVER):
-    """The driver of a call over the library, or None.
+def build_library_driver(tally, name="read", driver=None):
+    """The driver of a call over the library, or None; `driver` names other files than its own.
 
     Only while crates.txt lists no crate of the library may its archive be
     missing: then the tests run on the reference alone, and say so.
@@ -97,7 +105,7 @@ def build_library_driver(tally, name="read", driver=READ_DRIVER):
     if call not in exported(path):
         tally.check(False, "%s exports no %s" % (os.path.relpath(path, ROOT), call))
         return None
-    return build("library_" + name, parts=driver + (path,))
+    return build("library_" + name, parts=(driver or driver_of(name)) + (path,))
 
 
 def ended(program, octets, words):
@@ -123,15 +131,25 @@ def run(program, sheet, *words):
     return printed.decode("ascii", "replace"), told.decode("ascii", "replace")
 
 
+def numbers(*values):
+    """Numbers for a driver, four octets each."""
+    return b"".join(value.to_bytes(4, "big") for value in values)
+
+
+def words(*case):
+    """A call as its driver reads it: of each part of a case its length, or the number that it is,
+    and the octets of all parts."""
+    return numbers(*(len(part) if isinstance(part, bytes) else part for part in case)) + b"".join(
+        part for part in case if isinstance(part, bytes))
+
+
 def read_many(program, pages):
     """What the driver of a reader prints for each (page, room), in one run of it.
 
     A reader that does not get to the end gives an answer that tells so to the
     page where it stopped, and another to those behind it: no test expects them.
     """
-    words = b"".join(len(page).to_bytes(4, "big") + room.to_bytes(4, "big") + page
-                     for page, room in pages)
-    printed, told, wrong = ended(program, words, ["many"])
+    printed, told, wrong = ended(program, b"".join(words(*case) for case in pages), ["many"])
     *answers, rest = printed.decode("ascii", "replace").split(".\n")
     if len(answers) < len(pages):
         why = wrong or rest[-200:] + told.decode("ascii", "replace")[:200]
@@ -139,12 +157,12 @@ def read_many(program, pages):
     return answers + ["not read\n"] * (len(pages) - len(answers))
 
 
-def answers_many(program, words, count):
-    """What the driver of a writer or composer tells, in one run of it, to each of
-    `count` cases: the answer's line, and the octets behind it."""
-    printed, told, wrong = ended(program, words, ["many"])
+def call_many(program, cases):
+    """What the driver of any other call tells to each of these cases, in one run of it: the
+    answer's line, and the octets behind it."""
+    printed, told, wrong = ended(program, b"".join(words(*case) for case in cases), ["many"])
     answers, at = [], 0
-    while len(answers) < count:
+    while len(answers) < len(cases):
         end = printed.find(b"\n", at)
         line = printed[at:end].decode("ascii", "replace") if end >= 0 else ""
         size = int(line.split()[1]) if line.startswith("done ") else 0
@@ -154,42 +172,7 @@ def answers_many(program, words, count):
             break
         answers.append((line, printed[end + 1:end + 1 + size]))
         at = end + 3 + size
-    return answers + [("not written", b"")] * (count - len(answers))
-
-
-def numbers(*values):
-    """Numbers for a driver, four octets each."""
-    return b"".join(value.to_bytes(4, "big") for value in values)
-
-
-def write_many(program, cases):
-    """The answer and the page to each (sheet, data, room)."""
-    words = b"".join(numbers(len(sheet), len(data), room) + sheet + data
-                     for sheet, data, room in cases)
-    return answers_many(program, words, len(cases))
-
-
-def line_words(sheet, planes, samples, room, stripe, line):
-    """A call as the driver of a composer reads it."""
-    return (numbers(len(sheet), len(planes), len(samples), room, stripe, line)
-            + sheet + planes + samples)
-
-
-def line_many(program, cases):
-    """The answer and the line to each (sheet, planes, samples, room, stripe, line)."""
-    words = b"".join(line_words(*case) for case in cases)
-    return answers_many(program, words, len(cases))
-
-
-def data_words(sheet, page, pencil, stripe, layer):
-    """A call as the driver of coded data reads it."""
-    return (numbers(len(sheet), len(page), len(pencil), stripe, layer) + sheet + page + pencil)
-
-
-def data_many(program, cases):
-    """The answer and the part to each (sheet, page, pencil, stripe, layer)."""
-    words = b"".join(data_words(*case) for case in cases)
-    return answers_many(program, words, len(cases))
+    return answers + [("not answered", b"")] * (len(cases) - len(answers))
 
 
 def answer(listing):

@@ -1,4 +1,4 @@
-"""Holds the library to the reference over all four calls at once: good, damaged, changed and
+"""Holds the library to the reference over all calls at once: good, damaged, changed and
 random cases, every length of small ones, and those that were found before (tests/cases).
 
 The drivers look at every octet that is lent: what the answer does not own stays,

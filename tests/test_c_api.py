@@ -17,7 +17,7 @@ PARTED = "printf '\\f%d\\f' $?\n"
 KINDS = {"read": {**dict.fromkeys(range(1, 13), "octet"), 13: "0", 18: "0"},
          "write": {1: "record", 5: "record", 14: "record", 16: "record", 13: "0", 18: "0"},
          "line": {14: "record", 17: "0", 15: "entry", 13: "0"},
-         "data": {14: "record", 17: "0", 1: "record"}}
+         "data": {14: "record", 17: "0", 1: "record"}, "judge": {14: "record"}}
 
 
 def blocks(text, kind):

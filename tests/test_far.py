@@ -1,4 +1,4 @@
-"""Lengths beyond 2^32, lent to each of the four calls, where the machine allows: a length that is
+"""Lengths beyond 2^32, lent to each of the calls, where the machine allows: a length that is
 cut to 32 bits shows in the answer.
 
 What is expected is worked out from how each call is put together, and asked of
@@ -17,7 +17,7 @@ from page_making import MASK, big, start, stripe
 TOP = 2 ** 32
 DRIVER = ("console.c", os.path.join(reference_run.DRIVER, "far.c"))
 PAGE = start() + stripe() + MASK + b"\xff\xd9\xff\xd9"
-READ, WRITE, LINE, DATA = range(4)
+READ, WRITE, LINE, DATA, JUDGE = range(5)
 
 
 def words(which, parts, room=0, numbers=(0, 0), shown=0):
@@ -93,8 +93,15 @@ def data_calls():
                                                    numbers=(0, 2)), "1 1 0 0 0 "
 
 
+def judge_calls():
+    sheet = bytes(data_making.sheet_of("6x2x5 2"))
+    yield "a good sheet", words(JUDGE, [sheet]), "0 0 5 0 0 "
+    for size in (TOP, TOP + 1, TOP + 140):
+        yield "a sheet of %d octets" % size, words(JUDGE, [(sheet, size)]), "14 5 0 0 0 "
+
+
 def check(tally, told, program):
-    works = [*read_calls(), *write_calls(), *line_calls(), *data_calls()]
+    works = [*read_calls(), *write_calls(), *line_calls(), *data_calls(), *judge_calls()]
     printed, wrong, signal = reference_run.ended(program, b"".join(each[1] for each in works),
                                                  ["many"])
     lines = printed.decode("ascii", "replace").split("\n")[:-1]
@@ -110,7 +117,7 @@ def check(tally, told, program):
 def main():
     tally = reference_run.Tally()
     check(tally, "the reference", reference_run.build(
-        "reference_far", parts=reference_run.CALLS + ("sheet.c",) + DRIVER))
+        "reference_far", parts=reference_run.CALLS + DRIVER))
     if os.path.exists(reference_run.archive()):
         check(tally, "the library", reference_run.build(
             "library_far", parts=DRIVER + (reference_run.archive(),)))

@@ -133,7 +133,7 @@ def main():
              if len(page) != LONGEST + (lines == "refused 18 0\n")]
     tally.check(not wrong, "pages of another size: %s" % wrong)
     check_reader(tally, "the reference",
-                 reference_run.build("reference_read_plain", parts=reference_run.READ), pages)
+                 reference_run.build("reference_read_plain", parts=reference_run.parts_of("read")), pages)
     library = reference_run.build_library_driver(tally)
     if library is not None:
         check_reader(tally, "the library", library, pages)

@@ -153,7 +153,7 @@ def printed(program, stack, words):
 def check_composer(tally, told, program, far, calls):
     stack = test_limits.least_stack(program) + STACK
     for name, call, (answer, line) in calls:
-        got = printed(program, stack, reference_run.line_words(*call))
+        got = printed(program, stack, reference_run.words(*call))
         tally.check(got == answer.encode() + b"\n" + line + b".\n",
                     "%s: %s: %s is due, but it says %s" % (told, name, answer, got[:40]))
     without = 0
@@ -175,9 +175,9 @@ def main():
     far = reference_run.build("reference_line_far",
                               parts=reference_run.CALLS + reference_run.FAR_DRIVER)
     check_composer(tally, "the reference",
-                   reference_run.build("reference_line_plain", parts=reference_run.LINE), far,
+                   reference_run.build("reference_line_plain", parts=reference_run.parts_of("line")), far,
                    calls)
-    library = reference_run.build_library_driver(tally, "line", reference_run.LINE_DRIVER)
+    library = reference_run.build_library_driver(tally, "line")
     if library is not None:
         far = reference_run.build_library_driver(tally, "line_far", reference_run.FAR_DRIVER)
         check_composer(tally, "the library", library, far, calls)

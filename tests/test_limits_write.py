@@ -10,7 +10,7 @@ import sys
 
 import reference_run
 import test_limits
-from page_making import MASK, big, start, stripe
+from page_making import MASK, start, stripe
 from test_limits import END, LONGEST, SCAN, in_stack
 from write_random import page_of, rows_of, sheet_of
 
@@ -73,7 +73,7 @@ def check_writer(tally, told, program):
     stack = test_limits.least_stack(program) + STACK
     count = 0
     for name, sheet, data, room, due in works():
-        words = big(len(sheet), 4) + big(len(data), 4) + big(room, 4) + sheet + data
+        words = reference_run.words(sheet, data, room)
         try:
             got = in_stack(program, stack, words)
         except subprocess.TimeoutExpired:
@@ -87,8 +87,8 @@ def check_writer(tally, told, program):
 def main():
     tally = reference_run.Tally()
     check_writer(tally, "the reference",
-                 reference_run.build("reference_write_plain", parts=reference_run.WRITE))
-    library = reference_run.build_library_driver(tally, "write", reference_run.WRITE_DRIVER)
+                 reference_run.build("reference_write_plain", parts=reference_run.parts_of("write")))
+    library = reference_run.build_library_driver(tally, "write")
     if library is not None:
         check_writer(tally, "the library", library)
     return tally.end()

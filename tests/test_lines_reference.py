@@ -40,7 +40,7 @@ def composed(program, calls):
     """(answer, line) of each call"""
     answers = [None] * len(calls)
     for batch in batches(calls):
-        for k, got in zip(batch, reference_run.line_many(program, [calls[k] for k in batch])):
+        for k, got in zip(batch, reference_run.call_many(program, [calls[k] for k in batch])):
             answers[k] = got
     return answers
 
@@ -50,7 +50,7 @@ class Composer:
 
     def __init__(self, tally, library, name, flags):
         self.tally, self.library = tally, library
-        self.reference = reference_run.build(name, flags=flags, parts=reference_run.LINE)
+        self.reference = reference_run.build(name, flags=flags, parts=reference_run.parts_of("line"))
         self.compared, self.counts = 0, counts.Counts()
 
     def answers(self, told, calls):
@@ -203,7 +203,7 @@ def main():
     print("SEED=%d" % seed)
     rng = random.Random(seed)
     tally = reference_run.Tally()
-    library = reference_run.build_library_driver(tally, "line", reference_run.LINE_DRIVER)
+    library = reference_run.build_library_driver(tally, "line")
     # the reference tries thousands of contents, and takes its time where each step is watched
     watched = Composer(tally, library, "reference_line", SANITIZED)
     plain = Composer(tally, library, "reference_line_plain", ("-O2",))

@@ -288,7 +288,7 @@ def check_pencil(tally, folder, reader, finder):
                 "%d octets" % (len(page), len(sheet), len(pencil)), "pencil: it tells %s" % told)
     places = [(s, layer) for s, count in enumerate(pairs) for layer in range(1, 4 + 2 * count)]
     tally.check(len(sheet) == 28 * len(places), "pencil: a sheet of %d octets" % len(sheet))
-    answers = reference_run.data_many(finder, [(sheet, page, pencil, *at) for at in places])
+    answers = reference_run.call_many(finder, [(sheet, page, pencil, *at) for at in places])
     sizes, at = layer_sizes(told), 0
     check_pencil_records(tally, masks, sheet, listing(reader, page), sizes)
     for place, (line, part) in zip(places, answers):
@@ -326,8 +326,8 @@ def main():
     subprocess.run(["bash", os.path.join(reference_run.ROOT, "tests", "need"), *make_kit.NEEDS],
                    check=True)
     if is_built(tally):
-        reader = reference_run.build("make_reader", parts=reference_run.READ)
-        finder = reference_run.build("make_finder", parts=reference_run.DATA)
+        reader = reference_run.build("make_reader", parts=reference_run.parts_of("read"))
+        finder = reference_run.build("make_finder", parts=reference_run.parts_of("data"))
         with tempfile.TemporaryDirectory() as folder:
             check_masks(tally, reader, folder, random.Random(seed))
             check_images(tally, reader, folder)

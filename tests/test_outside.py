@@ -149,7 +149,7 @@ def main():
     for layer in layers.values():
         tally.check(layer.is_told(), "%s is not what its line tells" % layer.name)
     readers = {"reference": reference_run.build("reference_read_plain",
-                                                parts=reference_run.READ)}
+                                                parts=reference_run.parts_of("read"))}
     library = reference_run.build_library_driver(tally)
     if library is not None:
         readers["library"] = library

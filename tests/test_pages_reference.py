@@ -34,7 +34,7 @@ class Reader:
     def __init__(self, tally):
         self.tally = tally
         self.reference = reference_run.build("reference_read", flags=SANITIZED,
-                                             parts=reference_run.READ)
+                                             parts=reference_run.parts_of("read"))
         self.library = reference_run.build_library_driver(tally)
         self.compared, self.counts = 0, counts.Counts()
 

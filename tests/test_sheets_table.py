@@ -1,8 +1,9 @@
-"""Holds the reference, and what crates/trial_sheets prints, to tests/sheets.md."""
+"""Holds the judge, by the reference and by the library's exported call, to tests/sheets.md: each
+sheet lent against both edges of memory."""
 
-import os
 import sys
 
+import calls
 import reference_run
 import sheet_making
 
@@ -14,27 +15,31 @@ def check_table(tally, cases):
     tally.check(len({case.name for case in cases}) == len(cases), "a name stands twice")
 
 
-def check_crate(tally, cases):
-    """The crate runs these cases, all of them, and expects the table's answers."""
-    folder = os.path.join(reference_run.ROOT, "crates", "trial_sheets")
-    with open(os.path.join(folder, "stdout"), encoding="ascii") as lines:
-        tally.check(lines.read().splitlines() == [case.line() for case in cases],
-                    "crates/trial_sheets/stdout is not the table's answers")
-    with open(os.path.join(folder, "stdin"), encoding="ascii") as lines:
-        names = [line.partition(":")[0] for line in lines]
-    tally.check(names == ["%s %s" % (case.number, case.name) for case in cases],
-                "crates/trial_sheets/stdin does not name the table's sheets")
+def check_stripes(tally, case):
+    """A good sheet's answer tells its stripes too, which the call does not count."""
+    last = len(case.sheet) // sheet_making.RECORD - 1
+    stripes = sheet_making.get(case.sheet, last, "stripe") + 1
+    tally.check(case.answer.split()[2] == str(stripes), "%s, but it has %d stripes"
+                % (case.line(), stripes))
+
+
+def due(case):
+    """What the judge's driver answers: `good` and the records, or the refusal."""
+    words = case.answer.split()
+    return " ".join(words[:2] if words[0] == "good" else words), b""
 
 
 def main():
     tally = reference_run.Tally()
-    program = reference_run.build()
     cases = sheet_making.table()
     check_table(tally, cases)
-    check_crate(tally, cases)
     for case in cases:
-        got = reference_run.answer(reference_run.run(program, case.sheet)[0])
-        tally.check(got == case.answer, "%s, but the reference says %s" % (case.line(), got))
+        if case.answer.startswith("good"):
+            check_stripes(tally, case)
+    both = calls.Both(tally, calls.ALL["judge"])
+    both.check([(case.line(), (case.sheet,), due(case)) for case in cases])
+    print("%d sheets judged by the reference%s"
+          % (len(cases), " and by the library" if both.library else " alone"))
     return tally.end()
 
 

@@ -55,6 +55,8 @@ def largest():
     for layer in (2, 15, 16):
         yield "data", (sheet, bytes(1010), bytes(1010), 63, layer)
     yield "data", (sheet[:-1], b"", b"", 0, 0)
+    yield "judge", (sheet,)
+    yield "judge", (sheet[:-1],)
 
 
 def cases(rng):

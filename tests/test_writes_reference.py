@@ -42,7 +42,7 @@ def written(program, works):
     """(answer, page) of each (sheet, data, room)"""
     answers = [None] * len(works)
     for batch in batches(works):
-        for k, got in zip(batch, reference_run.write_many(program, [works[k] for k in batch])):
+        for k, got in zip(batch, reference_run.call_many(program, [works[k] for k in batch])):
             answers[k] = got
     return answers
 
@@ -52,7 +52,8 @@ class Writer:
 
     def __init__(self, tally, library, name, flags):
         self.tally, self.library = tally, library
-        self.reference = reference_run.build(name, flags=flags, parts=reference_run.WRITE)
+        self.reference = reference_run.build(name, flags=flags,
+                                             parts=reference_run.parts_of("write"))
         self.compared, self.counts = 0, counts.Counts()
 
     def answers(self, told, works):
@@ -121,7 +122,7 @@ class RoundTrip:
 
     def __init__(self, tally, writer):
         self.tally, self.writer = tally, writer
-        self.reader = reference_run.build("reference_read_plain", parts=reference_run.READ)
+        self.reader = reference_run.build("reference_read_plain", parts=reference_run.parts_of("read"))
 
     def read(self, pages):
         return [rows_of(lines) if lines[:1].isdigit() else lines for lines in
@@ -261,7 +262,7 @@ def main():
     seed = int(os.environ.get("SEED") or random.randrange(2 ** 32))
     print("SEED=%d" % seed)
     tally = reference_run.Tally()
-    library = reference_run.build_library_driver(tally, "write", reference_run.WRITE_DRIVER)
+    library = reference_run.build_library_driver(tally, "write")
     # the reference's judge takes its time, and much more of it where each step is watched
     watched = Writer(tally, library, "reference_write", SANITIZED)
     plain = Writer(tally, library, "reference_write_plain", ("-O2",))

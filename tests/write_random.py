@@ -164,7 +164,7 @@ class Judge:
 
     def __init__(self):
         self.listing = reference_run.build("reference_list_plain")
-        self.reader = reference_run.build("reference_read_plain", parts=reference_run.READ)
+        self.reader = reference_run.build("reference_read_plain", parts=reference_run.parts_of("read"))
 
     def verdicts(self, works):
         """The answer and the page due to each (sheet, data), in any room."""

@@ -97,7 +97,8 @@ static TIFF *open_memory(memory_file *file, const char *mode)
     TIFFOpenOptionsSetErrorHandlerExtR(options, on_error, file);
     TIFFOpenOptionsSetWarningHandlerExtR(options, on_warning, file);
     file->at = 0;
-    TIFF *tiff = TIFFClientOpenExt("mask", mode, file, read_memory, write_memory, seek_memory, close_memory, size_of_memory, NULL, NULL, options);
+    TIFF *tiff = TIFFClientOpenExt("mask", mode, file, read_memory, write_memory, seek_memory,
+                                   close_memory, size_of_memory, NULL, NULL, options);
     TIFFOpenOptionsFree(options);
     return tiff;
 }
@@ -106,12 +107,16 @@ static TIFF *open_memory(memory_file *file, const char *mode)
 static bool set_tags(TIFF *tiff, const picture *mask, uint32_t coder)
 {
     int scheme = coder == CODER_MMR ? COMPRESSION_CCITTFAX4 : COMPRESSION_CCITTFAX3;
-    return TIFFSetField(tiff, TIFFTAG_IMAGEWIDTH, mask->width) == 1 && TIFFSetField(tiff, TIFFTAG_IMAGELENGTH, mask->height) == 1 &&
-           TIFFSetField(tiff, TIFFTAG_BITSPERSAMPLE, 1) == 1 && TIFFSetField(tiff, TIFFTAG_SAMPLESPERPIXEL, 1) == 1 &&
+    return TIFFSetField(tiff, TIFFTAG_IMAGEWIDTH, mask->width) == 1 &&
+           TIFFSetField(tiff, TIFFTAG_IMAGELENGTH, mask->height) == 1 &&
+           TIFFSetField(tiff, TIFFTAG_BITSPERSAMPLE, 1) == 1 &&
+           TIFFSetField(tiff, TIFFTAG_SAMPLESPERPIXEL, 1) == 1 &&
            TIFFSetField(tiff, TIFFTAG_PHOTOMETRIC, PHOTOMETRIC_MINISWHITE) == 1 &&
-           TIFFSetField(tiff, TIFFTAG_FILLORDER, FILLORDER_MSB2LSB) == 1 && TIFFSetField(tiff, TIFFTAG_ROWSPERSTRIP, mask->height) == 1 &&
+           TIFFSetField(tiff, TIFFTAG_FILLORDER, FILLORDER_MSB2LSB) == 1 &&
+           TIFFSetField(tiff, TIFFTAG_ROWSPERSTRIP, mask->height) == 1 &&
            TIFFSetField(tiff, TIFFTAG_COMPRESSION, scheme) == 1 &&
-           (coder != CODER_MR || TIFFSetField(tiff, TIFFTAG_GROUP3OPTIONS, GROUP3OPT_2DENCODING) == 1);
+           (coder != CODER_MR ||
+            TIFFSetField(tiff, TIFFTAG_GROUP3OPTIONS, GROUP3OPT_2DENCODING) == 1);
 }
 
 /* The end marks come with TIFFClose. */
@@ -122,7 +127,8 @@ static bool write_strip(memory_file *file, const picture *mask, uint32_t coder)
         return false;
     }
     tmsize_t size = (tmsize_t)(mask->row_octets * mask->height);
-    bool done = set_tags(tiff, mask, coder) && TIFFWriteEncodedStrip(tiff, 0, mask->samples, size) == size;
+    bool done = set_tags(tiff, mask, coder) &&
+                TIFFWriteEncodedStrip(tiff, 0, mask->samples, size) == size;
     TIFFClose(tiff);
     return done && !file->failed;
 }
@@ -134,9 +140,11 @@ static bool take_strip(memory_file *file, octet_list *coded)
         return false;
     }
     uint64_t size = TIFFRawStripSize64(tiff, 0);
-    bool done = TIFFNumberOfStrips(tiff) == 1 && size > 0 && size <= file->list.length && size <= SIZE_MAX - coded->length &&
+    bool done = TIFFNumberOfStrips(tiff) == 1 && size > 0 && size <= file->list.length &&
+                size <= SIZE_MAX - coded->length &&
                 make_room(coded, coded->length + (size_t)size) &&
-                TIFFReadRawStrip(tiff, 0, coded->octets + coded->length, (tmsize_t)size) == (tmsize_t)size;
+                TIFFReadRawStrip(tiff, 0, coded->octets + coded->length, (tmsize_t)size) ==
+                    (tmsize_t)size;
     TIFFClose(tiff);
     coded->length += done ? (size_t)size : 0;
     return done && !file->failed;
@@ -145,7 +153,8 @@ static bool take_strip(memory_file *file, octet_list *coded)
 bool code_fax(const picture *mask, uint32_t coder, octet_list *coded, trouble *what)
 {
     memory_file file = {.what = what};
-    tell(what, "libtiff cannot code the mask: there may be not enough memory");     /* where it fails and says nothing */
+    /* for where libtiff fails and says nothing */
+    tell(what, "libtiff cannot code the mask: there may be not enough memory");
     bool done = write_strip(&file, mask, coder) && take_strip(&file, coded);
     free_octets(&file.list);
     return done;

@@ -1,4 +1,5 @@
-/* JPEG by libjpeg, on CIELAB codes as they stand (T.42), with the resolution in a G3FAX0 segment (T.4, Annex E). */
+/* JPEG by libjpeg, on CIELAB codes as they stand (T.42), with the resolution in a G3FAX0 segment
+ * (T.4, Annex E). */
 #include <setjmp.h>
 #include <stdio.h>
 
@@ -61,7 +62,8 @@ static void last_chunk(j_compress_ptr coder)
     take_chunk(writer, CHUNK - writer->destination.free_in_buffer);
 }
 
-/* YCbCr in and out: no conversion, and nothing in the file that would tell of another colour space. */
+/* YCbCr in and out: no conversion, and nothing in the file that would tell of another colour
+ * space. */
 static void set_options(j_compress_ptr coder, const picture *image, const jpeg_wish *wish)
 {
     coder->image_width = image->width;
@@ -80,7 +82,16 @@ static void set_options(j_compress_ptr coder, const picture *image, const jpeg_w
 
 static void write_resolution(j_compress_ptr coder, uint32_t resolution)
 {
-    const JOCTET segment[] = {'G', '3', 'F', 'A', 'X', 0, 0x07, 0xCA, (JOCTET)(resolution >> 8 & 255), (JOCTET)(resolution & 255)};
+    const JOCTET segment[] = {'G',
+                              '3',
+                              'F',
+                              'A',
+                              'X',
+                              0,
+                              0x07,
+                              0xCA,
+                              (JOCTET)(resolution >> 8 & 255),
+                              (JOCTET)(resolution & 255)};
     jpeg_write_marker(coder, JPEG_APP0 + 1, segment, sizeof segment);
 }
 

@@ -1,4 +1,5 @@
-/* JBIG by jbigkit, with the options that T.85 has as its basic ones: 128 lines a stripe, typical prediction, one plane, one layer. */
+/* JBIG by jbigkit, with the options that T.85 has as its basic ones: 128 lines a stripe, typical
+ * prediction, one plane, one layer. */
 #include <stdlib.h>
 
 #include <jbig85.h>

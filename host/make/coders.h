@@ -13,10 +13,10 @@
 enum { CODER_MH = 1, CODER_MR = 2, CODER_MMR = 4, CODER_T85 = 8, CODER_JPEG = 1 };
 
 typedef struct {
-    uint32_t resolution;        /* stands in the coded data */
-    int quality;                /* 1 to 100 */
+    uint32_t resolution; /* stands in the coded data */
+    int quality;         /* 1 to 100 */
     bool progressive;
-    bool half;                  /* the colour components have half the samples both ways */
+    bool half; /* the colour components have half the samples both ways */
 } jpeg_wish;
 
 /* A mask, by MH, MR or MMR (T.4, T.6). */

@@ -7,14 +7,14 @@
 #include "picture_in.h"
 #include "to_lab.h"
 
-enum { MASK = 1, PAGE_LAYERS = 3 };     /* MASK: layer 2, counted from 0 */
+enum { MASK = 1, PAGE_LAYERS = 3 }; /* MASK: layer 2, counted from 0 */
 
 typedef struct {
     const plan *from;
     coded_layers *made;
     trouble *what;
     lab_table known;
-    uint32_t width;             /* of the page; 0 while nothing tells it */
+    uint32_t width; /* of the page; 0 while nothing tells it */
     unsigned width_line;
 } layer_coder;
 
@@ -27,10 +27,12 @@ static bool has_sides(const plan *from, trouble *what)
         bool mask = stripe->layers[MASK].path != NULL;
         width = width || mask;
         if (!mask && stripe->height == 0) {
-            return tell_at(what, from->file, stripe->line, "this stripe has no mask, so it needs a 'height'");
+            return tell_at(what, from->file, stripe->line,
+                           "this stripe has no mask, so it needs a 'height'");
         }
     }
-    return width || tell_at(what, from->file, 0, "no stripe has a mask, so the plan needs the page's 'width'");
+    return width || tell_at(what, from->file, 0,
+                            "no stripe has a mask, so the plan needs the page's 'width'");
 }
 
 /* A page's own mask has its width and the stripe's height. */
@@ -39,15 +41,18 @@ static bool agrees(layer_coder *coder, const plan_stripe *stripe, const picture 
     const char *file = coder->from->file;
     const plan_layer *layer = &stripe->layers[MASK];
     if (mask->width > SPIREROOK_WIDTH) {
-        return tell_at(coder->what, file, layer->line, "%s is %u samples wide; a page is at most %d", layer->name, (unsigned)mask->width,
-                       SPIREROOK_WIDTH);
+        return tell_at(coder->what, file, layer->line,
+                       "%s is %u samples wide; a page is at most %d", layer->name,
+                       (unsigned)mask->width, SPIREROOK_WIDTH);
     }
     if (coder->width != 0 && mask->width != coder->width) {
-        return tell_at(coder->what, file, layer->line, "%s is %u samples wide, but the page is %u (line %u)", layer->name, (unsigned)mask->width,
-                       (unsigned)coder->width, coder->width_line);
+        return tell_at(coder->what, file, layer->line,
+                       "%s is %u samples wide, but the page is %u (line %u)", layer->name,
+                       (unsigned)mask->width, (unsigned)coder->width, coder->width_line);
     }
     if (stripe->height != 0 && mask->height != stripe->height) {
-        return tell_at(coder->what, file, layer->line, "%s is %u samples high, but the stripe is %u (line %u)", layer->name,
+        return tell_at(coder->what, file, layer->line,
+                       "%s is %u samples high, but the stripe is %u (line %u)", layer->name,
                        (unsigned)mask->height, (unsigned)stripe->height, stripe->height_line);
     }
     coder->width_line = coder->width == 0 ? layer->line : coder->width_line;
@@ -57,27 +62,34 @@ static bool agrees(layer_coder *coder, const plan_stripe *stripe, const picture 
 
 static bool code_mask(const picture *mask, const plan_layer *layer, octet_list *to, trouble *what)
 {
-    return layer->coder == CODER_T85 ? code_t85(mask, to, what) : code_fax(mask, layer->coder, to, what);
+    return layer->coder == CODER_T85 ? code_t85(mask, to, what)
+                                     : code_fax(mask, layer->coder, to, what);
 }
 
-static bool code_image(layer_coder *coder, picture *image, const plan_layer *layer, octet_list *to, trouble *what)
+static bool code_image(layer_coder *coder, picture *image, const plan_layer *layer, octet_list *to,
+                       trouble *what)
 {
     const jpeg_wish wish = {layer->resolution, layer->quality, layer->progressive, layer->half};
     return turn_to_lab(&coder->known, image, what) && code_jpeg(image, &wish, to, what);
 }
 
 /* Codes a picture into the list that its layer belongs to, and sets what the record has of it. */
-static bool code_picture(layer_coder *coder, picture *from, const plan_layer *layer, spirerook_record *record)
+static bool code_picture(layer_coder *coder, picture *from, const plan_layer *layer,
+                         spirerook_record *record)
 {
     trouble cause;
-    octet_list *to = record->layer > PAGE_LAYERS ? &coder->made->pencil_data : &coder->made->page_data;
+    octet_list *to = record->layer > PAGE_LAYERS ? &coder->made->pencil_data
+                                                 : &coder->made->page_data;
     uint64_t start = to->length;
-    bool done = from->use == AS_MASK ? code_mask(from, layer, to, &cause) : code_image(coder, from, layer, to, &cause);
+    bool done = from->use == AS_MASK ? code_mask(from, layer, to, &cause)
+                                     : code_image(coder, from, layer, to, &cause);
     if (!done) {
-        return tell_at(coder->what, coder->from->file, layer->line, "%s: %s", layer->name, cause.text);
+        return tell_at(coder->what, coder->from->file, layer->line, "%s: %s", layer->name,
+                       cause.text);
     }
     if (to->length > UINT32_MAX) {
-        return tell_at(coder->what, coder->from->file, layer->line, "%s: the coded layers have over 4 GiB", layer->name);
+        return tell_at(coder->what, coder->from->file, layer->line,
+                       "%s: the coded layers have over 4 GiB", layer->name);
     }
     record->coder = from->use == AS_MASK ? layer->coder : CODER_JPEG;
     record->x = layer->x;
@@ -90,7 +102,8 @@ static bool code_picture(layer_coder *coder, picture *from, const plan_layer *la
     return true;
 }
 
-static bool code_layer(layer_coder *coder, const plan_stripe *stripe, unsigned k, spirerook_record *record)
+static bool code_layer(layer_coder *coder, const plan_stripe *stripe, unsigned k,
+                       spirerook_record *record)
 {
     const plan_layer *layer = &stripe->layers[k];
     trouble cause;
@@ -101,9 +114,11 @@ static bool code_layer(layer_coder *coder, const plan_stripe *stripe, unsigned k
         return true;
     }
     if (!read_picture(layer->path, k % 2 == 1 ? AS_MASK : AS_IMAGE, &from, &cause)) {
-        return tell_at(coder->what, coder->from->file, layer->line, "%s: %s", layer->name, cause.text);
+        return tell_at(coder->what, coder->from->file, layer->line, "%s: %s", layer->name,
+                       cause.text);
     }
-    bool done = (k != MASK || agrees(coder, stripe, &from)) && code_picture(coder, &from, layer, record);
+    bool done = (k != MASK || agrees(coder, stripe, &from)) &&
+                code_picture(coder, &from, layer, record);
     free_picture(&from);
     return done;
 }
@@ -155,5 +170,8 @@ const char *coder_name(const spirerook_record *record)
     if (record->layer % 2 == 1) {
         return "JPEG";
     }
-    return record->coder == CODER_MH ? "MH" : record->coder == CODER_MR ? "MR" : record->coder == CODER_MMR ? "MMR" : "T.85";
+    return record->coder == CODER_MH    ? "MH"
+           : record->coder == CODER_MR  ? "MR"
+           : record->coder == CODER_MMR ? "MMR"
+                                        : "T.85";
 }

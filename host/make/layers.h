@@ -10,7 +10,8 @@
 
 typedef struct {
     spirerook_record records[SPIREROOK_STRIPES][SPIREROOK_LAYERS];
-    octet_list page_data, pencil_data;  /* that the starts of layers 1 to 3, and of the higher ones, point into */
+    octet_list page_data,
+        pencil_data; /* that the starts of layers 1 to 3, and of the higher ones, point into */
 } coded_layers;
 
 /* The layers are free_layers' to free, also where it fails. */

@@ -33,7 +33,7 @@ static const char help[] =
     "Exit status: 0 done; 1 refused, or a file cannot be read or written; 2 a bad option.\n";
 
 typedef struct {
-    const char *plan, *page, *sheet, *pencil;   /* null where not given */
+    const char *plan, *page, *sheet, *pencil; /* null where not given */
 } options;
 
 static bool bad_option(trouble *what, const char *form, const char *word)
@@ -55,7 +55,10 @@ static bool take_option(char ***words, options *given, trouble *what)
         return bad_option(what, "'%s' is given twice", word);
     }
     if ((*words)[1] == NULL || (!page && (*words)[2] == NULL)) {
-        return bad_option(what, page ? "'%s' needs the name of the page" : "'%s' needs the names of the sheet and of the file", word);
+        return bad_option(what,
+                          page ? "'%s' needs the name of the page"
+                               : "'%s' needs the names of the sheet and of the file",
+                          word);
     }
     *(page ? &given->page : &given->sheet) = *++*words;
     if (!page) {
@@ -66,7 +69,7 @@ static bool take_option(char ***words, options *given, trouble *what)
 
 static bool take_options(char **words, options *given, trouble *what)
 {
-    bool plain = false;         /* behind "--" all words are names */
+    bool plain = false; /* behind "--" all words are names */
     for (; *words != NULL; words++) {
         if (!plain && strcmp(*words, "--") == 0) {
             plain = true;
@@ -102,8 +105,11 @@ static bool fits(const options *given, const plan *from, trouble *what)
     const char *names[] = {given->page, given->sheet, given->pencil};
     unsigned count = given->sheet == NULL ? 1 : 3;
     if (has_pencil(from) != (given->sheet != NULL)) {
-        return bad_option(what, given->sheet == NULL ? "%s has pencil layers: --pencil SHEET FILE must name files for them"
-                                                     : "%s has no pencil layers: --pencil has nothing to write", from->file);
+        return bad_option(what,
+                          given->sheet == NULL
+                              ? "%s has pencil layers: --pencil SHEET FILE must name files for them"
+                              : "%s has no pencil layers: --pencil has nothing to write",
+                          from->file);
     }
     for (unsigned k = 0; k < count; k++) {
         if (is_input(from, names[k])) {
@@ -125,8 +131,9 @@ static void list_layer(const plan_layer *layer, const spirerook_record *record)
         printf("not coded\n");
         return;
     }
-    printf("%s, %s, %u by %u at %u, %u octets\n", layer->name, coder_name(record), (unsigned)record->width, (unsigned)record->height,
-           (unsigned)record->resolution, (unsigned)record->length);
+    printf("%s, %s, %u by %u at %u, %u octets\n", layer->name, coder_name(record),
+           (unsigned)record->width, (unsigned)record->height, (unsigned)record->resolution,
+           (unsigned)record->length);
 }
 
 static bool list_layers(const plan *from, const coded_layers *layers, trouble *what)
@@ -136,7 +143,8 @@ static bool list_layers(const plan *from, const coded_layers *layers, trouble *w
             list_layer(&from->stripes[s].layers[k], &layers->records[s][k]);
         }
     }
-    return (fflush(stdout) == 0 && !ferror(stdout)) || tell(what, "standard output cannot be written");
+    return (fflush(stdout) == 0 && !ferror(stdout)) ||
+           tell(what, "standard output cannot be written");
 }
 
 static bool list_files(const output *outputs, unsigned count, trouble *what)
@@ -146,16 +154,20 @@ static bool list_files(const output *outputs, unsigned count, trouble *what)
         printf("%s %s, %zu octets", k == 0 ? "" : ";", outputs[k].name, outputs[k].length);
     }
     printf("\n");
-    return (fflush(stdout) == 0 && !ferror(stdout)) || tell(what, "standard output cannot be written");
+    return (fflush(stdout) == 0 && !ferror(stdout)) ||
+           tell(what, "standard output cannot be written");
 }
 
 /* The list of layers is printed when the files are whole but not yet in their places. */
-static bool write_all(const options *given, const plan *from, const coded_layers *layers, const made_page *page, const octet_list *sheet,
-                      trouble *what)
+static bool write_all(const options *given, const plan *from, const coded_layers *layers,
+                      const made_page *page, const octet_list *sheet, trouble *what)
 {
-    output outputs[] = {{.name = given->page, .octets = page->page.octets, .length = page->page.length},
-                        {.name = given->sheet, .octets = sheet->octets, .length = sheet->length},
-                        {.name = given->pencil, .octets = layers->pencil_data.octets, .length = layers->pencil_data.length}};
+    output outputs[] = {
+        {.name = given->page, .octets = page->page.octets, .length = page->page.length},
+        {.name = given->sheet, .octets = sheet->octets, .length = sheet->length},
+        {.name = given->pencil,
+         .octets = layers->pencil_data.octets,
+         .length = layers->pencil_data.length}};
     unsigned count = given->sheet == NULL ? 1 : 3;
     if (!begin_outputs(outputs, count, what)) {
         return false;
@@ -173,8 +185,9 @@ static bool make(const options *given, trouble *what)
     coded_layers *layers = NULL;
     made_page page = {.page = {NULL, 0, 0}};
     octet_list sheet = {NULL, 0, 0};
-    bool done = read_plan(given->plan, &from, what) && fits(given, from, what) && code_layers(from, &layers, what) &&
-                make_page(from, layers, &page, what) && (given->sheet == NULL || make_pencil_sheet(from, layers, &page, &sheet, what)) &&
+    bool done = read_plan(given->plan, &from, what) && fits(given, from, what) &&
+                code_layers(from, &layers, what) && make_page(from, layers, &page, what) &&
+                (given->sheet == NULL || make_pencil_sheet(from, layers, &page, &sheet, what)) &&
                 write_all(given, from, layers, &page, &sheet, what);
     free_octets(&sheet);
     free_octets(&page.page);

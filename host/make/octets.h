@@ -11,7 +11,8 @@ typedef struct {
     size_t length, room;
 } octet_list;
 
-/* Room for so many octets in all; the length stays.  False where there is not enough memory; then the list is as it was. */
+/* Room for so many octets in all; the length stays.  False where there is not enough memory; then
+ * the list is as it was. */
 bool make_room(octet_list *list, size_t octets);
 
 /* False where there is not enough memory; then the list is as it was. */

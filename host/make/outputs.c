@@ -9,7 +9,9 @@
 static char *folder_of(const char *name)
 {
     const char *slash = strrchr(name, '/');
-    return slash == NULL ? strdup(".") : slash == name ? strdup("/") : strndup(name, (size_t)(slash - name));
+    return slash == NULL   ? strdup(".")
+           : slash == name ? strdup("/")
+                           : strndup(name, (size_t)(slash - name));
 }
 
 static const char *last_of(const char *name)
@@ -24,7 +26,8 @@ bool same_place(const char *one, const char *other)
         return true;
     }
     char *first = folder_of(one), *second = folder_of(other);
-    bool same = first != NULL && second != NULL && strcmp(last_of(one), last_of(other)) == 0 && same_file(first, second);
+    bool same = first != NULL && second != NULL && strcmp(last_of(one), last_of(other)) == 0 &&
+                same_file(first, second);
     free(first);
     free(second);
     return same;
@@ -37,7 +40,8 @@ static const char *write_beside(output *to)
         return why;
     }
     FILE *file = to->file.file;
-    if ((to->length > 0 && fwrite(to->octets, 1, to->length, file) != to->length) || fflush(file) != 0 || fsync(fileno(file)) != 0) {
+    if ((to->length > 0 && fwrite(to->octets, 1, to->length, file) != to->length) ||
+        fflush(file) != 0 || fsync(fileno(file)) != 0) {
         return strerror(errno);
     }
     return NULL;

@@ -6,8 +6,9 @@
 
 #include "file.h"
 
-static const uint64_t most_octets = UINT64_C(1) << 30;                  /* of samples */
-static const size_t most_file = ((size_t)1 << 31) + ((size_t)1 << 20);  /* holds them with 16 bits each, and a header */
+static const uint64_t most_octets = UINT64_C(1) << 30; /* of samples */
+static const size_t most_file = ((size_t)1 << 31) +
+                                ((size_t)1 << 20); /* holds them with 16 bits each, and a header */
 
 static const uint8_t png_mark[8] = {0x89, 'P', 'N', 'G', '\r', '\n', 0x1A, '\n'};
 
@@ -17,11 +18,13 @@ bool begin_picture(picture *made, picture_use use, uint64_t width, uint64_t heig
         return tell(what, "the picture has no samples");
     }
     if (width > PICTURE_SIDE || height > PICTURE_SIDE) {
-        return tell(what, "the picture is %ju by %ju samples; a side has at most %d", (uintmax_t)width, (uintmax_t)height, PICTURE_SIDE);
+        return tell(what, "the picture is %ju by %ju samples; a side has at most %d",
+                    (uintmax_t)width, (uintmax_t)height, PICTURE_SIDE);
     }
     uint64_t row = use == AS_MASK ? (width + 7) / 8 : width * 3;
     if (row * height > most_octets) {
-        return tell(what, "the picture is %ju by %ju samples; they would need over 1 GiB", (uintmax_t)width, (uintmax_t)height);
+        return tell(what, "the picture is %ju by %ju samples; they would need over 1 GiB",
+                    (uintmax_t)width, (uintmax_t)height);
     }
     made->use = use;
     made->width = (uint32_t)width;
@@ -58,7 +61,8 @@ static bool is_png(const whole_file *file)
 
 static bool is_pnm(const whole_file *file)
 {
-    return file->length >= 2 && file->octets[0] == 'P' && file->octets[1] >= '1' && file->octets[1] <= '6';
+    return file->length >= 2 && file->octets[0] == 'P' && file->octets[1] >= '1' &&
+           file->octets[1] <= '6';
 }
 
 static bool is_plain(const char *name)
@@ -67,12 +71,14 @@ static bool is_plain(const char *name)
     return stat(name, &there) != 0 || S_ISREG(there.st_mode) || S_ISDIR(there.st_mode);
 }
 
-/* Twice: the first octets tell whether all are worth reading.  A folder, or nothing at all, is told of by read_file. */
+/* Twice: the first octets tell whether all are worth reading.  A folder, or nothing at all, is told
+ * of by read_file. */
 static bool read_known(const char *name, whole_file *file, trouble *what)
 {
     const size_t limits[] = {sizeof png_mark, most_file};
     for (int k = 0; k < 2; k++) {
-        const char *why = is_plain(name) ? read_file(name, limits[k], file) : "this is no plain file";
+        const char *why = is_plain(name) ? read_file(name, limits[k], file)
+                                         : "this is no plain file";
         if (why != NULL) {
             return tell(what, "%s", why);
         }
@@ -94,7 +100,8 @@ bool read_picture(const char *name, picture_use use, picture *made, trouble *wha
     if (!read_known(name, &file, what)) {
         return false;
     }
-    bool done = is_png(&file) ? read_png(file.octets, file.length, use, made, what) : read_pnm(file.octets, file.length, use, made, what);
+    bool done = is_png(&file) ? read_png(file.octets, file.length, use, made, what)
+                              : read_pnm(file.octets, file.length, use, made, what);
     free(file.octets);
     if (!done) {
         free_picture(made);

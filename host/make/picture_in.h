@@ -8,17 +8,17 @@
 
 #include "trouble.h"
 
-enum { PICTURE_SIDE = 65535 };  /* samples, at most: a record has two octets for each */
+enum { PICTURE_SIDE = 65535 }; /* samples, at most: a record has two octets for each */
 
-/* Of a mask a sample is a bit, 1 where the picture is nearer black than white, the first of a row in the highest bit and the last octet filled up with
- * 0; of an image three octets of sRGB. */
+/* Of a mask a sample is a bit, 1 where the picture is nearer black than white, the first of a row
+ * in the highest bit and the last octet filled up with 0; of an image three octets of sRGB. */
 typedef enum { AS_MASK, AS_IMAGE } picture_use;
 
 typedef struct {
     picture_use use;
     uint32_t width, height;
     size_t row_octets;
-    uint8_t *samples;           /* row by row */
+    uint8_t *samples; /* row by row */
 } picture;
 
 /* The samples are the caller's to free, by free_picture; where it fails there are none. */

@@ -5,15 +5,16 @@
 
 #include "picture_in.h"
 
-/* What may pass between the calls of libpng; it stands outside the function that libpng jumps back to. */
+/* What may pass between the calls of libpng; it stands outside the function that libpng jumps back
+ * to. */
 typedef struct {
     const uint8_t *octets;
     size_t length, at;
     png_structp png;
     png_infop info;
-    uint8_t *rows;              /* four octets a sample; all rows of an interlaced picture, else one */
+    uint8_t *rows; /* four octets a sample; all rows of an interlaced picture, else one */
     size_t row_octets;
-    uint8_t *flat;              /* a row, three octets a sample */
+    uint8_t *flat; /* a row, three octets a sample */
     picture *made;
     trouble *what;
 } png_reader;
@@ -112,8 +113,8 @@ static bool read_all(png_reader *reader, picture_use use)
     /* the sides are judged by begin_picture, with its own words */
     png_set_user_limits(reader->png, PNG_UINT_31_MAX, PNG_UINT_31_MAX);
     png_read_info(reader->png, reader->info);
-    if (!begin_picture(reader->made, use, png_get_image_width(reader->png, reader->info), png_get_image_height(reader->png, reader->info),
-                       reader->what)) {
+    if (!begin_picture(reader->made, use, png_get_image_width(reader->png, reader->info),
+                       png_get_image_height(reader->png, reader->info), reader->what)) {
         return false;
     }
     int passes = ask_for_rgba(reader);

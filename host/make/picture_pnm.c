@@ -7,8 +7,8 @@ enum { MOST_VALUE = 65535, NUMBER_LIMIT = 1000000 };
 
 typedef struct {
     const uint8_t *octets;
-    size_t length, at;          /* at: the first octet not read */
-    unsigned kind;              /* 1 to 6 */
+    size_t length, at; /* at: the first octet not read */
+    unsigned kind;     /* 1 to 6 */
     uint32_t width, height, most;
 } pnm_reader;
 
@@ -26,7 +26,8 @@ static bool is_digit(uint8_t octet)
 static void pass_blanks(pnm_reader *pnm)
 {
     bool comment = false;
-    while (pnm->at < pnm->length && (comment || is_blank(pnm->octets[pnm->at]) || pnm->octets[pnm->at] == '#')) {
+    while (pnm->at < pnm->length &&
+           (comment || is_blank(pnm->octets[pnm->at]) || pnm->octets[pnm->at] == '#')) {
         uint8_t octet = pnm->octets[pnm->at++];
         comment = octet == '#' || (comment && octet != '\n' && octet != '\r');
     }
@@ -40,7 +41,8 @@ static bool take_number(pnm_reader *pnm, uint32_t *number)
         return false;
     }
     for (*number = 0; pnm->at < pnm->length && is_digit(pnm->octets[pnm->at]); pnm->at++) {
-        *number = *number >= NUMBER_LIMIT ? NUMBER_LIMIT : *number * 10 + pnm->octets[pnm->at] - '0';
+        *number = *number >= NUMBER_LIMIT ? NUMBER_LIMIT
+                                          : *number * 10 + pnm->octets[pnm->at] - '0';
     }
     return true;
 }
@@ -51,7 +53,8 @@ static bool read_header(pnm_reader *pnm, trouble *what)
     pnm->at = 2;
     pnm->most = 1;
     bool has_most = pnm->kind != 1 && pnm->kind != 4;
-    if (!take_number(pnm, &pnm->width) || !take_number(pnm, &pnm->height) || (has_most && !take_number(pnm, &pnm->most))) {
+    if (!take_number(pnm, &pnm->width) || !take_number(pnm, &pnm->height) ||
+        (has_most && !take_number(pnm, &pnm->most))) {
         return tell(what, "the PNM header is not whole");
     }
     if (pnm->most == 0 || pnm->most > MOST_VALUE) {
@@ -72,13 +75,15 @@ static unsigned colours(const pnm_reader *pnm)
     return pnm->kind % 3 == 0 ? 3 : 1;
 }
 
-/* Whether the samples can stand in what is left of the file.  In P1 each takes an octet at least; in P2 and P3 two with its blank, but the last. */
+/* Whether the samples can stand in what is left of the file.  In P1 each takes an octet at least;
+ * in P2 and P3 two with its blank, but the last. */
 static bool is_long_enough(const pnm_reader *pnm)
 {
     uint64_t row = (uint64_t)pnm->width * colours(pnm), left = pnm->length - pnm->at;
     switch (pnm->kind) {
     case 1: return left >= row * pnm->height;
-    case 2: case 3: return left + 1 >= row * pnm->height * 2;
+    case 2:
+    case 3: return left + 1 >= row * pnm->height * 2;
     case 4: return left >= (row + 7) / 8 * pnm->height;
     default: return left >= row * pnm->height * (pnm->most > 255 ? 2 : 1);
     }
@@ -87,7 +92,7 @@ static bool is_long_enough(const pnm_reader *pnm)
 /* The next value of a P1, P2, P3, P5 or P6; false where there is none. */
 static bool take_value(pnm_reader *pnm, uint32_t *value)
 {
-    if (pnm->kind == 1) {       /* bits need no blanks between them */
+    if (pnm->kind == 1) { /* bits need no blanks between them */
         pass_blanks(pnm);
         *value = pnm->at < pnm->length ? (uint32_t)pnm->octets[pnm->at++] - '0' : MOST_VALUE + 1;
         return *value <= 1;
@@ -107,10 +112,12 @@ static bool take_sample(pnm_reader *pnm, uint8_t *srgb, trouble *what)
     for (unsigned k = 0; k < colours(pnm); k++) {
         uint32_t value;
         if (!take_value(pnm, &value)) {
-            return tell(what, "the PNM file ends before its samples do, or has something else among them");
+            return tell(
+                what, "the PNM file ends before its samples do, or has something else among them");
         }
         if (value > pnm->most) {
-            return tell(what, "the PNM file has a sample of %u, above its highest value %u", (unsigned)value, (unsigned)pnm->most);
+            return tell(what, "the PNM file has a sample of %u, above its highest value %u",
+                        (unsigned)value, (unsigned)pnm->most);
         }
         value = pnm->kind == 1 ? 1 - value : value;
         srgb[k] = (uint8_t)((value * 255 + pnm->most / 2) / pnm->most);
@@ -146,9 +153,11 @@ bool read_pnm(const uint8_t *octets, size_t length, picture_use use, picture *ma
         return false;
     }
     /* silly sides are told before the file is called short; both before memory is asked for */
-    bool sides = pnm.width > 0 && pnm.height > 0 && pnm.width <= PICTURE_SIDE && pnm.height <= PICTURE_SIDE;
+    bool sides = pnm.width > 0 && pnm.height > 0 && pnm.width <= PICTURE_SIDE &&
+                 pnm.height <= PICTURE_SIDE;
     if (sides && !is_long_enough(&pnm)) {
-        return tell(what, "the PNM file is too short for %u by %u samples", (unsigned)pnm.width, (unsigned)pnm.height);
+        return tell(what, "the PNM file is too short for %u by %u samples", (unsigned)pnm.width,
+                    (unsigned)pnm.height);
     }
     if (!begin_picture(made, use, pnm.width, pnm.height, what)) {
         return false;

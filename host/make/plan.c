@@ -25,7 +25,8 @@ static bool end_stripe(plan *made, trouble *what)
 {
     plan_stripe *stripe = last_stripe(made);
     return stripe == NULL || !misses_image(stripe) ||
-           tell_at(what, made->file, stripe->layers[stripe->layer_count - 2].line, "this pencil-mask has no pencil-image behind it");
+           tell_at(what, made->file, stripe->layers[stripe->layer_count - 2].line,
+                   "this pencil-mask has no pencil-image behind it");
 }
 
 static void set_usual(const plan *made, plan_stripe *stripe)
@@ -70,8 +71,9 @@ static bool page_key(plan *made, plan_line *line, const char *key)
         return wrong(line, "'%s' is given twice", key);
     }
     made->width_line = resolution || coder ? made->width_line : line->number;
-    bool taken = resolution ? take_resolution(line, &made->resolution) : coder ? take_coder(line, &made->coder)
-                 : take_number(line, key, 1, SPIREROOK_WIDTH, &made->width);
+    bool taken = resolution ? take_resolution(line, &made->resolution)
+                 : coder    ? take_coder(line, &made->coder)
+                            : take_number(line, key, 1, SPIREROOK_WIDTH, &made->width);
     return taken && ends_here(line);
 }
 
@@ -87,17 +89,22 @@ static bool take_height(plan_stripe *stripe, plan_line *line)
 static bool pencil_key(const plan *made, plan_stripe *stripe, plan_line *line, bool is_mask)
 {
     if (!is_mask) {
-        return misses_image(stripe) ? take_layer(made, line, stripe->layer_count, &stripe->layers[stripe->layer_count - 1])
-                                    : wrong(line, "a 'pencil-image' must stand behind its 'pencil-mask'");
+        return misses_image(stripe)
+                   ? take_layer(made, line, stripe->layer_count,
+                                &stripe->layers[stripe->layer_count - 1])
+                   : wrong(line, "a 'pencil-image' must stand behind its 'pencil-mask'");
     }
     if (misses_image(stripe)) {
-        return wrong(line, "the 'pencil-mask' of line %u has no 'pencil-image' yet", stripe->layers[stripe->layer_count - 2].line);
+        return wrong(line, "the 'pencil-mask' of line %u has no 'pencil-image' yet",
+                     stripe->layers[stripe->layer_count - 2].line);
     }
     if (stripe->layer_count == SPIREROOK_LAYERS) {
-        return wrong(line, "a stripe has at most %d pairs of pencil layers", (SPIREROOK_LAYERS - PAGE_LAYERS) / 2);
+        return wrong(line, "a stripe has at most %d pairs of pencil layers",
+                     (SPIREROOK_LAYERS - PAGE_LAYERS) / 2);
     }
     stripe->layer_count += 2;
-    return take_layer(made, line, stripe->layer_count - 1, &stripe->layers[stripe->layer_count - 2]);
+    return take_layer(made, line, stripe->layer_count - 1,
+                      &stripe->layers[stripe->layer_count - 2]);
 }
 
 static bool stripe_key(const plan *made, plan_stripe *stripe, plan_line *line, const char *key)
@@ -108,8 +115,9 @@ static bool stripe_key(const plan *made, plan_stripe *stripe, plan_line *line, c
     }
     for (unsigned k = 0; k < PAGE_LAYERS; k++) {
         if (strcmp(key, names[k]) == 0) {
-            return stripe->layers[k].line == 0 ? take_layer(made, line, k + 1, &stripe->layers[k])
-                                               : wrong(line, "'%s' is given twice in this stripe", key);
+            return stripe->layers[k].line == 0
+                       ? take_layer(made, line, k + 1, &stripe->layers[k])
+                       : wrong(line, "'%s' is given twice in this stripe", key);
         }
     }
     return pencil_key(made, stripe, line, strcmp(key, "pencil-mask") == 0);
@@ -126,7 +134,8 @@ static bool is_one_of(const char *word, const char *const *words)
 static bool take_line(plan *made, plan_line *line)
 {
     static const char *const page_keys[] = {"resolution", "coder", "width", NULL};
-    static const char *const stripe_keys[] = {"height", "background", "mask", "foreground", "pencil-mask", "pencil-image", NULL};
+    static const char *const stripe_keys[] = {"height",      "background",   "mask", "foreground",
+                                              "pencil-mask", "pencil-image", NULL};
     const plan_word *word = next_word(line);
     if (word == NULL) {
         return true;
@@ -141,7 +150,8 @@ static bool take_line(plan *made, plan_line *line)
     if (!is_one_of(key, stripe_keys)) {
         return wrong(line, "unknown word '%s'", key);
     }
-    return made->stripe_count > 0 ? stripe_key(made, last_stripe(made), line, key) : wrong(line, "'%s' stands before the first 'stripe'", key);
+    return made->stripe_count > 0 ? stripe_key(made, last_stripe(made), line, key)
+                                  : wrong(line, "'%s' stands before the first 'stripe'", key);
 }
 
 /* The text ends in an octet 0. */
@@ -176,7 +186,8 @@ bool read_plan(const char *name, plan **made, trouble *what)
     if (why != NULL) {
         return tell_at(what, name, 0, "%s", why);
     }
-    bool done = file.length < MOST_PLAN || tell_at(what, name, 0, "a plan has less than %d octets", MOST_PLAN);
+    bool done = file.length < MOST_PLAN ||
+                tell_at(what, name, 0, "a plan has less than %d octets", MOST_PLAN);
     if (done && file.length > 0 && memchr(file.octets, 0, file.length) != NULL) {
         done = tell_at(what, name, 0, "this is no text: it has an octet 0");
     }

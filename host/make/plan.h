@@ -10,9 +10,10 @@
 #include "trouble.h"
 
 typedef struct {
-    unsigned line;              /* of the plan; 0 where it says nothing of the layer */
-    char *name, *path;          /* of the picture: as the plan has it, and from where the program runs; null where there is none */
-    uint32_t coder;             /* of a mask */
+    unsigned line; /* of the plan; 0 where it says nothing of the layer */
+    /* of the picture: as the plan has it, and from where the program runs; null where there is none */
+    char *name, *path;
+    uint32_t coder; /* of a mask */
     uint32_t resolution, x, y;
     uint8_t base[3];
     int quality;
@@ -21,13 +22,13 @@ typedef struct {
 
 typedef struct {
     unsigned line, height_line;
-    uint32_t height;            /* 0 where it is not given */
-    unsigned layer_count;       /* 3, and 2 for each pair of pencil layers */
+    uint32_t height;      /* 0 where it is not given */
+    unsigned layer_count; /* 3, and 2 for each pair of pencil layers */
     plan_layer layers[SPIREROOK_LAYERS];
 } plan_stripe;
 
 typedef struct {
-    const char *file;           /* the plan's own */
+    const char *file; /* the plan's own */
     unsigned width_line;
     uint32_t resolution, coder; /* 0 while not given */
     uint32_t width;             /* 0 where it is not given */

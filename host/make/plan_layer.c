@@ -5,12 +5,24 @@
 #include "plan.h"
 
 enum { RESOLUTION = 1, AT = 2, COLOUR = 4, QUALITY = 8, PROGRESSIVE = 16, HALF = 32, CODER = 64 };
-enum { OF_IMAGE = RESOLUTION | AT | COLOUR | QUALITY | PROGRESSIVE | HALF, OF_PENCIL_MASK = CODER | RESOLUTION | AT, OF_MASK = 0 };
+enum {
+    OF_IMAGE = RESOLUTION | AT | COLOUR | QUALITY | PROGRESSIVE | HALF,
+    OF_PENCIL_MASK = CODER | RESOLUTION | AT,
+    OF_MASK = 0
+};
 enum { MOST_OFFSET = 65535 };
 
-static const struct { const char *name; int option; } options[] = {
-    {"resolution", RESOLUTION}, {"at", AT}, {"base", COLOUR}, {"lab", COLOUR}, {"quality", QUALITY}, {"progressive", PROGRESSIVE},
-    {"half", HALF}, {"coder", CODER}};
+static const struct {
+    const char *name;
+    int option;
+} options[] = {{"resolution", RESOLUTION},
+               {"at", AT},
+               {"base", COLOUR},
+               {"lab", COLOUR},
+               {"quality", QUALITY},
+               {"progressive", PROGRESSIVE},
+               {"half", HALF},
+               {"coder", CODER}};
 
 static int options_of(unsigned layer_number)
 {
@@ -31,8 +43,12 @@ static bool take_option(plan_line *line, const char *name, int option, plan_laye
 {
     switch (option) {
     case RESOLUTION: return take_resolution(line, &layer->resolution);
-    case AT: return take_number(line, "at", 0, MOST_OFFSET, &layer->x) && take_number(line, "at", 0, MOST_OFFSET, &layer->y);
-    case COLOUR: return strcmp(name, "lab") == 0 ? take_lab(line, layer->base) : take_srgb(line, layer->base);
+    case AT:
+        return take_number(line, "at", 0, MOST_OFFSET, &layer->x) &&
+               take_number(line, "at", 0, MOST_OFFSET, &layer->y);
+    case COLOUR:
+        return strcmp(name, "lab") == 0 ? take_lab(line, layer->base)
+                                        : take_srgb(line, layer->base);
     case QUALITY: return take_quality(line, &layer->quality);
     case PROGRESSIVE: return layer->progressive = true;
     case HALF: return layer->half = true;
@@ -57,13 +73,17 @@ static bool take_options(plan_line *line, int allowed, plan_layer *layer)
     for (const plan_word *word = next_word(line); word != NULL; word = next_word(line)) {
         int option = option_of(word->text);
         if (option == 0) {
-            return allowed == 0 ? wrong(line, "'%s' is a word too many", word->text) : wrong(line, "unknown word '%s'", word->text);
+            return allowed == 0 ? wrong(line, "'%s' is a word too many", word->text)
+                                : wrong(line, "unknown word '%s'", word->text);
         }
         if ((option & allowed) == 0) {
             return wrong(line, "'%s' has no '%s'", key, word->text);
         }
         if ((option & seen) != 0) {
-            return wrong(line, option == COLOUR ? "a base colour is given twice ('%s')" : "'%s' is given twice", word->text);
+            return wrong(line,
+                         option == COLOUR ? "a base colour is given twice ('%s')"
+                                          : "'%s' is given twice",
+                         word->text);
         }
         seen |= option;
         if (!take_option(line, word->text, option, layer)) {
@@ -101,18 +121,21 @@ static bool take_picture(const plan *made, plan_line *line, plan_layer *layer)
     }
     layer->name = strdup(word->text);
     layer->path = path_of(made->file, word->text);
-    return (layer->name != NULL && layer->path != NULL) || wrong(line, "there is not enough memory");
+    return (layer->name != NULL && layer->path != NULL) ||
+           wrong(line, "there is not enough memory");
 }
 
 /* The library would refuse it too, but at the stripe's layer 2. */
 static bool divides(const plan *made, plan_line *line, const plan_layer *layer)
 {
     return layer->path == NULL || made->resolution % layer->resolution == 0 ||
-           wrong(line, "a resolution of %u does not divide the page's %u", (unsigned)layer->resolution, (unsigned)made->resolution);
+           wrong(line, "a resolution of %u does not divide the page's %u",
+                 (unsigned)layer->resolution, (unsigned)made->resolution);
 }
 
 bool take_layer(const plan *made, plan_line *line, unsigned layer_number, plan_layer *layer)
 {
     layer->line = line->number;
-    return take_picture(made, line, layer) && take_options(line, options_of(layer_number), layer) && divides(made, line, layer);
+    return take_picture(made, line, layer) && take_options(line, options_of(layer_number), layer) &&
+           divides(made, line, layer);
 }

@@ -22,7 +22,8 @@ bool wrong(plan_line *line, const char *form, ...)
     return tell_at(line->what, line->plan, line->number, "%s", text);
 }
 
-/* The end of the word at the text, its first octet (behind an opening quote) in the word; null where it is not well formed. */
+/* The end of the word at the text, its first octet (behind an opening quote) in the word; null
+ * where it is not well formed. */
 static char *split_word(plan_line *line, char *text, plan_word *word)
 {
     word->quoted = *text == '"';
@@ -84,7 +85,8 @@ const plan_word *next_word(plan_line *line)
 
 bool ends_here(plan_line *line)
 {
-    return line->at == line->count || wrong(line, "'%s' is a word too many", line->words[line->at].text);
+    return line->at == line->count ||
+           wrong(line, "'%s' is a word too many", line->words[line->at].text);
 }
 
 static bool is_number(const char *text, uint32_t least, uint32_t most, uint32_t *number)
@@ -107,10 +109,12 @@ bool take_number(plan_line *line, const char *key, uint32_t least, uint32_t most
 {
     const plan_word *word = next_word(line);
     if (word == NULL) {
-        return wrong(line, "'%s' needs a number from %u to %u", key, (unsigned)least, (unsigned)most);
+        return wrong(line, "'%s' needs a number from %u to %u", key, (unsigned)least,
+                     (unsigned)most);
     }
     return is_number(word->text, least, most, number) ||
-           wrong(line, "'%s' must be a number from %u to %u, not '%s'", key, (unsigned)least, (unsigned)most, word->text);
+           wrong(line, "'%s' must be a number from %u to %u, not '%s'", key, (unsigned)least,
+                 (unsigned)most, word->text);
 }
 
 bool take_resolution(plan_line *line, uint32_t *resolution)
@@ -122,13 +126,16 @@ bool take_resolution(plan_line *line, uint32_t *resolution)
             return true;
         }
     }
-    return wrong(line, "a resolution must be 100, 200, 300, 400, 600 or 1200%s%s", word == NULL ? "" : ", not ", word == NULL ? "" : word->text);
+    return wrong(line, "a resolution must be 100, 200, 300, 400, 600 or 1200%s%s",
+                 word == NULL ? "" : ", not ", word == NULL ? "" : word->text);
 }
 
 bool take_coder(plan_line *line, uint32_t *coder)
 {
-    static const struct { const char *name; uint32_t coder; } known[] = {
-        {"mh", CODER_MH}, {"mr", CODER_MR}, {"mmr", CODER_MMR}, {"t85", CODER_T85}};
+    static const struct {
+        const char *name;
+        uint32_t coder;
+    } known[] = {{"mh", CODER_MH}, {"mr", CODER_MR}, {"mmr", CODER_MMR}, {"t85", CODER_T85}};
     const plan_word *word = next_word(line);
     for (size_t k = 0; word != NULL && k < sizeof known / sizeof *known; k++) {
         if (strcmp(word->text, known[k].name) == 0) {
@@ -136,7 +143,8 @@ bool take_coder(plan_line *line, uint32_t *coder)
             return true;
         }
     }
-    return wrong(line, "a coder must be mh, mr, mmr or t85%s%s", word == NULL ? "" : ", not ", word == NULL ? "" : word->text);
+    return wrong(line, "a coder must be mh, mr, mmr or t85%s%s", word == NULL ? "" : ", not ",
+                 word == NULL ? "" : word->text);
 }
 
 static int digit_of(char octet)
@@ -158,7 +166,8 @@ bool take_srgb(plan_line *line, uint8_t base[3])
         srgb[k / 2] = (uint8_t)(srgb[k / 2] * 16 + digit);
     }
     if (!known) {
-        return wrong(line, "'base' needs a colour of six digits, RRGGBB%s%s", word == NULL ? "" : ", not ", word == NULL ? "" : word->text);
+        return wrong(line, "'base' needs a colour of six digits, RRGGBB%s%s",
+                     word == NULL ? "" : ", not ", word == NULL ? "" : word->text);
     }
     lab_of_srgb(srgb, base);
     return true;

@@ -15,14 +15,15 @@ typedef struct {
 } plan_word;
 
 typedef struct {
-    const char *plan;           /* its name, for messages */
-    unsigned number;            /* of the line, from 1 */
+    const char *plan; /* its name, for messages */
+    unsigned number;  /* of the line, from 1 */
     trouble *what;
     plan_word words[MOST_WORDS];
-    unsigned count, at;         /* at: the first word not taken */
+    unsigned count, at; /* at: the first word not taken */
 } plan_line;
 
-/* Splits the text, which is changed and must outlive the words.  Blanks part words, `#` outside quotes begins a comment. */
+/* Splits the text, which is changed and must outlive the words.  Blanks part words, `#` outside
+ * quotes begins a comment. */
 bool split_line(plan_line *line, char *text);
 
 /* A message of this line; false. */
@@ -34,7 +35,8 @@ const plan_word *next_word(plan_line *line);
 /* Whether no word is left; says so where one is. */
 bool ends_here(plan_line *line);
 
-/* What the next words are, of the key that stands before them; each says what is due where it is something else. */
+/* What the next words are, of the key that stands before them; each says what is due where it is
+ * something else. */
 bool take_number(plan_line *line, const char *key, uint32_t least, uint32_t most, uint32_t *number);
 bool take_resolution(plan_line *line, uint32_t *resolution);
 bool take_coder(plan_line *line, uint32_t *coder);

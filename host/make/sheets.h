@@ -18,7 +18,9 @@ typedef struct {
 /* Writes the page and reads it back. */
 bool make_page(const plan *from, const coded_layers *layers, made_page *made, trouble *what);
 
-/* The records of the page, and of the layers above 3 with starts in the pencil data; every layer's data is found. */
-bool make_pencil_sheet(const plan *from, const coded_layers *layers, const made_page *made, octet_list *sheet, trouble *what);
+/* The records of the page, and of the layers above 3 with starts in the pencil data; every layer's
+ * data is found. */
+bool make_pencil_sheet(const plan *from, const coded_layers *layers, const made_page *made,
+                       octet_list *sheet, trouble *what);
 
 #endif

@@ -23,7 +23,8 @@ bool turn_to_lab(lab_table *known, picture *image, trouble *what)
     }
     uint8_t *end = image->samples + image->row_octets * image->height;
     for (uint8_t *sample = image->samples; sample < end; sample += 3) {
-        uint32_t *codes = &known->codes[(uint32_t)sample[0] << 16 | (uint32_t)sample[1] << 8 | sample[2]];
+        uint32_t *codes =
+            &known->codes[(uint32_t)sample[0] << 16 | (uint32_t)sample[1] << 8 | sample[2]];
         if (*codes == 0) {
             *codes = codes_of(sample);
         }

@@ -7,7 +7,7 @@
 
 /* The codes of each colour that was met, found once: pictures have more samples than colours. */
 typedef struct {
-    uint32_t *codes;            /* null before the first picture */
+    uint32_t *codes; /* null before the first picture */
 } lab_table;
 
 /* In place. */

@@ -7,7 +7,7 @@
 enum { TROUBLE_ROOM = 16384, STATUS_REFUSED = 1, STATUS_BAD_OPTION = 2 };
 
 typedef struct {
-    int status;                 /* that the program ends with */
+    int status; /* that the program ends with */
     char text[TROUBLE_ROOM];
 } trouble;
 
@@ -15,11 +15,13 @@ typedef struct {
 bool tell(trouble *what, const char *form, ...) __attribute__((format(printf, 2, 3)));
 
 /* Of a line of a plan, "PLAN:LINE: "; of the whole plan where the line is 0, "PLAN: ". */
-bool tell_at(trouble *what, const char *plan, unsigned line, const char *form, ...) __attribute__((format(printf, 4, 5)));
+bool tell_at(trouble *what, const char *plan, unsigned line, const char *form, ...)
+    __attribute__((format(printf, 4, 5)));
 
 bool tell_no_memory(trouble *what);
 
-/* One line on standard error.  Octets that could end it or drive a terminal are shown as question marks. */
+/* One line on standard error.  Octets that could end it or drive a terminal are shown as question
+ * marks. */
 void say(const char *program, const trouble *what);
 
 #endif

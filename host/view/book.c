@@ -5,7 +5,8 @@
 
 static int refused(const char *name, uint32_t number, const char *unit, uint32_t place)
 {
-    fprintf(stderr, "%s: refused: %s (%u) at %s %u: %s\n", name, spirerook_name(number), (unsigned)number, unit, (unsigned)place, spirerook_text(number));
+    fprintf(stderr, "%s: refused: %s (%u) at %s %u: %s\n", name, spirerook_name(number),
+            (unsigned)number, unit, (unsigned)place, spirerook_text(number));
     return STATUS_REFUSED;
 }
 
@@ -22,9 +23,11 @@ static int read_page(const options *asked, book *opened)
     if (why != NULL) {
         return unreadable(asked->page, why);
     }
-    spirerook_answer read = spirerook_read(opened->page.octets, opened->page.length, opened->sheet, sizeof opened->sheet);
+    spirerook_answer read = spirerook_read(opened->page.octets, opened->page.length, opened->sheet,
+                                           sizeof opened->sheet);
     opened->sheet_octets = (size_t)read.count * SPIREROOK_RECORD_OCTETS;
-    return read.number == SPIREROOK_DONE ? STATUS_WHOLE : refused(asked->page, read.number, "octet", read.place);
+    return read.number == SPIREROOK_DONE ? STATUS_WHOLE
+                                         : refused(asked->page, read.number, "octet", read.place);
 }
 
 /* Record `at` of a pencil sheet cannot stand over this page. */
@@ -34,8 +37,10 @@ static int not_own(const char *name, size_t at, const char *what)
     return STATUS_REFUSED;
 }
 
-/* Layers 1 to 3 of each stripe must be the page's own, octet for octet: the pencil of another page would strike other cues. */
-static int own_layers(const options *asked, const uint8_t *sheet, size_t records, const book *opened)
+/* Layers 1 to 3 of each stripe must be the page's own, octet for octet: the pencil of another page
+ * would strike other cues. */
+static int own_layers(const options *asked, const uint8_t *sheet, size_t records,
+                      const book *opened)
 {
     size_t due = 0, all = opened->sheet_octets / SPIREROOK_RECORD_OCTETS;
     for (size_t k = 0; k < records; k++) {
@@ -46,11 +51,13 @@ static int own_layers(const options *asked, const uint8_t *sheet, size_t records
         if (due == all) {
             return not_own(asked->pencil_sheet, k, "the page has no more stripes");
         }
-        if (memcmp(record, spirerook_record_at(opened->sheet, due++), SPIREROOK_RECORD_OCTETS) != 0) {
+        if (memcmp(record, spirerook_record_at(opened->sheet, due++), SPIREROOK_RECORD_OCTETS) !=
+            0) {
             return not_own(asked->pencil_sheet, k, "layers 1 to 3 are not the page's own");
         }
     }
-    return due == all ? STATUS_WHOLE : not_own(asked->pencil_sheet, records, "the page has more stripes");
+    return due == all ? STATUS_WHOLE
+                      : not_own(asked->pencil_sheet, records, "the page has more stripes");
 }
 
 /* The judge looks at no more octets than this, one record over the most that a sheet has. */
@@ -61,9 +68,11 @@ static int read_pencil_sheet(const options *asked, book *opened)
     if (why != NULL) {
         return unreadable(asked->pencil_sheet, why);
     }
-    spirerook_part judged = spirerook_data(sheet.octets, sheet.length, NULL, 0, NULL, 0, 0, 0);
-    int status = judged.number == SPIREROOK_BAD_SHEET ? refused(asked->pencil_sheet, judged.number, "record", judged.place)
-                                                      : own_layers(asked, sheet.octets, sheet.length / SPIREROOK_RECORD_OCTETS, opened);
+    spirerook_answer judged = spirerook_judge(sheet.octets, sheet.length);
+    int status = judged.number == SPIREROOK_BAD_SHEET
+                     ? refused(asked->pencil_sheet, judged.number, "record", judged.place)
+                     : own_layers(asked, sheet.octets, sheet.length / SPIREROOK_RECORD_OCTETS,
+                                  opened);
     if (status == STATUS_WHOLE) {
         memcpy(opened->sheet, sheet.octets, sheet.length);
         opened->sheet_octets = sheet.length;

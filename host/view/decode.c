@@ -31,7 +31,9 @@ void spread_bits(const uint8_t *bits, uint32_t count, uint8_t *samples)
 
 static finding decode_here(const coded_layer *layer, uint8_t *samples, size_t memory)
 {
-    return !layer->mask ? decode_jpeg(layer, samples, memory) : layer->coder == 8 ? decode_t85(layer, samples) : decode_fax(layer, samples);
+    return !layer->mask        ? decode_jpeg(layer, samples, memory)
+           : layer->coder == 8 ? decode_t85(layer, samples)
+                               : decode_fax(layer, samples);
 }
 
 static void lower(int resource, rlim_t bound)

@@ -1,5 +1,5 @@
-/* A layer read by its decoder in a process of its own, which may take so much memory and so long: whatever becomes of the decoder, its text and its exit
- * stay there. */
+/* A layer read by its decoder in a process of its own, which may take so much memory and so long:
+ * whatever becomes of the decoder, its text and its exit stay there. */
 #ifndef DECODE_H
 #define DECODE_H
 

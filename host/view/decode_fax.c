@@ -1,4 +1,5 @@
-/* T.4 and T.6 through libtiff: it decodes the strips of TIFF files, so a file of one strip is put around the data. */
+/* T.4 and T.6 through libtiff: it decodes the strips of TIFF files, so a file of one strip is put
+ * around the data. */
 #include "decoders.h"
 
 #include <stdlib.h>
@@ -33,11 +34,18 @@ static void put_around(fax_file *file)
     const coded_layer *layer = file->layer;
     uint32_t rows = layer->height + 1, group4 = layer->coder == 4;
     const uint32_t tags[TAGS][2] = {
-        {TIFFTAG_IMAGEWIDTH, layer->width}, {TIFFTAG_IMAGELENGTH, rows}, {TIFFTAG_BITSPERSAMPLE, 1},
-        {TIFFTAG_COMPRESSION, group4 ? COMPRESSION_CCITTFAX4 : COMPRESSION_CCITTFAX3}, {TIFFTAG_PHOTOMETRIC, PHOTOMETRIC_MINISWHITE},
-        {TIFFTAG_FILLORDER, FILLORDER_MSB2LSB}, {TIFFTAG_STRIPOFFSETS, AROUND}, {TIFFTAG_SAMPLESPERPIXEL, 1}, {TIFFTAG_ROWSPERSTRIP, rows},
+        {TIFFTAG_IMAGEWIDTH, layer->width},
+        {TIFFTAG_IMAGELENGTH, rows},
+        {TIFFTAG_BITSPERSAMPLE, 1},
+        {TIFFTAG_COMPRESSION, group4 ? COMPRESSION_CCITTFAX4 : COMPRESSION_CCITTFAX3},
+        {TIFFTAG_PHOTOMETRIC, PHOTOMETRIC_MINISWHITE},
+        {TIFFTAG_FILLORDER, FILLORDER_MSB2LSB},
+        {TIFFTAG_STRIPOFFSETS, AROUND},
+        {TIFFTAG_SAMPLESPERPIXEL, 1},
+        {TIFFTAG_ROWSPERSTRIP, rows},
         {TIFFTAG_STRIPBYTECOUNTS, (uint32_t)layer->length},
-        {group4 ? TIFFTAG_GROUP4OPTIONS : TIFFTAG_GROUP3OPTIONS, layer->coder == 2 ? GROUP3OPT_2DENCODING : 0}};
+        {group4 ? TIFFTAG_GROUP4OPTIONS : TIFFTAG_GROUP3OPTIONS,
+         layer->coder == 2 ? GROUP3OPT_2DENCODING : 0}};
     memcpy(file->around, "II*\0\x08\0\0\0", DIRECTORY);
     put_little(file->around + DIRECTORY, 2, TAGS);
     for (int k = 0; k < TAGS; k++) {
@@ -57,8 +65,10 @@ static tmsize_t read_part(thandle_t handle, void *to, tmsize_t count)
     uint64_t part = (uint64_t)count < length - from ? (uint64_t)count : length - from;
     for (uint64_t k = 0; k < part;) {
         bool front = from + k < AROUND;
-        uint64_t left = front ? AROUND - (from + k) : part - k, piece = left < part - k ? left : part - k;
-        memcpy((uint8_t *)to + k, front ? file->around + from + k : file->layer->octets + (from + k - AROUND), piece);
+        uint64_t left = front ? AROUND - (from + k) : part - k,
+                 piece = left < part - k ? left : part - k;
+        memcpy((uint8_t *)to + k,
+               front ? file->around + from + k : file->layer->octets + (from + k - AROUND), piece);
         k += piece;
     }
     file->at = from + part;
@@ -74,7 +84,9 @@ static tmsize_t write_nothing(thandle_t handle, void *from, tmsize_t count)
 static toff_t seek(thandle_t handle, toff_t offset, int whence)
 {
     fax_file *file = handle;
-    file->at = whence == SEEK_SET ? offset : whence == SEEK_CUR ? file->at + offset : file_length(file) + offset;
+    file->at = whence == SEEK_SET   ? offset
+               : whence == SEEK_CUR ? file->at + offset
+                                    : file_length(file) + offset;
     return file->at;
 }
 
@@ -108,7 +120,9 @@ static finding read_rows(TIFF *tiff, fax_file *file, uint8_t *bits, uint8_t *sam
         }
         spread_bits(bits, layer->width, samples + (size_t)y * layer->width);
     }
-    return TIFFReadScanline(tiff, bits, layer->height, 0) == 1 && !file->complained ? LAYER_OTHER_SIZE : LAYER_READ;
+    return TIFFReadScanline(tiff, bits, layer->height, 0) == 1 && !file->complained
+               ? LAYER_OTHER_SIZE
+               : LAYER_READ;
 }
 
 finding decode_fax(const coded_layer *layer, uint8_t *samples)
@@ -122,9 +136,12 @@ finding decode_fax(const coded_layer *layer, uint8_t *samples)
     TIFFSetWarningHandler(NULL);
     TIFFSetErrorHandlerExt(note_complaint);
     TIFFSetWarningHandlerExt(note_complaint);
-    TIFF *tiff = TIFFClientOpen("layer", "rm", &file, read_part, write_nothing, seek, close_nothing, size_of, NULL, NULL);
+    TIFF *tiff = TIFFClientOpen("layer", "rm", &file, read_part, write_nothing, seek, close_nothing,
+                                size_of, NULL, NULL);
     uint8_t *bits = malloc((layer->width + 7) / 8);
-    finding found = tiff == NULL || bits == NULL ? LAYER_NO_MEMORY : file.complained ? LAYER_DAMAGED : read_rows(tiff, &file, bits, samples);
+    finding found = tiff == NULL || bits == NULL ? LAYER_NO_MEMORY
+                    : file.complained            ? LAYER_DAMAGED
+                                                 : read_rows(tiff, &file, bits, samples);
     if (tiff != NULL) {
         TIFFClose(tiff);
     }

@@ -1,4 +1,5 @@
-/* JPEG through libjpeg.  Its components are CIELAB codes, which it takes for YCbCr and is kept from converting. */
+/* JPEG through libjpeg.  Its components are CIELAB codes, which it takes for YCbCr and is kept from
+ * converting. */
 #include "decoders.h"
 
 #include <setjmp.h>
@@ -19,13 +20,20 @@ typedef struct {
 static finding finding_of(int code)
 {
     switch (code) {
-        case JERR_OUT_OF_MEMORY: case JERR_NO_BACKING_STORE: case JERR_WIDTH_OVERFLOW:
-            return LAYER_NO_MEMORY;
-        case JERR_SOF_UNSUPPORTED: case JERR_BAD_PRECISION: case JERR_ARITH_NOTIMPL: case JERR_CONVERSION_NOTIMPL: case JERR_IMAGE_TOO_BIG:
-        case JERR_COMPONENT_COUNT: case JERR_BAD_J_COLORSPACE: case JERR_CCIR601_NOTIMPL: case JERR_FRACT_SAMPLE_NOTIMPL: case JERR_NOT_COMPILED:
-            return LAYER_NO_DECODER;
-        default:
-            return LAYER_DAMAGED;
+    case JERR_OUT_OF_MEMORY:
+    case JERR_NO_BACKING_STORE:
+    case JERR_WIDTH_OVERFLOW: return LAYER_NO_MEMORY;
+    case JERR_SOF_UNSUPPORTED:
+    case JERR_BAD_PRECISION:
+    case JERR_ARITH_NOTIMPL:
+    case JERR_CONVERSION_NOTIMPL:
+    case JERR_IMAGE_TOO_BIG:
+    case JERR_COMPONENT_COUNT:
+    case JERR_BAD_J_COLORSPACE:
+    case JERR_CCIR601_NOTIMPL:
+    case JERR_FRACT_SAMPLE_NOTIMPL:
+    case JERR_NOT_COMPILED: return LAYER_NO_DECODER;
+    default: return LAYER_DAMAGED;
     }
 }
 
@@ -49,7 +57,8 @@ static void say_nothing(j_common_ptr common)
     (void)common;
 }
 
-/* Called before each piece of work.  Each scan passes over the whole picture, and a page has room for millions. */
+/* Called before each piece of work.  Each scan passes over the whole picture, and a page has room
+ * for millions. */
 static void count_scans(j_common_ptr common)
 {
     if (((j_decompress_ptr)common)->input_scan_number > MOST_SCANS) {
@@ -74,7 +83,8 @@ static void read_row(struct jpeg_decompress_struct *decoder, uint8_t *samples)
     }
 }
 
-/* libjpeg says nothing where scans are missing at the end: each component must have come, in a progressive picture to its last bit. */
+/* libjpeg says nothing where scans are missing at the end: each component must have come, in a
+ * progressive picture to its last bit. */
 static bool all_came(const struct jpeg_decompress_struct *decoder)
 {
     for (int c = 0; c < decoder->num_components; c++) {
@@ -90,7 +100,8 @@ static bool all_came(const struct jpeg_decompress_struct *decoder)
     return true;
 }
 
-static finding read_picture(struct jpeg_decompress_struct *decoder, const coded_layer *layer, uint8_t *samples)
+static finding read_picture(struct jpeg_decompress_struct *decoder, const coded_layer *layer,
+                            uint8_t *samples)
 {
     jpeg_read_header(decoder, TRUE);
     if (decoder->image_width != layer->width || decoder->image_height != layer->height) {
@@ -99,7 +110,9 @@ static finding read_picture(struct jpeg_decompress_struct *decoder, const coded_
     if (decoder->num_components != 1 && decoder->num_components != 3) {
         return LAYER_NO_DECODER;
     }
-    decoder->jpeg_color_space = decoder->out_color_space = decoder->num_components == 1 ? JCS_GRAYSCALE : JCS_YCbCr;
+    decoder->jpeg_color_space = decoder->out_color_space = decoder->num_components == 1
+                                                               ? JCS_GRAYSCALE
+                                                               : JCS_YCbCr;
     jpeg_start_decompress(decoder);
     while (decoder->output_scanline < decoder->output_height) {
         read_row(decoder, samples + (size_t)3 * layer->width * decoder->output_scanline);

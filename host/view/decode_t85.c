@@ -12,11 +12,13 @@ typedef struct {
 } t85_rows;
 
 /* Rows come in order; one that the record does not have stops the decoder. */
-static int take_row(const struct jbg85_dec_state *decoder, unsigned char *bits, size_t octets, unsigned long y, void *taken)
+static int take_row(const struct jbg85_dec_state *decoder, unsigned char *bits, size_t octets,
+                    unsigned long y, void *taken)
 {
     t85_rows *rows = taken;
     const coded_layer *layer = rows->layer;
-    if (jbg85_dec_getwidth(decoder) != layer->width || octets != (layer->width + 7) / 8 || y != rows->rows || y >= layer->height) {
+    if (jbg85_dec_getwidth(decoder) != layer->width || octets != (layer->width + 7) / 8 ||
+        y != rows->rows || y >= layer->height) {
         rows->other_size = true;
         return 1;
     }
@@ -45,7 +47,8 @@ finding decode_t85(const coded_layer *layer, uint8_t *samples)
     int answer = decode_all(&decoder, layer, &taken);
     free(memory);
     bool sized = jbg85_dec_validwidth(&decoder);
-    if (rows.other_size || (sized && (jbg85_dec_getwidth(&decoder) != layer->width || (answer == JBG_EOK && rows.rows != layer->height)))) {
+    if (rows.other_size || (sized && (jbg85_dec_getwidth(&decoder) != layer->width ||
+                                      (answer == JBG_EOK && rows.rows != layer->height)))) {
         return LAYER_OTHER_SIZE;
     }
     return answer == JBG_EOK && sized && taken == layer->length ? LAYER_READ : LAYER_DAMAGED;

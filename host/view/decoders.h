@@ -1,5 +1,6 @@
-/* Decoders of coded layers: each fills the samples of its layer, or finds why not.  They trust nothing in the data, but the libraries below them are
- * large: decode.h runs them in a process of their own. */
+/* Decoders of coded layers: each fills the samples of its layer, or finds why not.  They trust
+ * nothing in the data, but the libraries below them are large: decode.h runs them in a process of
+ * their own. */
 #ifndef DECODERS_H
 #define DECODERS_H
 
@@ -19,11 +20,20 @@ typedef struct {
 typedef enum {
     LAYER_READ,
     /* what a decoder finds */
-    LAYER_DAMAGED, LAYER_OTHER_SIZE, LAYER_NO_DECODER, LAYER_MANY_SCANS, LAYER_NO_MEMORY,
+    LAYER_DAMAGED,
+    LAYER_OTHER_SIZE,
+    LAYER_NO_DECODER,
+    LAYER_MANY_SCANS,
+    LAYER_NO_MEMORY,
     /* what becomes of a decoder */
-    LAYER_BROKE_OFF, LAYER_TOO_SLOW,
+    LAYER_BROKE_OFF,
+    LAYER_TOO_SLOW,
     /* why none was started */
-    LAYER_NO_TIME, LAYER_TOO_LARGE, LAYER_NO_ROOM, LAYER_SHORT, LAYER_ASKED
+    LAYER_NO_TIME,
+    LAYER_TOO_LARGE,
+    LAYER_NO_ROOM,
+    LAYER_SHORT,
+    LAYER_ASKED
 } finding;
 
 enum { MOST_SCANS = 200 };
@@ -34,7 +44,8 @@ finding decode_fax(const coded_layer *layer, uint8_t *samples);
 /* JBIG as T.85 has it (coder 8), the same. */
 finding decode_t85(const coded_layer *layer, uint8_t *samples);
 
-/* JPEG: three octets a sample, the codes as they stand.  `memory` bounds what libjpeg may take besides. */
+/* JPEG: three octets a sample, the codes as they stand.  `memory` bounds what libjpeg may take
+ * besides. */
 finding decode_jpeg(const coded_layer *layer, uint8_t *samples, size_t memory);
 
 /* A row of bits, the first in the highest place, into octets of 0 and 1. */

@@ -7,7 +7,8 @@
 #include "clock.h"
 #include "decode.h"
 
-/* Where the samples of each layer will stand: one behind the other, as far as the memory allowed reaches. */
+/* Where the samples of each layer will stand: one behind the other, as far as the memory allowed
+ * reaches. */
 typedef struct {
     uint64_t start[SPIREROOK_LAYERS], octets;
 } places;
@@ -23,7 +24,8 @@ static const uint8_t *record_of(const book *opened, size_t stripe, size_t k)
 }
 
 /* Samples that need more than `memory` are unread for the reason `why`. */
-static places place_samples(const book *opened, size_t stripe, uint64_t memory, finding why, stripe_layers *read)
+static places place_samples(const book *opened, size_t stripe, uint64_t memory, finding why,
+                            stripe_layers *read)
 {
     places placed = {.octets = 0};
     for (size_t k = 0; k < layers_of(opened, stripe); k++) {
@@ -41,12 +43,15 @@ static places place_samples(const book *opened, size_t stripe, uint64_t memory, 
     return placed;
 }
 
-/* Memory that decoders share.  Where the system gives less than is allowed, the layers that fit into half of it are tried, and so on. */
-static places share_samples(const options *asked, const book *opened, size_t stripe, stripe_layers *read)
+/* Memory that decoders share.  Where the system gives less than is allowed, the layers that fit
+ * into half of it are tried, and so on. */
+static places share_samples(const options *asked, const book *opened, size_t stripe,
+                            stripe_layers *read)
 {
     places placed = place_samples(opened, stripe, asked->memory, LAYER_TOO_LARGE, read);
     while (placed.octets > 0) {
-        void *shared = mmap(NULL, placed.octets, PROT_READ | PROT_WRITE, MAP_SHARED | MAP_ANONYMOUS | MAP_NORESERVE, -1, 0);
+        void *shared = mmap(NULL, placed.octets, PROT_READ | PROT_WRITE,
+                            MAP_SHARED | MAP_ANONYMOUS | MAP_NORESERVE, -1, 0);
         if (shared != MAP_FAILED) {
             read->samples = shared;
             read->octets = placed.octets;
@@ -57,10 +62,12 @@ static places share_samples(const options *asked, const book *opened, size_t str
     return placed;
 }
 
-static finding read_layer(const options *asked, const book *opened, size_t stripe, size_t k, uint8_t *samples, double *seconds_left)
+static finding read_layer(const options *asked, const book *opened, size_t stripe, size_t k,
+                          uint8_t *samples, double *seconds_left)
 {
     const uint8_t *record = record_of(opened, stripe, k);
-    spirerook_part part = spirerook_data(opened->sheet, opened->sheet_octets, opened->page.octets, opened->page.length, opened->pencil.octets,
+    spirerook_part part = spirerook_data(opened->sheet, opened->sheet_octets, opened->page.octets,
+                                         opened->page.length, opened->pencil.octets,
                                          opened->pencil.length, (uint32_t)stripe, (uint32_t)k + 1);
     if (part.number != SPIREROOK_DONE) {
         return LAYER_SHORT;
@@ -68,16 +75,23 @@ static finding read_layer(const options *asked, const book *opened, size_t strip
     if (*seconds_left <= 0) {
         return LAYER_NO_TIME;
     }
-    coded_layer layer = {.coder = spirerook_record_coder(record), .width = spirerook_record_width(record), .height = spirerook_record_height(record),
-                         .mask = spirerook_record_mask(record), .length = part.count,
-                         .octets = (part.source == SPIREROOK_FROM_PENCIL ? opened->pencil.octets : opened->page.octets) + part.start};
-    double began = seconds_now(), most = *seconds_left < DECODER_SECONDS ? *seconds_left : DECODER_SECONDS;
+    coded_layer layer = {.coder = spirerook_record_coder(record),
+                         .width = spirerook_record_width(record),
+                         .height = spirerook_record_height(record),
+                         .mask = spirerook_record_mask(record),
+                         .length = part.count,
+                         .octets = (part.source == SPIREROOK_FROM_PENCIL ? opened->pencil.octets
+                                                                         : opened->page.octets) +
+                                   part.start};
+    double began = seconds_now(),
+           most = *seconds_left < DECODER_SECONDS ? *seconds_left : DECODER_SECONDS;
     finding found = decode_layer(&layer, samples, asked->memory, most);
     *seconds_left -= seconds_now() - began;
     return found == LAYER_TOO_SLOW && most < DECODER_SECONDS ? LAYER_NO_TIME : found;
 }
 
-void read_layers(const options *asked, const book *opened, size_t stripe, double *seconds_left, stripe_layers *read)
+void read_layers(const options *asked, const book *opened, size_t stripe, double *seconds_left,
+                 stripe_layers *read)
 {
     memset(read, 0, sizeof *read);
     for (size_t k = 0; k < layers_of(opened, stripe); k++) {
@@ -88,9 +102,11 @@ void read_layers(const options *asked, const book *opened, size_t stripe, double
         if (!spirerook_record_coded(record_of(opened, stripe, k)) || read->found[k] != LAYER_READ) {
             continue;
         }
-        read->found[k] = read_layer(asked, opened, stripe, k, read->samples + placed.start[k], seconds_left);
+        read->found[k] = read_layer(asked, opened, stripe, k, read->samples + placed.start[k],
+                                    seconds_left);
         if (read->found[k] == LAYER_READ) {
-            spirerook_put_plane(read->planes + read->planes_octets, (uint32_t)k + 1, (uint32_t)placed.start[k]);
+            spirerook_put_plane(read->planes + read->planes_octets, (uint32_t)k + 1,
+                                (uint32_t)placed.start[k]);
             read->planes_octets += SPIREROOK_PLANE_OCTETS;
         }
     }
@@ -112,22 +128,26 @@ static const char *coder_name(const uint8_t *record)
 static void tell_why(const options *asked, finding found, const uint8_t *record)
 {
     switch (found) {
-        case LAYER_READ: break;
-        case LAYER_DAMAGED: printf("its decoder finds the data damaged"); break;
-        case LAYER_OTHER_SIZE: printf("its data has another size"); break;
-        case LAYER_NO_DECODER: printf("no decoder here reads this kind of data"); break;
-        case LAYER_MANY_SCANS: printf("it has over %d scans", MOST_SCANS); break;
-        case LAYER_NO_MEMORY: printf("its decoder has not enough memory"); break;
-        case LAYER_BROKE_OFF: printf("its decoder broke off"); break;
-        case LAYER_TOO_SLOW: printf("its decoder took over %d seconds", DECODER_SECONDS); break;
-        case LAYER_NO_TIME: printf("no time is left for its decoder"); break;
-        case LAYER_TOO_LARGE:
-            printf("its %" PRIu64 " octets of samples, with those of lower layers, pass the %" PRIu64 " allowed to a stripe (--memory)",
-                   spirerook_record_samples(record), asked->memory);
-            break;
-        case LAYER_NO_ROOM: printf("there is no memory for its %" PRIu64 " octets of samples", spirerook_record_samples(record)); break;
-        case LAYER_SHORT: printf("its data passes the end of the file"); break;
-        case LAYER_ASKED: printf("asked for by --unread"); break;
+    case LAYER_READ: break;
+    case LAYER_DAMAGED: printf("its decoder finds the data damaged"); break;
+    case LAYER_OTHER_SIZE: printf("its data has another size"); break;
+    case LAYER_NO_DECODER: printf("no decoder here reads this kind of data"); break;
+    case LAYER_MANY_SCANS: printf("it has over %d scans", MOST_SCANS); break;
+    case LAYER_NO_MEMORY: printf("its decoder has not enough memory"); break;
+    case LAYER_BROKE_OFF: printf("its decoder broke off"); break;
+    case LAYER_TOO_SLOW: printf("its decoder took over %d seconds", DECODER_SECONDS); break;
+    case LAYER_NO_TIME: printf("no time is left for its decoder"); break;
+    case LAYER_TOO_LARGE:
+        printf("its %" PRIu64 " octets of samples, with those of lower layers, pass the %" PRIu64
+               " allowed to a stripe (--memory)",
+               spirerook_record_samples(record), asked->memory);
+        break;
+    case LAYER_NO_ROOM:
+        printf("there is no memory for its %" PRIu64 " octets of samples",
+               spirerook_record_samples(record));
+        break;
+    case LAYER_SHORT: printf("its data passes the end of the file"); break;
+    case LAYER_ASKED: printf("asked for by --unread"); break;
     }
 }
 
@@ -146,15 +166,17 @@ void tell_layers(const options *asked, const book *opened, size_t stripe, const 
 {
     for (size_t k = 0; k < layers_of(opened, stripe); k++) {
         const uint8_t *r = record_of(opened, stripe, k);
-        printf("%s: stripe %zu, layer %zu: ", k < 3 ? asked->page : asked->pencil_file, stripe, k + 1);
+        printf("%s: stripe %zu, layer %zu: ", k < 3 ? asked->page : asked->pencil_file, stripe,
+               k + 1);
         if (!spirerook_record_coded(r)) {
             tell_uncoded(opened, stripe, k);
             continue;
         }
-        printf("%s, %u by %u at %u to the inch", coder_name(r), spirerook_record_width(r), spirerook_record_height(r), spirerook_record_resolution(r));
+        printf("%s, %u by %u at %u to the inch", coder_name(r), spirerook_record_width(r),
+               spirerook_record_height(r), spirerook_record_resolution(r));
         if (read == NULL) {
-            printf(", %u right and %u down, %u octets from octet %u\n", spirerook_record_x(r), spirerook_record_y(r), spirerook_record_length(r),
-                   spirerook_record_start(r));
+            printf(", %u right and %u down, %u octets from octet %u\n", spirerook_record_x(r),
+                   spirerook_record_y(r), spirerook_record_length(r), spirerook_record_start(r));
         } else if (read->found[k] == LAYER_READ) {
             printf(": read\n");
         } else {

@@ -58,7 +58,8 @@ static bool stripe_and_layer(const char *text, options *asked)
 {
     uint64_t stripe, layer;
     const char *rest = number_at(text, SPIREROOK_STRIPES - 1, &stripe);
-    if (rest == NULL || *rest != ':' || !whole_number(rest + 1, SPIREROOK_LAYERS, &layer) || layer == 0) {
+    if (rest == NULL || *rest != ':' || !whole_number(rest + 1, SPIREROOK_LAYERS, &layer) ||
+        layer == 0) {
         return false;
     }
     asked->unread[stripe][layer] = true;
@@ -67,21 +68,26 @@ static bool stripe_and_layer(const char *text, options *asked)
 
 static bool looks_like_layer(const char *text)
 {
-    return text != NULL && text[0] != 0 && strspn(text, "0123456789:") == strlen(text) && strchr(text, ':') != NULL;
+    return text != NULL && text[0] != 0 && strspn(text, "0123456789:") == strlen(text) &&
+           strchr(text, ':') != NULL;
 }
 
 static options_answer bad(const char *what, const char *word)
 {
-    fprintf(stderr, "spirerook-view: %s%s%s\n%s", what, word == NULL ? "" : ": ", word == NULL ? "" : word, usage);
+    fprintf(stderr, "spirerook-view: %s%s%s\n%s", what, word == NULL ? "" : ": ",
+            word == NULL ? "" : word, usage);
     return OPTIONS_BAD;
 }
 
-/* How many words the option takes with its own; 0 where something is wrong with it, which is said. */
+/* How many words the option takes with its own; 0 where something is wrong with it, which is
+ * said. */
 static int take_option(char **words, int left, options *asked)
 {
     const char *option = words[0];
     uint64_t number;
-    int arguments = strcmp(option, "--pencil") == 0 ? 2 : strcmp(option, "--list") == 0 || strcmp(option, "--times") == 0 ? 0 : 1;
+    int arguments = strcmp(option, "--pencil") == 0                                   ? 2
+                    : strcmp(option, "--list") == 0 || strcmp(option, "--times") == 0 ? 0
+                                                                                      : 1;
     if (left <= arguments) {
         return bad("the option lacks what it is about", option), 0;
     }
@@ -94,13 +100,15 @@ static int take_option(char **words, int left, options *asked)
     } else if (strcmp(option, "--pencil") == 0) {
         asked->pencil_sheet = words[1];
         asked->pencil_file = words[2];
-    } else if (strcmp(option, "--stripe") == 0 && whole_number(words[1], SPIREROOK_STRIPES - 1, &number)) {
+    } else if (strcmp(option, "--stripe") == 0 &&
+               whole_number(words[1], SPIREROOK_STRIPES - 1, &number)) {
         asked->one_stripe = true;
         asked->stripe = (uint32_t)number;
     } else if (strcmp(option, "--memory") == 0 && memory_size(words[1], &number)) {
         asked->memory = number;
     } else if (strcmp(option, "--unread") == 0 && stripe_and_layer(words[1], asked)) {
-        while (looks_like_layer(words[arguments + 1]) && stripe_and_layer(words[arguments + 1], asked)) {
+        while (looks_like_layer(words[arguments + 1]) &&
+               stripe_and_layer(words[arguments + 1], asked)) {
             arguments++;
         }
     } else {
@@ -111,7 +119,8 @@ static int take_option(char **words, int left, options *asked)
 
 static bool is_option(const char *word)
 {
-    static const char *const known[] = {"-o", "--pencil", "--list", "--unread", "--stripe", "--memory", "--times"};
+    static const char *const known[] = {"-o",       "--pencil", "--list", "--unread",
+                                        "--stripe", "--memory", "--times"};
     for (size_t k = 0; k < sizeof known / sizeof *known; k++) {
         if (strcmp(word, known[k]) == 0) {
             return true;
@@ -125,7 +134,9 @@ static options_answer check_together(const options *asked)
     if (asked->page == NULL) {
         return bad("no page is named", NULL);
     }
-    return asked->list && asked->out != NULL ? bad("--list writes no picture: leave it out, or -o", NULL) : OPTIONS_GOOD;
+    return asked->list && asked->out != NULL
+               ? bad("--list writes no picture: leave it out, or -o", NULL)
+               : OPTIONS_GOOD;
 }
 
 options_answer read_options(int count, char **words, options *asked)
@@ -133,7 +144,9 @@ options_answer read_options(int count, char **words, options *asked)
     *asked = (options){.memory = DEFAULT_MEMORY};
     for (int k = 1; k < count;) {
         if (strcmp(words[k], "--help") == 0 || strcmp(words[k], "--version") == 0) {
-            fputs(strcmp(words[k], "--help") == 0 ? usage : "spirerook-view " SPIREROOK_VERSION "\n", stdout);
+            fputs(strcmp(words[k], "--help") == 0 ? usage
+                                                  : "spirerook-view " SPIREROOK_VERSION "\n",
+                  stdout);
             fputs(strcmp(words[k], "--help") == 0 ? help : "", stdout);
             return OPTIONS_ANSWERED;
         }

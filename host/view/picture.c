@@ -1,5 +1,6 @@
-/* PNG (ISO/IEC 15948) over zlib.  Each row is coded as its difference from the row above; a long run of rows that are all alike is coded once and the
- * code repeated, so that the largest page, which is mostly such rows, is written in seconds. */
+/* PNG (ISO/IEC 15948) over zlib.  Each row is coded as its difference from the row above; a long
+ * run of rows that are all alike is coded once and the code repeated, so that the largest page,
+ * which is mostly such rows, is written in seconds. */
 #include "picture.h"
 
 #include <inttypes.h>
@@ -7,7 +8,8 @@
 #include <string.h>
 #include <zlib.h>
 
-/* More effort than this costs time and saves little: pages are paper and text.  A run of fewer rows is not worth the break that it makes. */
+/* More effort than this costs time and saves little: pages are paper and text.  A run of fewer rows
+ * is not worth the break that it makes. */
 enum { EFFORT = 3, LONG_RUN = 8, ROOM = 1 << 18, FILTER_UP = 2, RAW = -15 };
 
 struct picture {
@@ -16,8 +18,8 @@ struct picture {
     uint8_t *above, *filtered; /* a row; a row coded, with the filter's octet in front */
     uint32_t runs;             /* rows like the one above that are still to be coded */
     z_stream deflater;
-    uLong sum, like_sum;       /* of all coded octets; of a row like the one above */
-    uint8_t *like;             /* such a row, compressed */
+    uLong sum, like_sum; /* of all coded octets; of a row like the one above */
+    uint8_t *like;       /* such a row, compressed */
     size_t like_octets, used;
     bool first;
     uint8_t room[ROOM];
@@ -37,7 +39,9 @@ static bool put_chunk(picture *made, const char *name, const uint8_t *octets, si
     memcpy(head + 4, name, 4);
     uLong sum = crc32(crc32(0, NULL, 0), head + 4, 4);
     put4(foot, (uint32_t)(count == 0 ? sum : crc32(sum, octets, (uInt)count)));
-    return fwrite(head, 1, 8, made->file) == 8 && (count == 0 || fwrite(octets, 1, count, made->file) == count) && fwrite(foot, 1, 4, made->file) == 4;
+    return fwrite(head, 1, 8, made->file) == 8 &&
+           (count == 0 || fwrite(octets, 1, count, made->file) == count) &&
+           fwrite(foot, 1, 4, made->file) == 4;
 }
 
 static bool empty_room(picture *made)
@@ -87,14 +91,16 @@ static bool compress_row(picture *made, size_t count, int flush)
 static bool make_like(picture *made)
 {
     z_stream deflater = {.next_in = made->filtered, .avail_in = (uInt)(made->row_octets + 1)};
-    if (deflateInit2(&deflater, Z_BEST_COMPRESSION, Z_DEFLATED, RAW, 9, Z_DEFAULT_STRATEGY) != Z_OK) {
+    if (deflateInit2(&deflater, Z_BEST_COMPRESSION, Z_DEFLATED, RAW, 9, Z_DEFAULT_STRATEGY) !=
+        Z_OK) {
         return false;
     }
     size_t room = deflateBound(&deflater, (uLong)made->row_octets + 1) + 16;
     made->like = malloc(room);
     deflater.next_out = made->like;
     deflater.avail_out = (uInt)room;
-    bool good = made->like != NULL && deflate(&deflater, Z_FULL_FLUSH) == Z_OK && deflater.avail_in == 0;
+    bool good = made->like != NULL && deflate(&deflater, Z_FULL_FLUSH) == Z_OK &&
+                deflater.avail_in == 0;
     made->like_octets = room - deflater.avail_out;
     made->like_sum = adler32(adler32(0, NULL, 0), made->filtered, (uInt)(made->row_octets + 1));
     deflateEnd(&deflater);
@@ -118,26 +124,31 @@ static bool put_runs(picture *made)
         if (is_long) {
             made->sum = adler32_combine(made->sum, made->like_sum, (z_off_t)(made->row_octets + 1));
         }
-        good = is_long ? put_octets(made, made->like, made->like_octets) : compress_row(made, made->row_octets + 1, Z_NO_FLUSH);
+        good = is_long ? put_octets(made, made->like, made->like_octets)
+                       : compress_row(made, made->row_octets + 1, Z_NO_FLUSH);
     }
     return good;
 }
 
 static bool put_head(picture *made, uint32_t width, uint32_t height, uint32_t resolution)
 {
-    uint8_t size[13] = {[8] = 8, [9] = 2}, metre[9] = {[8] = 1}, relative = 1; /* eight bits of red, green and blue; pixels a metre */
+    uint8_t size[13] = {[8] = 8, [9] = 2}, metre[9] = {[8] = 1},
+            relative = 1; /* eight bits of red, green and blue; pixels a metre */
     put4(size, width);
     put4(size + 4, height);
     put4(metre, (uint32_t)(resolution / 0.0254 + 0.5));
     memcpy(metre + 4, metre, 4);
-    return fwrite("\x89PNG\r\n\x1A\n", 1, 8, made->file) == 8 && put_chunk(made, "IHDR", size, sizeof size) && put_chunk(made, "sRGB", &relative, 1) &&
-           put_chunk(made, "pHYs", metre, sizeof metre) && put_octets(made, (const uint8_t *)"\x78\x01", 2);
+    return fwrite("\x89PNG\r\n\x1A\n", 1, 8, made->file) == 8 &&
+           put_chunk(made, "IHDR", size, sizeof size) && put_chunk(made, "sRGB", &relative, 1) &&
+           put_chunk(made, "pHYs", metre, sizeof metre) &&
+           put_octets(made, (const uint8_t *)"\x78\x01", 2);
 }
 
 picture *begin_picture(FILE *file, uint32_t width, uint32_t height, uint32_t resolution)
 {
     picture *made = calloc(1, sizeof *made);
-    if (made == NULL || deflateInit2(&made->deflater, EFFORT, Z_DEFLATED, RAW, 9, Z_DEFAULT_STRATEGY) != Z_OK) {
+    if (made == NULL ||
+        deflateInit2(&made->deflater, EFFORT, Z_DEFLATED, RAW, 9, Z_DEFAULT_STRATEGY) != Z_OK) {
         free(made);
         return NULL;
     }
@@ -147,7 +158,8 @@ picture *begin_picture(FILE *file, uint32_t width, uint32_t height, uint32_t res
     made->filtered = calloc(1, made->row_octets + 1);
     made->sum = adler32(0, NULL, 0);
     made->first = true;
-    if (made->above == NULL || made->filtered == NULL || !put_head(made, width, height, resolution)) {
+    if (made->above == NULL || made->filtered == NULL ||
+        !put_head(made, width, height, resolution)) {
         drop_picture(made);
         return NULL;
     }
@@ -180,7 +192,8 @@ bool end_picture(picture *made, uint64_t unseen)
     size_t count = name + (size_t)snprintf(text + name, sizeof text - name, "%" PRIu64, unseen);
     bool good = put_runs(made) && compress_row(made, 0, Z_FINISH);
     put4(sum, (uint32_t)made->sum);
-    good = good && put_octets(made, sum, 4) && empty_room(made) && put_chunk(made, "tEXt", (const uint8_t *)text, count) &&
+    good = good && put_octets(made, sum, 4) && empty_room(made) &&
+           put_chunk(made, "tEXt", (const uint8_t *)text, count) &&
            put_chunk(made, "IEND", NULL, 0);
     drop_picture(made);
     return good;

@@ -11,7 +11,8 @@ typedef struct picture picture;
 /* NULL where there is no memory, or the file cannot be written. */
 picture *begin_picture(FILE *file, uint32_t width, uint32_t height, uint32_t resolution);
 
-/* Three octets a pixel.  False where the file cannot be written; then only drop_picture may follow. */
+/* Three octets a pixel.  False where the file cannot be written; then only drop_picture may
+ * follow. */
 bool put_row(picture *picture, const uint8_t *row);
 
 /* The end, with a text that tells how many pixels are unseen.  Frees the picture. */

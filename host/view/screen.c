@@ -4,8 +4,9 @@
 
 #include "colour.h"
 
-/* Green squares on magenta: neither is a colour that a seen pixel ever has (see below), so not one pixel of the pattern can be taken for ink.  Green has a
- * quarter of the area: half of each would look grey from afar. */
+/* Green squares on magenta: neither is a colour that a seen pixel ever has (see below), so not one
+ * pixel of the pattern can be taken for ink.  Green has a quarter of the area: half of each would
+ * look grey from afar. */
 static const uint8_t magenta[3] = {255, 0, 255}, green[3] = {0, 255, 0};
 
 static const uint8_t *pattern_at(size_t x, uint32_t y)
@@ -40,7 +41,8 @@ size_t row_of_line(screen *colours, const uint8_t *line, size_t width, uint32_t 
 {
     size_t unseen = 0;
     for (size_t x = 0; x < width; x++) {
-        const uint8_t *pixel = line + 4 * x, *colour = pixel[3] == 1 ? seen_colour(colours, pixel) : pattern_at(x, y);
+        const uint8_t *pixel = line + 4 * x,
+                      *colour = pixel[3] == 1 ? seen_colour(colours, pixel) : pattern_at(x, y);
         unseen += pixel[3] != 1;
         row[3 * x] = colour[0];
         row[3 * x + 1] = colour[1];

@@ -5,7 +5,8 @@
 #include <stddef.h>
 #include <stdint.h>
 
-/* Colours met before: pages have few, images many that return.  The pattern of unseen pixels has squares of this side. */
+/* Colours met before: pages have few, images many that return.  The pattern of unseen pixels has
+ * squares of this side. */
 enum { SCREEN_COLOURS = 1 << 16, SQUARE = 16 };
 
 typedef struct {
@@ -13,8 +14,8 @@ typedef struct {
     uint8_t srgb[SCREEN_COLOURS][3];
 } screen;
 
-/* A line of `width` pixels, four octets each, into three each; y is the row's number, from which the pattern of unseen pixels runs on.  Answers how many
- * are unseen. */
+/* A line of `width` pixels, four octets each, into three each; y is the row's number, from which
+ * the pattern of unseen pixels runs on.  Answers how many are unseen. */
 size_t row_of_line(screen *colours, const uint8_t *line, size_t width, uint32_t y, uint8_t *row);
 
 /* A row of unseen pixels. */

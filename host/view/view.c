@@ -1,4 +1,5 @@
-/* The viewer: a page into a picture, each pixel in its true colour or drawn as unseen.  docs/VIEWER.md is the manual. */
+/* The viewer: a page into a picture, each pixel in its true colour or drawn as unseen.
+ * docs/VIEWER.md is the manual. */
 #include <errno.h>
 #include <inttypes.h>
 #include <stdlib.h>
@@ -29,7 +30,11 @@ typedef struct {
 
 static bool set_up(run *r, const options *asked, const book *opened)
 {
-    *r = (run){.asked = asked, .opened = opened, .to = opened->stripes, .began = seconds_now(), .decoders_left = DECODERS_SECONDS};
+    *r = (run){.asked = asked,
+               .opened = opened,
+               .to = opened->stripes,
+               .began = seconds_now(),
+               .decoders_left = DECODERS_SECONDS};
     if (asked->one_stripe) {
         r->from = asked->stripe;
         r->to = r->from + 1;
@@ -74,10 +79,12 @@ static void end_progress(run *r)
     }
 }
 
-/* A line like the one before it makes the same row, but for the squares of unseen pixels, which change with the rows. */
+/* A line like the one before it makes the same row, but for the squares of unseen pixels, which
+ * change with the rows. */
 static void colour_line(run *r)
 {
-    bool like = r->y > 0 && memcmp(r->line, r->before, (size_t)r->width * SPIREROOK_PIXEL_OCTETS) == 0;
+    bool like = r->y > 0 &&
+                memcmp(r->line, r->before, (size_t)r->width * SPIREROOK_PIXEL_OCTETS) == 0;
     if (!like || (r->line_unseen > 0 && r->y % SQUARE == 0)) {
         uint8_t *line = r->line;
         r->line_unseen = row_of_line(r->colours, line, r->width, r->y, r->row);
@@ -90,12 +97,14 @@ static void colour_line(run *r)
 static bool compose_line(run *r, const stripe_layers *read, size_t stripe, uint32_t line)
 {
     const book *b = r->opened;
-    spirerook_answer done = spirerook_line(b->sheet, b->sheet_octets, read->planes, read->planes_octets, read->samples, read->octets, (uint32_t)stripe,
-                                           line, r->line, (size_t)r->width * SPIREROOK_PIXEL_OCTETS);
+    spirerook_answer done = spirerook_line(
+        b->sheet, b->sheet_octets, read->planes, read->planes_octets, read->samples, read->octets,
+        (uint32_t)stripe, line, r->line, (size_t)r->width * SPIREROOK_PIXEL_OCTETS);
     if (done.number != SPIREROOK_DONE) {
         end_progress(r);
-        fprintf(stderr, "%s: stripe %zu, line %u: refused: %s (%u) at %u\n", r->asked->page, stripe, (unsigned)line, spirerook_name(done.number),
-                (unsigned)done.number, (unsigned)done.place);
+        fprintf(stderr, "%s: stripe %zu, line %u: refused: %s (%u) at %u\n", r->asked->page, stripe,
+                (unsigned)line, spirerook_name(done.number), (unsigned)done.number,
+                (unsigned)done.place);
     }
     return done.number == SPIREROOK_DONE;
 }
@@ -151,8 +160,8 @@ static void tell_page(const run *r)
 {
     uint64_t pixels = (uint64_t)r->width * r->height;
     if (r->composed < r->y) {
-        printf("%s: lines %u to %u were not composed within %d seconds; unseen is shown\n", r->asked->page, (unsigned)r->composed, (unsigned)(r->y - 1),
-               COMPOSING_SECONDS);
+        printf("%s: lines %u to %u were not composed within %d seconds; unseen is shown\n",
+               r->asked->page, (unsigned)r->composed, (unsigned)(r->y - 1), COMPOSING_SECONDS);
     }
     printf("%s: %u by %u pixels, ", r->asked->page, (unsigned)r->width, (unsigned)r->height);
     if (r->unseen == 0) {
@@ -165,7 +174,8 @@ static void tell_page(const run *r)
 static void tell_times(const run *r, double began)
 {
     double all = seconds_now() - began;
-    printf("%.3f s: decoding %.3f, composing %.3f, colour %.3f, PNG %.3f, all else %.3f\n", all, r->decoding, r->composing, r->colouring, r->writing,
+    printf("%.3f s: decoding %.3f, composing %.3f, colour %.3f, PNG %.3f, all else %.3f\n", all,
+           r->decoding, r->composing, r->colouring, r->writing,
            all - r->decoding - r->composing - r->colouring - r->writing);
 }
 
@@ -179,7 +189,8 @@ static int cannot_write(const char *name, const char *why)
 static bool show_stripes(run *r, FILE *file)
 {
     if (file != NULL) {
-        r->picture = begin_picture(file, r->width, r->height, spirerook_record_resolution(mask_of_stripe(r->opened, r->from)));
+        r->picture = begin_picture(file, r->width, r->height,
+                                   spirerook_record_resolution(mask_of_stripe(r->opened, r->from)));
         if (r->picture == NULL) {
             return false;
         }
@@ -229,7 +240,8 @@ static int show(const options *asked, const book *opened, double began)
         if (asked->times) {
             tell_times(&r, began);
         }
-        printf(asked->out == NULL ? "no picture was asked for (-o OUT.png)\n" : "%s: written\n", asked->out);
+        printf(asked->out == NULL ? "no picture was asked for (-o OUT.png)\n" : "%s: written\n",
+               asked->out);
         status = r.unseen == 0 ? STATUS_WHOLE : STATUS_UNSEEN;
     }
     clear_away(&r);
@@ -254,9 +266,12 @@ static int check_choices(const options *asked, const book *opened)
     }
     for (size_t stripe = 0; stripe < SPIREROOK_STRIPES; stripe++) {
         for (size_t layer = 1; layer <= SPIREROOK_LAYERS; layer++) {
-            size_t layers = stripe < opened->stripes ? opened->first[stripe + 1] - opened->first[stripe] : 0;
+            size_t layers = stripe < opened->stripes
+                                ? opened->first[stripe + 1] - opened->first[stripe]
+                                : 0;
             if (asked->unread[stripe][layer] &&
-                (layer > layers || !spirerook_record_coded(spirerook_record_at(opened->sheet, opened->first[stripe] + layer - 1)))) {
+                (layer > layers || !spirerook_record_coded(spirerook_record_at(
+                                       opened->sheet, opened->first[stripe] + layer - 1)))) {
                 return bad_choice("--unread", stripe, layer, "the page has no such coded layer");
             }
         }
@@ -264,7 +279,9 @@ static int check_choices(const options *asked, const book *opened)
     const char *inputs[] = {asked->page, asked->pencil_sheet, asked->pencil_file};
     for (size_t k = 0; asked->out != NULL && k < 3; k++) {
         if (inputs[k] != NULL && same_file(asked->out, inputs[k])) {
-            fprintf(stderr, "spirerook-view: -o %s: the picture would take the place of what is read\n", asked->out);
+            fprintf(stderr,
+                    "spirerook-view: -o %s: the picture would take the place of what is read\n",
+                    asked->out);
             return STATUS_BAD_OPTION;
         }
     }
@@ -297,7 +314,9 @@ int main(int count, char **words)
     static book opened;
     hold_standard_files();
     options_answer answer = read_options(count, words, &asked);
-    int status = answer == OPTIONS_GOOD ? view(&asked, &opened) : answer == OPTIONS_BAD ? STATUS_BAD_OPTION : STATUS_WHOLE;
+    int status = answer == OPTIONS_GOOD  ? view(&asked, &opened)
+                 : answer == OPTIONS_BAD ? STATUS_BAD_OPTION
+                                         : STATUS_WHOLE;
     if (fflush(stdout) != 0) {
         fprintf(stderr, "spirerook-view: standard output: %s\n", strerror(errno));
         return STATUS_REFUSED;

@@ -35,15 +35,13 @@ HOLDS(SPIREROOK_DONE == 0);
 HOLDS(SPIREROOK_TOO_LONG == SPIREROOK_NUMBER_COUNT - 1);
 HOLDS(SPIREROOK_RECORDS == SPIREROOK_STRIPES * SPIREROOK_LAYERS);
 HOLDS(SPIREROOK_SHEET_OCTETS == SPIREROOK_RECORDS * SPIREROOK_RECORD_OCTETS);
-HOLDS(SPIREROOK_PAGE_SHEET_OCTETS ==
-      SPIREROOK_STRIPES * 3 * SPIREROOK_RECORD_OCTETS);
+HOLDS(SPIREROOK_PAGE_SHEET_OCTETS == SPIREROOK_STRIPES * 3 * SPIREROOK_RECORD_OCTETS);
 HOLDS(SPIREROOK_LINE_OCTETS == SPIREROOK_PIXEL_OCTETS * SPIREROOK_WIDTH);
 
 static void print_numbers(void)
 {
     for (uint32_t number = 0; number <= 20; number++) {
-        printf("%u %s: %s\n", (unsigned)number, spirerook_name(number),
-               spirerook_text(number));
+        printf("%u %s: %s\n", (unsigned)number, spirerook_name(number), spirerook_text(number));
     }
 }
 
@@ -52,19 +50,18 @@ static void print_bounds(void)
     static const struct {
         long value;
         const char *name;
-    } bounds[] = {
-        {SPIREROOK_RECORD_OCTETS, "RECORD_OCTETS"},
-        {SPIREROOK_STRIPES, "STRIPES"},
-        {SPIREROOK_LAYERS, "LAYERS"},
-        {SPIREROOK_RECORDS, "RECORDS"},
-        {SPIREROOK_PAGE_SHEET_OCTETS, "PAGE_SHEET_OCTETS"},
-        {SPIREROOK_SHEET_OCTETS, "SHEET_OCTETS"},
-        {SPIREROOK_PAGE_OCTETS, "PAGE_OCTETS"},
-        {SPIREROOK_WIDTH, "WIDTH"},
-        {SPIREROOK_HEIGHT, "HEIGHT"},
-        {SPIREROOK_PLANE_OCTETS, "PLANE_OCTETS"},
-        {SPIREROOK_PIXEL_OCTETS, "PIXEL_OCTETS"},
-        {SPIREROOK_LINE_OCTETS, "LINE_OCTETS"}};
+    } bounds[] = {{SPIREROOK_RECORD_OCTETS, "RECORD_OCTETS"},
+                  {SPIREROOK_STRIPES, "STRIPES"},
+                  {SPIREROOK_LAYERS, "LAYERS"},
+                  {SPIREROOK_RECORDS, "RECORDS"},
+                  {SPIREROOK_PAGE_SHEET_OCTETS, "PAGE_SHEET_OCTETS"},
+                  {SPIREROOK_SHEET_OCTETS, "SHEET_OCTETS"},
+                  {SPIREROOK_PAGE_OCTETS, "PAGE_OCTETS"},
+                  {SPIREROOK_WIDTH, "WIDTH"},
+                  {SPIREROOK_HEIGHT, "HEIGHT"},
+                  {SPIREROOK_PLANE_OCTETS, "PLANE_OCTETS"},
+                  {SPIREROOK_PIXEL_OCTETS, "PIXEL_OCTETS"},
+                  {SPIREROOK_LINE_OCTETS, "LINE_OCTETS"}};
     for (size_t k = 0; k < sizeof bounds / sizeof bounds[0]; k++) {
         printf("%ld %s\n", bounds[k].value, bounds[k].name);
     }
@@ -100,13 +97,11 @@ static void print_record(const uint8_t *record)
 {
     spirerook_record r = fields_of(record);
     uint8_t again[SPIREROOK_RECORD_OCTETS];
-    printf("%u %u %u %u %u %u %u %u %u %u %u %u %u ", (unsigned)r.stripe,
-           (unsigned)r.layer, (unsigned)r.coder, (unsigned)r.x, (unsigned)r.y,
-           (unsigned)r.width, (unsigned)r.height, (unsigned)r.resolution,
-           (unsigned)r.base[0], (unsigned)r.base[1], (unsigned)r.base[2],
+    printf("%u %u %u %u %u %u %u %u %u %u %u %u %u ", (unsigned)r.stripe, (unsigned)r.layer,
+           (unsigned)r.coder, (unsigned)r.x, (unsigned)r.y, (unsigned)r.width, (unsigned)r.height,
+           (unsigned)r.resolution, (unsigned)r.base[0], (unsigned)r.base[1], (unsigned)r.base[2],
            (unsigned)r.start, (unsigned)r.length);
-    printf("%d %d %llu\n", spirerook_record_coded(record),
-           spirerook_record_mask(record),
+    printf("%d %d %llu\n", spirerook_record_coded(record), spirerook_record_mask(record),
            (unsigned long long)spirerook_record_samples(record));
     memset(again, 0xEE, sizeof again);
     spirerook_put_record(again, &r);

@@ -18,19 +18,17 @@ int main(void)
     jpeg_stdio_src(&decoder, stdin);
     jpeg_read_header(&decoder, TRUE);
     /* the same space in and out: nothing is converted */
-    J_COLOR_SPACE space =
-        decoder.num_components == 1 ? JCS_GRAYSCALE : JCS_YCbCr;
+    J_COLOR_SPACE space = decoder.num_components == 1 ? JCS_GRAYSCALE : JCS_YCbCr;
     decoder.jpeg_color_space = space;
     decoder.out_color_space = space;
     jpeg_start_decompress(&decoder);
-    size_t size =
-        (size_t)decoder.output_width * (size_t)decoder.output_components;
+    size_t size = (size_t)decoder.output_width * (size_t)decoder.output_components;
     JSAMPROW row = malloc(size);
     if (row == NULL) {
         return EXIT_FAILURE;
     }
-    printf("P%d %u %u 255\n", decoder.output_components == 1 ? 5 : 6,
-           decoder.output_width, decoder.output_height);
+    printf("P%d %u %u 255\n", decoder.output_components == 1 ? 5 : 6, decoder.output_width,
+           decoder.output_height);
     while (decoder.output_scanline < decoder.output_height) {
         jpeg_read_scanlines(&decoder, &row, 1);
         fwrite(row, 1, size, stdout);

@@ -15,8 +15,7 @@ bool lent_has(struct lent *lent, size_t size)
         munmap(lent->octets - edge, lent->size + 2 * edge);
         lent->octets = NULL;
     }
-    uint8_t *all = mmap(NULL, inner + 2 * edge, PROT_NONE,
-                        MAP_PRIVATE | MAP_ANONYMOUS, -1, 0);
+    uint8_t *all = mmap(NULL, inner + 2 * edge, PROT_NONE, MAP_PRIVATE | MAP_ANONYMOUS, -1, 0);
     if (all == MAP_FAILED) {
         return false;
     }

@@ -14,6 +14,7 @@
 #define _DEFAULT_SOURCE
 #include "console.h"
 #include "spirerook.h"
+#include "told.h"
 
 #include <stdbool.h>
 #include <stdio.h>
@@ -25,37 +26,27 @@
 enum { NUMBERS = 7, TOLD = 9 };
 
 struct call {
-    uint64_t sheet, planes, samples, room, stripe, line, told;
-    const uint8_t *octets; /* the sheet, the plane list, the samples told */
+    uint64_t sheet, planes, samples, room, stripe, line;
+    const uint8_t *sheet_octets, *plane_octets;
+    struct told told; /* the samples told */
 };
-
-static uint64_t eight_octets(const uint8_t *octets)
-{
-    uint64_t number = 0;
-    for (size_t k = 0; k < 8; k++) {
-        number = number << 8 | octets[k];
-    }
-    return number;
-}
 
 static void put_told(const struct call *call, uint8_t *samples)
 {
-    const uint8_t *told = call->octets + call->sheet + call->planes;
-    for (uint64_t k = 0; k < call->told; k++, told += TOLD) {
-        samples[eight_octets(told)] = told[8];
+    struct told told = call->told;
+    uint64_t place;
+    while (take_numbers(&told, 8, &place, 1)) {
+        samples[place] = *take_octets(&told, 1);
     }
 }
 
-static void compose(const struct call *call, const uint8_t *samples,
-                    uint8_t *out)
+static void compose(const struct call *call, const uint8_t *samples, uint8_t *out)
 {
     spirerook_answer answer = spirerook_line(
-        call->octets, call->sheet, call->octets + call->sheet, call->planes,
-        samples, call->samples, (uint32_t)call->stripe, (uint32_t)call->line,
-        out, call->room);
+        call->sheet_octets, call->sheet, call->plane_octets, call->planes, samples, call->samples,
+        (uint32_t)call->stripe, (uint32_t)call->line, out, call->room);
     if (answer.number != SPIREROOK_DONE || answer.count > call->room) {
-        printf("refused %u %u\n", (unsigned)answer.number,
-               (unsigned)answer.place);
+        printf("refused %u %u\n", (unsigned)answer.number, (unsigned)answer.place);
     } else {
         printf("done %zu\n", (size_t)answer.count);
         fwrite(out, 1, (size_t)answer.count, stdout);
@@ -68,8 +59,8 @@ static bool line_one(const struct call *call)
     uint64_t edge = (uint64_t)sysconf(_SC_PAGESIZE);
     uint64_t inner = (call->samples / edge + 1) * edge;
     uint8_t *out = malloc(call->room + 1);
-    uint8_t *all = mmap(NULL, inner + edge, PROT_NONE,
-                        MAP_PRIVATE | MAP_ANONYMOUS | MAP_NORESERVE, -1, 0);
+    uint8_t *all = mmap(NULL, inner + edge, PROT_NONE, MAP_PRIVATE | MAP_ANONYMOUS | MAP_NORESERVE,
+                        -1, 0);
     bool lent = out != NULL && all != MAP_FAILED &&
                 mprotect(all, inner, PROT_READ | PROT_WRITE) == 0;
     if (lent) {
@@ -86,25 +77,23 @@ static bool line_one(const struct call *call)
 
 static bool line_many(const uint8_t *input, size_t octets)
 {
-    size_t at = 0;
-    while (octets - at >= 8 * NUMBERS) {
-        uint64_t n[NUMBERS];
-        for (size_t k = 0; k < NUMBERS; k++, at += 8) {
-            n[k] = eight_octets(input + at);
-        }
-        struct call call = {n[0], n[1], n[2], n[3], n[4], n[5], n[6],
-                            input + at};
-        uint64_t size = call.sheet + call.planes + call.told * TOLD;
-        if (octets - at < size) {
+    struct told told = {input, octets};
+    uint64_t n[NUMBERS];
+    while (take_numbers(&told, 8, n, NUMBERS)) {
+        struct call call = {n[0], n[1], n[2], n[3], n[4], n[5], NULL, NULL, {NULL, n[6] * TOLD}};
+        call.sheet_octets = take_octets(&told, call.sheet);
+        call.plane_octets = take_octets(&told, call.planes);
+        call.told.octets = take_octets(&told, call.told.size);
+        if (call.sheet_octets == NULL || call.plane_octets == NULL || call.told.octets == NULL) {
             return false;
         }
         if (!line_one(&call)) {
             puts("no memory");
         }
         puts(".");
-        at += size;
+        fflush(stdout); /* where the next call ends it, this one is told */
     }
-    return at == octets;
+    return told.size == 0;
 }
 
 int main(int arguments, char **words)

@@ -2,7 +2,7 @@
  * include/spirerook.h.
  *
  *   threads   any number of calls from standard input, each behind seven numbers
- *             of four octets: which call (0 read, 1 write, 2 line, 3 data), the
+ *             of four octets: which call (any_call.h), the
  *             lengths of the three parts lent for reading, the room, and two
  *             numbers (stripe and line, or stripe and layer); the parts behind
  *
@@ -11,8 +11,9 @@
  * and buffers must be the same.  A line a call: its number, and the octets of
  * stack that were touched. */
 #define _GNU_SOURCE
+#include "any_call.h"
 #include "console.h"
-#include "spirerook.h"
+#include "told.h"
 
 #include <pthread.h>
 #include <stdbool.h>
@@ -23,21 +24,12 @@
 
 enum {
     NUMBERS = 7,
-    PARTS = 3,
-    CALLS = 4,
-    MOST = 64, /* calls of one run */
+    MOST = 128, /* calls of one run */
     THREADS = 8,
     ROUNDS = 3,
     PAINTED = 1 << 20,
     PAINT = 0xC5,
     FILL = 0x3C
-};
-
-struct job {
-    uint32_t call;
-    const uint8_t *parts[PARTS];
-    size_t sizes[PARTS], room;
-    uint32_t first, second;
 };
 
 /* What a call answers, and the buffer after it. */
@@ -47,36 +39,12 @@ struct result {
 };
 
 struct task {
-    const struct job *job;
+    const struct any_call *job;
     struct result *result;
 };
 
-static spirerook_part as_part(spirerook_answer answer)
-{
-    spirerook_part part = {answer.number, answer.place, answer.count, 0, 0};
-    return part;
-}
-
-static spirerook_part call(const struct job *j, uint8_t *out)
-{
-    const uint8_t *const *p = j->parts;
-    const size_t *n = j->sizes;
-    switch (j->call) {
-    case 0:
-        return as_part(spirerook_read(p[0], n[0], out, j->room));
-    case 1:
-        return as_part(spirerook_write(p[0], n[0], p[1], n[1], out, j->room));
-    case 2:
-        return as_part(spirerook_line(p[0], n[0], p[1], n[1], p[2], n[2],
-                                      j->first, j->second, out, j->room));
-    default:
-        return spirerook_data(p[0], n[0], p[1], n[1], p[2], n[2], j->first,
-                              j->second);
-    }
-}
-
 /* False: no memory. */
-static bool make_result(struct result *result, const struct job *job)
+static bool make_result(struct result *result, const struct any_call *job)
 {
     result->out = malloc(job->room + 1);
     if (result->out != NULL) {
@@ -86,24 +54,21 @@ static bool make_result(struct result *result, const struct job *job)
 }
 
 static bool is_same(const struct result *one, const struct result *other,
-                    const struct job *job)
+                    const struct any_call *job)
 {
-    spirerook_part a = one->answer, b = other->answer;
-    return a.number == b.number && a.place == b.place && a.count == b.count &&
-           a.source == b.source && a.start == b.start &&
+    return is_same_answer(one->answer, other->answer) &&
            memcmp(one->out, other->out, job->room + 1) == 0;
 }
 
 static void *run_task(void *task)
 {
     struct task *t = task;
-    t->result->answer = call(t->job, t->result->out);
+    t->result->answer = make_call(t->job, t->result->out);
     return NULL;
 }
 
 /* Runs a function in a thread with these attributes.  False: it did not run. */
-static bool in_thread(pthread_attr_t *attributes, void *(*function)(void *),
-                      void *argument)
+static bool in_thread(pthread_attr_t *attributes, void *(*function)(void *), void *argument)
 {
     pthread_t thread;
     return pthread_create(&thread, attributes, function, argument) == 0 &&
@@ -145,15 +110,14 @@ static size_t touched(uint8_t *stack, void *(*function)(void *), void *task)
 }
 
 /* What is wrong with a job by itself, or null; the stack that it takes. */
-static const char *alone(const struct job *job, struct result *due,
-                         uint8_t *stack, size_t *most)
+static const char *alone(const struct any_call *job, struct result *due, uint8_t *stack,
+                         size_t *most)
 {
     struct result small, painted;
-    if (!make_result(due, job) || !make_result(&small, job) ||
-        !make_result(&painted, job)) {
+    if (!make_result(due, job) || !make_result(&small, job) || !make_result(&painted, job)) {
         return "no memory";
     }
-    due->answer = call(job, due->out);
+    due->answer = make_call(job, due->out);
     struct task in_small = {job, &small}, in_painted = {job, &painted};
     if (!in_small_stack(&in_small)) {
         return "no thread of SPIREROOK_STACK";
@@ -172,7 +136,7 @@ static const char *alone(const struct job *job, struct result *due,
 
 /* All jobs, in turn from one of them on. */
 struct round {
-    const struct job *jobs;
+    const struct any_call *jobs;
     const struct result *due;
     size_t count, from;
     bool same;
@@ -189,15 +153,14 @@ static void *run_round(void *round)
             r->same = false;
             return NULL;
         }
-        result.answer = call(&r->jobs[at], result.out);
+        result.answer = make_call(&r->jobs[at], result.out);
         r->same = r->same && is_same(&r->due[at], &result, &r->jobs[at]);
         free(result.out);
     }
     return NULL;
 }
 
-static bool at_once(const struct job *jobs, const struct result *due,
-                    size_t count)
+static bool at_once(const struct any_call *jobs, const struct result *due, size_t count)
 {
     pthread_t threads[THREADS];
     struct round rounds[THREADS];
@@ -216,31 +179,29 @@ static bool at_once(const struct job *jobs, const struct result *due,
 }
 
 /* The jobs of standard input, or 0 of them where it tells none. */
-static size_t read_jobs(const uint8_t *input, size_t octets,
-                        struct job jobs[MOST])
+static size_t read_jobs(const uint8_t *input, size_t octets, struct any_call jobs[MOST])
 {
-    size_t at = 0, count = 0;
-    while (count < MOST && octets - at >= 4 * NUMBERS) {
-        struct job *job = &jobs[count++];
-        const uint8_t *numbers = input + at;
-        job->call = spirerook_get4(numbers);
-        job->room = spirerook_get4(numbers + 16);
-        job->first = spirerook_get4(numbers + 20);
-        job->second = spirerook_get4(numbers + 24);
-        at += 4 * NUMBERS;
-        for (size_t k = 0; k < PARTS; k++) {
-            job->sizes[k] = spirerook_get4(numbers + 4 + 4 * k);
-            job->parts[k] = input + at;
-            if (job->call >= CALLS || octets - at < job->sizes[k]) {
+    struct told told = {input, octets};
+    uint64_t n[NUMBERS];
+    size_t count = 0;
+    while (count < MOST && take_numbers(&told, 4, n, NUMBERS)) {
+        struct any_call job = {.which = n[0],
+                               .sizes = {n[1], n[2], n[3]},
+                               .room = n[4],
+                               .first = (uint32_t)n[5],
+                               .second = (uint32_t)n[6]};
+        for (size_t k = 0; k < CALL_PARTS; k++) {
+            job.parts[k] = take_octets(&told, job.sizes[k]);
+            if (job.which >= CALL_COUNT || job.parts[k] == NULL) {
                 return 0;
             }
-            at += job->sizes[k];
         }
+        jobs[count++] = job;
     }
-    return at == octets ? count : 0;
+    return told.size == 0 ? count : 0;
 }
 
-static const char *run_jobs(const struct job *jobs, size_t count)
+static const char *run_jobs(const struct any_call *jobs, size_t count)
 {
     static struct result due[MOST];
     uint8_t *stack = mmap(NULL, PAINTED, PROT_READ | PROT_WRITE,
@@ -254,22 +215,19 @@ static const char *run_jobs(const struct job *jobs, size_t count)
         if (wrong != NULL) {
             return wrong;
         }
-        printf("%u %u %zu\n", (unsigned)jobs[k].call,
-               (unsigned)due[k].answer.number, most);
+        printf("%u %u %zu\n", (unsigned)jobs[k].which, (unsigned)due[k].answer.number, most);
         fflush(stdout); /* where the next call ends it, this one is told */
     }
-    return at_once(jobs, due, count) ? NULL
-                                     : "threads at once give another result";
+    return at_once(jobs, due, count) ? NULL : "threads at once give another result";
 }
 
 int main(void)
 {
-    static struct job jobs[MOST];
+    static struct any_call jobs[MOST];
     size_t octets;
     uint8_t *input = read_standard_input(&octets);
     size_t count = input == NULL ? 0 : read_jobs(input, octets, jobs);
-    const char *wrong = count == 0 ? "no calls on standard input"
-                                   : run_jobs(jobs, count);
+    const char *wrong = count == 0 ? "no calls on standard input" : run_jobs(jobs, count);
     if (wrong != NULL) {
         fprintf(stderr, "threads: %s\n", wrong);
     }

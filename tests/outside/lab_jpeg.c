@@ -44,7 +44,14 @@ static void set_options(struct jpeg_compress_struct *coder, char **words)
 /* T.4, Annex E: G3FAX0 holds the year of the standard and the resolution. */
 static void write_resolution(struct jpeg_compress_struct *coder, int resolution)
 {
-    const JOCTET segment[] = {'G', '3', 'F', 'A', 'X', 0, 0x07, 0xCA,
+    const JOCTET segment[] = {'G',
+                              '3',
+                              'F',
+                              'A',
+                              'X',
+                              0,
+                              0x07,
+                              0xCA,
                               (JOCTET)(resolution / 256),
                               (JOCTET)(resolution % 256)};
     jpeg_write_marker(coder, JPEG_APP0 + 1, segment, sizeof segment);
@@ -71,8 +78,7 @@ int main(int arguments, char **words)
     unsigned width, height;
     bool grey = has_word(words, "grey");
     const char *head = grey ? "P5 %u %u 255" : "P6 %u %u 255";
-    if (arguments < 3 || scanf(head, &width, &height) != 2 ||
-        getchar() == EOF || width > MOST) {
+    if (arguments < 3 || scanf(head, &width, &height) != 2 || getchar() == EOF || width > MOST) {
         fputs("lab_jpeg RESOLUTION QUALITY WORD .. < picture\n", stderr);
         return EXIT_FAILURE;
     }

@@ -47,8 +47,7 @@ int run_many(int arguments, char **words, const char *name,
     }
     bool done = many(input, octets);
     if (!done) {
-        fprintf(stderr, "%s: the calls end in their midst, or memory lacks\n",
-                name);
+        fprintf(stderr, "%s: the calls end in their midst, or memory lacks\n", name);
     }
     free(input);
     return done ? EXIT_SUCCESS : EXIT_FAILURE;
@@ -58,9 +57,9 @@ int run_many(int arguments, char **words, const char *name,
  * start, length" */
 void print_record(struct record r)
 {
-    const uint32_t fields[] = {
-        r.stripe, r.layer, r.coder, r.x, r.y, r.width, r.height, r.resolution,
-        r.colour[0], r.colour[1], r.colour[2], r.start, r.length};
+    const uint32_t fields[] = {r.stripe,    r.layer,  r.coder,      r.x,         r.y,
+                               r.width,     r.height, r.resolution, r.colour[0], r.colour[1],
+                               r.colour[2], r.start,  r.length};
     const size_t count = sizeof fields / sizeof fields[0];
     for (size_t k = 0; k < count; k++) {
         printf("%" PRIu32 "%c", fields[k], k + 1 < count ? ' ' : '\n');

@@ -53,8 +53,7 @@ struct reference_part reference_data(const struct reference_data_call *call)
         return part;
     }
     part.source = source_of(r);
-    uint64_t octets =
-        part.source == PAGE ? call->page_octets : call->pencil_octets;
+    uint64_t octets = part.source == PAGE ? call->page_octets : call->pencil_octets;
     /* Short: "coded data, does not fit whole" */
     if ((uint64_t)r.start + r.length > octets) {
         return refusal(SHORT, place);

@@ -27,8 +27,7 @@ static enum marker_class class_of(uint8_t code)
     if (code == 0x01) {
         return STANDS_ALONE;
     }
-    if (code >= 0xC0 && code <= 0xCF && code != 0xC4 && code != 0xC8 &&
-        code != 0xCC) {
+    if (code >= 0xC0 && code <= 0xCF && code != 0xC4 && code != 0xC8 && code != 0xCC) {
         return FRAME;
     }
     if (code == 0xDA) {
@@ -54,8 +53,8 @@ static enum marker_class class_of(uint8_t code)
 
 bool jpeg_resolution_is_listed(uint32_t resolution)
 {
-    return resolution == 100 || resolution == 200 || resolution == 300 ||
-           resolution == 400 || resolution == 600 || resolution == 1200;
+    return resolution == 100 || resolution == 200 || resolution == 300 || resolution == 400 ||
+           resolution == 600 || resolution == 1200;
 }
 
 static bool stop(struct walk *walk, unsigned number, size_t place)
@@ -82,8 +81,7 @@ static uint32_t two_octets(const struct walk *walk, size_t at)
  * "Numbers that a call returns": "A JPEG body (after its length) ... that
  * passes the page's end is Short at its first octet, unjudged".  The least
  * length is judged where the length stands, before the body. */
-static bool read_length(struct walk *walk, size_t marker, uint32_t least,
-                        uint32_t *length)
+static bool read_length(struct walk *walk, size_t marker, uint32_t least, uint32_t *length)
 {
     if (!fits(walk, marker + 2, 2)) {
         return stop(walk, SHORT, marker + 2);
@@ -121,13 +119,12 @@ static bool walk_segment(struct walk *walk, size_t marker)
      * 47 33 46 41 58 00, then two octets not tested, then the resolution; the
      * first such segment counts."  A frame is refused without a resolution, so
      * that behind the frame there is always a first one already. */
-    if (walk->page[marker + 1] == 0xE1 && length >= 12 &&
-        begins_with_tag(walk, marker + 4) && !walk->has_resolution) {
+    if (walk->page[marker + 1] == 0xE1 && length >= 12 && begins_with_tag(walk, marker + 4) &&
+        !walk->has_resolution) {
         uint32_t resolution = two_octets(walk, marker + 12);
         /* "Each layer's must divide the main one: under 400, 200 is taken and
          * 300 refused." */
-        if (!jpeg_resolution_is_listed(resolution) ||
-            walk->main_resolution % resolution != 0) {
+        if (!jpeg_resolution_is_listed(resolution) || walk->main_resolution % resolution != 0) {
             return stop(walk, BAD_RES, marker + 12);
         }
         walk->has_resolution = true;
@@ -227,19 +224,12 @@ static bool walk_marker(struct walk *walk)
         return stop(walk, BAD_LAYER, marker);
     }
     switch (class_of(walk->page[marker + 1])) {
-    case STANDS_ALONE:
-        walk->at = marker + 2;
-        return true;
-    case FRAME:
-        return walk_frame(walk, marker);
-    case SCAN:
-        return walk_scan(walk, marker);
-    case END:
-        return walk_end(walk, marker);
-    case WITH_LENGTH:
-        return walk_segment(walk, marker);
-    case FAULT:
-        break;
+    case STANDS_ALONE: walk->at = marker + 2; return true;
+    case FRAME: return walk_frame(walk, marker);
+    case SCAN: return walk_scan(walk, marker);
+    case END: return walk_end(walk, marker);
+    case WITH_LENGTH: return walk_segment(walk, marker);
+    case FAULT: break;
     }
     return stop(walk, BAD_LAYER, marker);
 }
@@ -261,8 +251,8 @@ static bool walk_start(struct walk *walk)
 struct jpeg_layer jpeg_walk(const uint8_t *page, size_t octets, size_t start,
                             uint32_t main_resolution)
 {
-    struct walk walk = {page, octets, main_resolution, start,
-                        false, false, false, {0, 0, 0, 0, 0, 0}};
+    struct walk walk = {page,  octets, main_resolution, start,
+                        false, false,  false,           {0, 0, 0, 0, 0, 0}};
     bool goes_on = walk_start(&walk);
     while (goes_on) {
         goes_on = walk_marker(&walk);

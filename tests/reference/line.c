@@ -135,8 +135,7 @@ static bool find_bad_plane(const struct work *work, size_t *place)
 }
 
 /* "A coded layer that isn't listed is unread." */
-static bool find_plane(const struct reference_line_call *call, uint32_t layer,
-                       struct plane *found)
+static bool find_plane(const struct reference_line_call *call, uint32_t layer, struct plane *found)
 {
     for (size_t i = 0; i < call->plane_octets / ENTRY_OCTETS; i++) {
         if (plane_at(call, i).layer == layer) {
@@ -180,15 +179,13 @@ static uint32_t value_outside(const struct work *work, struct record r)
 /* "Inside, pixel (x, y) takes sample ((x - xo) / k, (y - yo) / k), rounded
  * down."  "Mask samples are one octet (0 is 0, all else 1), image samples
  * three, row by row." */
-static uint32_t value_read(const struct reference_line_call *call,
-                           struct record r, struct plane plane, uint64_t k,
-                           uint64_t x)
+static uint32_t value_read(const struct reference_line_call *call, struct record r,
+                           struct plane plane, uint64_t k, uint64_t x)
 {
     uint64_t column = (x - r.x) / k;
     uint64_t row = (call->line - r.y) / k;
     uint64_t number = row * r.width + column;
-    const uint8_t *sample =
-        call->samples + (plane.start + number * sample_size(r.layer));
+    const uint8_t *sample = call->samples + (plane.start + number * sample_size(r.layer));
     if (is_mask(r.layer)) {
         return sample[0] == 0 ? 0 : 1;
     }
@@ -197,8 +194,7 @@ static uint32_t value_read(const struct reference_line_call *call,
 
 /* What the sheet and the samples that were read say of a layer at pixel x of
  * the line. */
-static void look_at_layer(const struct work *work, uint32_t layer, uint64_t x,
-                          struct pixel *pixel)
+static void look_at_layer(const struct work *work, uint32_t layer, uint64_t x, struct pixel *pixel)
 {
     struct plane plane;
     struct record r = work->record[layer];
@@ -280,8 +276,7 @@ static uint32_t count_contents(const struct pixel *pixel)
 /* "A possible content gives every sample of every unread layer any value, 0 or
  * 1 in a mask and any three octets in an image layer, each free of all
  * others": the content of this number. */
-static void put_content(struct pixel *pixel, uint32_t number,
-                        const uint32_t probe[PROBES])
+static void put_content(struct pixel *pixel, uint32_t number, const uint32_t probe[PROBES])
 {
     for (uint32_t layer = 1; layer <= pixel->layers; layer++) {
         if (pixel->unread[layer]) {
@@ -328,8 +323,8 @@ static struct reference_answer refusal(unsigned number, size_t place)
 
 /* "Lines: BadSheet, BadLine, BadPlane, NoRoom. ... For these the place is the
  * record or list entry, else 0." */
-struct reference_answer reference_line(const struct reference_line_call *call,
-                                       uint8_t *out, size_t out_octets)
+struct reference_answer reference_line(const struct reference_line_call *call, uint8_t *out,
+                                       size_t out_octets)
 {
     struct verdict verdict = sheet_judge(call->sheet, call->sheet_octets);
     size_t place;

@@ -23,7 +23,7 @@ struct reference_line_call {
 /* Done: `out` begins with the octets counted, four a pixel of the page's width.
  * "Octets past the result stay"; a refusal changes no octet.  The place of a
  * refusal is a record of the sheet, an entry of the plane list, or 0. */
-struct reference_answer reference_line(const struct reference_line_call *call,
-                                       uint8_t *out, size_t out_octets);
+struct reference_answer reference_line(const struct reference_line_call *call, uint8_t *out,
+                                       size_t out_octets);
 
 #endif

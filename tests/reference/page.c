@@ -22,9 +22,8 @@ static bool read_coders(struct reading *reading)
     if (!read_number(reading, 1, &field, &reading->mask_coder)) {
         return false;
     }
-    if (reading->mask_coder != 0 && reading->mask_coder != 1 &&
-        reading->mask_coder != 2 && reading->mask_coder != 4 &&
-        reading->mask_coder != 8) {
+    if (reading->mask_coder != 0 && reading->mask_coder != 1 && reading->mask_coder != 2 &&
+        reading->mask_coder != 4 && reading->mask_coder != 8) {
         return refuse(reading, BAD_CODER, field);
     }
     if (!read_number(reading, 1, &field, &reading->image_coder)) {
@@ -44,8 +43,7 @@ static bool read_start_of_page(struct reading *reading)
     size_t field, length_field;
     uint32_t length, n, version, mode;
     if (!read_marker_due(reading, 0xD8) || !read_marker_due(reading, 0xED) ||
-        !read_length(reading, &length_field, &length) ||
-        !read_ident(reading, &field, &n)) {
+        !read_length(reading, &length_field, &length) || !read_ident(reading, &field, &n)) {
         return false;
     }
     if (n != 0x00) {
@@ -102,8 +100,7 @@ static bool read_segment(struct reading *reading)
 {
     size_t length_field, ident;
     uint32_t length, n;
-    if (!read_length(reading, &length_field, &length) ||
-        !read_ident(reading, &ident, &n)) {
+    if (!read_length(reading, &length_field, &length) || !read_ident(reading, &ident, &n)) {
         return false;
     }
     if (n == 0x01) {
@@ -164,10 +161,8 @@ static bool read_zeros(struct reading *reading)
 /* "A page is, in order"; "The end is two fields of FF D9." */
 static bool read_page(struct reading *reading)
 {
-    return read_start_of_page(reading) &&
-           read_marker_due(reading, 0xD9) && /* termination number */
-           read_segments(reading) && read_marker_due(reading, 0xD9) &&
-           read_zeros(reading);
+    return read_start_of_page(reading) && read_marker_due(reading, 0xD9) && /* termination number */
+           read_segments(reading) && read_marker_due(reading, 0xD9) && read_zeros(reading);
 }
 
 static void put(uint8_t *octets, size_t at, size_t size, uint32_t number)
@@ -206,8 +201,8 @@ static struct reference_answer refusal(unsigned number, size_t place)
 
 /* "Reading: TooLong first, with place 0; then the first fault in page order;
  * NoRoom last, place 0." */
-struct reference_answer reference_read(const uint8_t *page, size_t page_octets,
-                                       uint8_t *sheet, size_t sheet_octets)
+struct reference_answer reference_read(const uint8_t *page, size_t page_octets, uint8_t *sheet,
+                                       size_t sheet_octets)
 {
     if (page_octets > MOST_OCTETS) {
         return refusal(TOO_LONG, 0);

@@ -10,8 +10,8 @@
 #include <stdint.h>
 
 enum {
-    MOST_STRIPES = 64,        /* "1 to 64 stripes" */
-    LAYERS_OF_A_STRIPE = 3,   /* mask, background and foreground */
+    MOST_STRIPES = 64,      /* "1 to 64 stripes" */
+    LAYERS_OF_A_STRIPE = 3, /* mask, background and foreground */
     MOST_RECORDS = MOST_STRIPES * LAYERS_OF_A_STRIPE
 };
 
@@ -26,7 +26,7 @@ struct reference_answer {
 
 /* Reads a page of any octets and any length.  Done: the sheet begins with the
  * records.  "Octets past the result stay"; a refusal changes no octet. */
-struct reference_answer reference_read(const uint8_t *page, size_t page_octets,
-                                       uint8_t *sheet, size_t sheet_octets);
+struct reference_answer reference_read(const uint8_t *page, size_t page_octets, uint8_t *sheet,
+                                       size_t sheet_octets);
 
 #endif

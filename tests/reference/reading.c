@@ -30,8 +30,7 @@ uint32_t number_at(const struct reading *reading, size_t at, size_t size)
     return number;
 }
 
-bool read_number(struct reading *reading, size_t size, size_t *field,
-                 uint32_t *number)
+bool read_number(struct reading *reading, size_t size, size_t *field, uint32_t *number)
 {
     if (!read_field(reading, size, field)) {
         return false;

@@ -37,8 +37,7 @@ bool read_field(struct reading *reading, size_t size, size_t *field);
 uint32_t number_at(const struct reading *reading, size_t at, size_t size);
 
 /* The next field as a number. */
-bool read_number(struct reading *reading, size_t size, size_t *field,
-                 uint32_t *number);
+bool read_number(struct reading *reading, size_t size, size_t *field, uint32_t *number);
 
 /* A marker of the page that is due, FF and the code. */
 bool read_marker_due(struct reading *reading, uint8_t code);

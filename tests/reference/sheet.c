@@ -15,11 +15,17 @@ static uint32_t number_at(const uint8_t *octets, size_t at, size_t size)
     return number;
 }
 
+/* The stripe of a record, by itself: whoever looks for one stripe looks at every record. */
+static uint32_t stripe_of(const uint8_t *sheet, size_t number)
+{
+    return number_at(sheet + number * RECORD_OCTETS, 0, 2);
+}
+
 struct record sheet_record(const uint8_t *sheet, size_t number)
 {
     const uint8_t *octets = sheet + number * RECORD_OCTETS;
     struct record r;
-    r.stripe = number_at(octets, 0, 2);
+    r.stripe = stripe_of(sheet, number);
     r.layer = number_at(octets, 2, 1);
     r.coder = number_at(octets, 3, 1);
     r.x = number_at(octets, 4, 2);
@@ -50,13 +56,12 @@ static bool is_even(uint32_t number)
 
 /* Whether one of the first `count` records is this layer of this stripe, and
  * if so, which record it is. */
-static bool find(const uint8_t *sheet, size_t count, uint32_t stripe,
-                 uint32_t layer, struct record *found)
+static bool find(const uint8_t *sheet, size_t count, uint32_t stripe, uint32_t layer,
+                 struct record *found)
 {
     for (size_t j = 0; j < count; j++) {
-        struct record r = sheet_record(sheet, j);
-        if (r.stripe == stripe && r.layer == layer) {
-            *found = r;
+        if (stripe_of(sheet, j) == stripe && sheet_record(sheet, j).layer == layer) {
+            *found = sheet_record(sheet, j);
             return true;
         }
     }
@@ -64,12 +69,11 @@ static bool find(const uint8_t *sheet, size_t count, uint32_t stripe,
 }
 
 /* How many of the first `count` records belong to this stripe. */
-static size_t records_of_stripe(const uint8_t *sheet, size_t count,
-                                uint32_t stripe)
+static size_t records_of_stripe(const uint8_t *sheet, size_t count, uint32_t stripe)
 {
     size_t sum = 0;
     for (size_t j = 0; j < count; j++) {
-        if (sheet_record(sheet, j).stripe == stripe) {
+        if (stripe_of(sheet, j) == stripe) {
             sum++;
         }
     }
@@ -161,8 +165,7 @@ static bool breaks_coded(const uint8_t *sheet, size_t i)
     if (!is_coded(r)) {
         return false;
     }
-    bool mask_coder =
-        r.coder == 1 || r.coder == 2 || r.coder == 4 || r.coder == 8;
+    bool mask_coder = r.coder == 1 || r.coder == 2 || r.coder == 4 || r.coder == 8;
     if (is_even(r.layer) && !mask_coder) {
         return true;
     }
@@ -244,8 +247,8 @@ static bool breaks_sameness(const uint8_t *sheet, size_t i)
 /* "Resolutions: 100, 200, 300, 400, 600, 1200." */
 static bool is_listed(uint32_t resolution)
 {
-    return resolution == 100 || resolution == 200 || resolution == 300 ||
-           resolution == 400 || resolution == 600 || resolution == 1200;
+    return resolution == 100 || resolution == 200 || resolution == 300 || resolution == 400 ||
+           resolution == 600 || resolution == 1200;
 }
 
 /* "Every resolution is listed" */
@@ -279,19 +282,16 @@ static bool breaks_match_of_resolutions(const uint8_t *sheet, size_t i)
         return false;
     }
     if (r.layer == 2) {
-        return find(sheet, i, r.stripe, 1, &layer_1) &&
-               !fits_main(layer_1, r.resolution);
+        return find(sheet, i, r.stripe, 1, &layer_1) && !fits_main(layer_1, r.resolution);
     }
-    return find(sheet, i, r.stripe, 2, &layer_2) &&
-           !fits_main(r, layer_2.resolution);
+    return find(sheet, i, r.stripe, 2, &layer_2) && !fits_main(r, layer_2.resolution);
 }
 
 /* "Even layers have base colour 0 0 0." */
 static bool breaks_colour(const uint8_t *sheet, size_t i)
 {
     struct record r = sheet_record(sheet, i);
-    return is_even(r.layer) &&
-           (r.colour[0] != 0 || r.colour[1] != 0 || r.colour[2] != 0);
+    return is_even(r.layer) && (r.colour[0] != 0 || r.colour[1] != 0 || r.colour[2] != 0);
 }
 
 /* "In each stripe at least one of layers 1 to 3 is coded, and 1 and 3 are not
@@ -302,8 +302,7 @@ static bool breaks_choice(const uint8_t *sheet, size_t i)
     struct record layer_3 = sheet_record(sheet, i);
     struct record layer_1;
     struct record layer_2;
-    if (layer_3.layer != 3 ||
-        !find(sheet, i, layer_3.stripe, 1, &layer_1) ||
+    if (layer_3.layer != 3 || !find(sheet, i, layer_3.stripe, 1, &layer_1) ||
         !find(sheet, i, layer_3.stripe, 2, &layer_2)) {
         return false;
     }

@@ -47,8 +47,7 @@ static bool read_type(struct reading *reading, struct stripe *stripe)
     if (has_mask(type) && reading->mask_coder == 0) {
         return refuse(reading, BAD_TYPE, field);
     }
-    if ((has_background(type) || has_foreground(type)) &&
-        reading->image_coder == 0) {
+    if ((has_background(type) || has_foreground(type)) && reading->image_coder == 0) {
         return refuse(reading, BAD_TYPE, field);
     }
     return true;
@@ -70,8 +69,7 @@ static bool read_colour(struct reading *reading, uint32_t colour[3])
 /* 9.3: "8 octets", "horizontal offset, vertical offset".  "A present layer's
  * offsets are at most 65,535; an absent layer's are read, dropped and not
  * judged." */
-static bool read_offset(struct reading *reading, bool present, uint32_t *x,
-                        uint32_t *y)
+static bool read_offset(struct reading *reading, bool present, uint32_t *x, uint32_t *y)
 {
     size_t field;
     if (!read_field(reading, 8, &field)) {
@@ -120,20 +118,18 @@ static bool read_mask_length(struct reading *reading, struct stripe *stripe)
  * length" */
 static bool read_stripe_fields(struct reading *reading, struct stripe *stripe)
 {
-    return read_type(reading, stripe) &&
-           read_colour(reading, stripe->background_colour) &&
+    return read_type(reading, stripe) && read_colour(reading, stripe->background_colour) &&
            read_colour(reading, stripe->foreground_colour) &&
-           read_offset(reading, has_background(stripe->type),
-                       &stripe->background_x, &stripe->background_y) &&
-           read_offset(reading, has_foreground(stripe->type),
-                       &stripe->foreground_x, &stripe->foreground_y) &&
+           read_offset(reading, has_background(stripe->type), &stripe->background_x,
+                       &stripe->background_y) &&
+           read_offset(reading, has_foreground(stripe->type), &stripe->foreground_x,
+                       &stripe->foreground_y) &&
            read_height(reading, stripe) && read_mask_length(reading, stripe);
 }
 
 /* "Not coded: coder, start, offsets, width and height are 0 and resolution is
  * the main one." */
-static struct record uncoded_record(const struct reading *reading,
-                                    uint32_t layer)
+static struct record uncoded_record(const struct reading *reading, uint32_t layer)
 {
     struct record record = {0};
     record.stripe = reading->stripes; /* "stripe, from 0" */
@@ -156,8 +152,7 @@ static struct record image_record(const struct reading *reading, uint32_t layer,
 /* "Layer 2 is the exception: its offsets are always 0, its width is the page
  * width and its height the stripe height, coded or not (a virtual mask)"; "Even
  * layers have base colour 0 0 0." */
-static struct record mask_record(const struct reading *reading,
-                                 const struct stripe *stripe)
+static struct record mask_record(const struct reading *reading, const struct stripe *stripe)
 {
     struct record record = uncoded_record(reading, 2);
     record.width = reading->page_width;
@@ -166,8 +161,7 @@ static struct record mask_record(const struct reading *reading,
 }
 
 /* The mask ends by its length.  SHORT: "coded data ... does not fit whole" */
-static bool read_mask(struct reading *reading, const struct stripe *stripe,
-                      struct record *record)
+static bool read_mask(struct reading *reading, const struct stripe *stripe, struct record *record)
 {
     size_t start;
     if (!read_field(reading, stripe->mask_length, &start)) {
@@ -181,8 +175,7 @@ static bool read_mask(struct reading *reading, const struct stripe *stripe,
 
 /* "No length is given for layers 1 and 3 in Mode 1. The JPEG stream is
  * walked" */
-static bool read_image(struct reading *reading, uint32_t x, uint32_t y,
-                       struct record *record)
+static bool read_image(struct reading *reading, uint32_t x, uint32_t y, struct record *record)
 {
     size_t start = reading->at;
     struct jpeg_layer layer = jpeg_walk(reading->page, reading->octets, start,
@@ -208,28 +201,23 @@ bool read_stripe(struct reading *reading)
     if (!read_stripe_fields(reading, &stripe)) {
         return false;
     }
-    struct record background =
-        image_record(reading, 1, stripe.background_colour);
+    struct record background = image_record(reading, 1, stripe.background_colour);
     struct record mask = mask_record(reading, &stripe);
-    struct record foreground =
-        image_record(reading, 3, stripe.foreground_colour);
+    struct record foreground = image_record(reading, 3, stripe.foreground_colour);
     /* "Then come the coded layers present: mask, background, foreground." */
     if (has_mask(stripe.type) && !read_mask(reading, &stripe, &mask)) {
         return false;
     }
     if (has_background(stripe.type) &&
-        !read_image(reading, stripe.background_x, stripe.background_y,
-                    &background)) {
+        !read_image(reading, stripe.background_x, stripe.background_y, &background)) {
         return false;
     }
     if (has_foreground(stripe.type) &&
-        !read_image(reading, stripe.foreground_x, stripe.foreground_y,
-                    &foreground)) {
+        !read_image(reading, stripe.foreground_x, stripe.foreground_y, &foreground)) {
         return false;
     }
     /* "ordered by stripe and then by layer as numbers" */
-    struct record *records =
-        reading->records + reading->stripes * LAYERS_OF_A_STRIPE;
+    struct record *records = reading->records + reading->stripes * LAYERS_OF_A_STRIPE;
     records[0] = background;
     records[1] = mask;
     records[2] = foreground;

@@ -78,8 +78,7 @@ static bool disagrees(const struct source *source, struct record r)
     if (layer.end != r.length) {
         return true;
     }
-    return layer.width != r.width || layer.height != r.height ||
-           layer.resolution != r.resolution;
+    return layer.width != r.width || layer.height != r.height || layer.resolution != r.resolution;
 }
 
 /* MISMATCH: "or two coded masks have different coders", at the later one. */
@@ -88,8 +87,7 @@ static bool has_other_coder_before(const struct source *source, size_t i)
     struct record mask = sheet_record(source->sheet, i);
     for (size_t j = 0; j < i; j++) {
         struct record before = sheet_record(source->sheet, j);
-        if (before.layer == 2 && is_coded(before) &&
-            before.coder != mask.coder) {
+        if (before.layer == 2 && is_coded(before) && before.coder != mask.coder) {
             return true;
         }
     }
@@ -148,8 +146,7 @@ static void put_ident(struct pen *pen, uint32_t n)
 }
 
 /* The coded octets as they stand; none where the layer is not coded. */
-static void put_data(struct pen *pen, const struct source *source,
-                     struct record r)
+static void put_data(struct pen *pen, const struct source *source, struct record r)
 {
     for (size_t k = 0; k < r.length; k++) {
         put(pen, 1, source->data[r.start + k]);
@@ -190,8 +187,7 @@ static void put_start_of_page(struct pen *pen, const struct source *source)
 }
 
 /* "bit 0 background, bit 1 mask, bit 2 foreground" */
-static uint32_t type_of(struct record layer_1, struct record layer_2,
-                        struct record layer_3)
+static uint32_t type_of(struct record layer_1, struct record layer_2, struct record layer_3)
 {
     return (is_coded(layer_1) ? 1u : 0u) + (is_coded(layer_2) ? 2u : 0u) +
            (is_coded(layer_3) ? 4u : 0u);
@@ -216,8 +212,7 @@ static void put_offset(struct pen *pen, struct record r)
  * type, background base colour, foreground base colour, background offset,
  * foreground offset, stripe height, mask length. ... Then come the coded layers
  * present: mask, background, foreground." */
-static void put_stripe(struct pen *pen, const struct source *source,
-                       size_t first)
+static void put_stripe(struct pen *pen, const struct source *source, size_t first)
 {
     struct record layer_1 = sheet_record(source->sheet, first);
     struct record layer_2 = sheet_record(source->sheet, first + 1);
@@ -257,10 +252,9 @@ static struct reference_answer refusal(unsigned number, size_t place)
 /* "Writing: BadSheet, BadMode at the first layer above 3, each record in order
  * (Short before Mismatch), TooLong, NoRoom. ... For these the place is the
  * record ..., else 0." */
-struct reference_answer reference_write(const uint8_t *sheet,
-                                        size_t sheet_octets,
-                                        const uint8_t *data, size_t data_octets,
-                                        uint8_t *page, size_t page_octets)
+struct reference_answer reference_write(const uint8_t *sheet, size_t sheet_octets,
+                                        const uint8_t *data, size_t data_octets, uint8_t *page,
+                                        size_t page_octets)
 {
     struct verdict verdict = sheet_judge(sheet, sheet_octets);
     struct source source = {sheet, verdict.records, data, data_octets};

@@ -12,9 +12,8 @@
  * page begins with the octets counted.  "Octets past the result stay"; a
  * refusal changes no octet.  The place of a refusal is a record of the sheet,
  * or 0. */
-struct reference_answer reference_write(const uint8_t *sheet,
-                                        size_t sheet_octets,
-                                        const uint8_t *data, size_t data_octets,
-                                        uint8_t *page, size_t page_octets);
+struct reference_answer reference_write(const uint8_t *sheet, size_t sheet_octets,
+                                        const uint8_t *data, size_t data_octets, uint8_t *page,
+                                        size_t page_octets);
 
 #endif

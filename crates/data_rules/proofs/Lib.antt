@@ -3,4 +3,3 @@ pub mod Cases
 pub mod Exactly
 pub mod Handed
 pub mod Own
-pub mod Examples

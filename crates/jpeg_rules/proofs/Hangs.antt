@@ -1,5 +1,5 @@
 -- The walk hangs on the octets up to where it looked: two lists that agree so far are walked alike, refusals too. Where it ends it looked up to
--- its end, and where it is refused, past the place and not far walkBeyond.
+-- its end, and where it is refused, past the place and not far beyond.
 -- Assumes nothing.
 use Prim.Native.Nat.{ℕ, zero, suc, _+_, _-_, _≤_, _<_}
 use native.Mathlib.Omega.{arith}
@@ -40,7 +40,7 @@ use Rattle.jpeg_rules.proofs.LeafHangs.{Whole, seg-whole, seg-bad, mark
 
 -- ---- how near the end or the place of a refusal
 
--- where the walk ends it looked up to its end; where it is refused, past the place and not far walkBeyond
+-- where the walk ends it looked up to its end; where it is refused, past the place and not far beyond
 unfoldable pub NearWalk : ℕ → Walk → Type 0
 NearWalk look (Ends e w h r) = look ≡ e
 NearWalk look (Walk.Refused f) = (placeOf f < look) × (look ≤ placeOf f + walkBeyond f)

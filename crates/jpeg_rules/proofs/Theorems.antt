@@ -89,7 +89,7 @@ pub walk-decided : (s : List ℕ) → Octets s → (start main : ℕ) → ((p : 
     → Agree (walkLook s start main) s t → walkOf t start main ≡ walkOf s start main
 walk-decided s o start main u = walk-hangs s o start main u .hangs .same
 
--- where it ended, that is its end; where it was refused, past the place and not far walkBeyond
+-- where it ended, that is its end; where it was refused, past the place and not far beyond
 pub look-end : (s : List ℕ) → Octets s → (start main e w h r : ℕ) → walkOf s start main ≡ Ends e w h r → walkLook s start main ≡ e
 unfolding NearWalk
 look-end s o start main e w h r q = subst (NearWalk (walkLook s start main)) q (walk-hangs s o start main (λ p z. clash cc) .near)

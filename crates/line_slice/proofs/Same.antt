@@ -1,5 +1,5 @@
 -- A list of plane structs and its octets from C are the same plane list: the octets are read as the entries, and what `gather_planes` answers of the
--- structs is what `plane::listing_of` answers of the octets. Of two answers that a promise allows, both are the same.
+-- structs is what `line_planes::listing_of` answers of the octets. Of two answers that a promise allows, both are the same.
 -- Assumes nothing.
 use mathlib.Core.Path.{_≡_, refl, sym, ap, _∙_}
 use Prim.Native.Nat.{ℕ, zero, suc, _+_, _*_, _<_}
@@ -59,7 +59,7 @@ pub gathered-same : (ps : List Plane) → gathered noPlanes ps ≡ listingOf (pl
 unfolding listingOf
 gathered-same ps = ap (λ (t : PlaneList). gathered noPlanes (t .entries)) (sym (list-same ps))
 
--- so `gather_planes` on the structs and `plane::listing_of` on their octets answer the same
+-- so `gather_planes` on the structs and `line_planes::listing_of` on their octets answer the same
 pub answers-same : (ps : List Plane) (a b : Listing) → a ≡ gathered noPlanes ps → b ≡ listingOf (planeOctets ps) → a ≡ b
 answers-same ps a b e f = e ∙ gathered-same ps ∙ sym f
 

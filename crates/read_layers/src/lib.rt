@@ -1,4 +1,4 @@
-// The layers of a stripe: the mask's data, the walks of the image layers, and the three records that they give.
+// The coded layers of a stripe: the mask's data by its length, the image layers by their walks.
 ghost use mathlib.Core.Path.{_≡_};
 ghost use Prim.Native.Nat.{_+_, _≤_};
 ghost use Rattle.answers.specs.Answers.{placeOf};

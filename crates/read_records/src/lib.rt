@@ -1,7 +1,7 @@
 // The three records of a stripe, from its fields and its layers, and their octets in a sheet.
 //
 // A stripe's fields are judged before: a layer that is there has offsets below 65,536, and so is the height. What would not fit is cut off here, and
-// `fields-kept` says that nothing is.
+// `records-kept` says that nothing is.
 ghost use mathlib.Core.Path.{_≡_};
 ghost use mathlib.Core.Bool.{cond};
 ghost use Prim.Native.Nat.{_+_, _*_, _%_, _≤_};

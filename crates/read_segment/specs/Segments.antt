@@ -35,19 +35,19 @@ onRead s (ok vs n) = cond (eqb (getD vs 4 0) 0x01) (Stripe (getD vs 0 0)) (onSpa
 onRead s (no a) = Refused a
 
 -- the table of `segmentTable`, from the length and from the ident on
-abbrev pub identRow : ℕ → Field
-identRow k = val (one ∷ one ∷ one ∷ one ∷ []) (mrc (identOk k)) BadMark
+abbrev pub identField : ℕ → Field
+identField k = val (one ∷ one ∷ one ∷ one ∷ []) (mrc (identOk k)) BadMark
 
-abbrev pub lengthRow : Field
-lengthRow = val (two ∷ []) (is (leb 6)) BadLength
+abbrev pub lengthField : Field
+lengthField = val (two ∷ []) (is (leb 6)) BadLength
 
 unfoldable pub identOf : ℕ → List ℕ → ℕ → ℕ → Segment
 unfolding onRead
-identOf k s at size = onRead s (fields (identRow k ∷ []) (size ∷ []) s at)
+identOf k s at size = onRead s (fields (identField k ∷ []) (size ∷ []) s at)
 
 unfoldable pub lengthOf : ℕ → List ℕ → ℕ → Segment
 unfolding onRead
-lengthOf k s at = onRead s (fields (lengthRow ∷ identRow k ∷ []) [] s at)
+lengthOf k s at = onRead s (fields (lengthField ∷ identField k ∷ []) [] s at)
 
 unfoldable pub segmentOf : ℕ → List ℕ → ℕ → Segment
 unfolding onRead

@@ -97,7 +97,7 @@ pub fn segment_at(s: &[u8], k: u32, at: u32) -> Segment
     }
 }
 
-// ---- the end of page (9.2.4): its second FF D9, then zero octets only
+// ---- the end of page (9.4): its second FF D9, then zero octets only
 
 fn trailing(s: &[u8], from: usize) -> Judged
     requires { ⌜ length (now s) ≤ longestPage ⌝ }

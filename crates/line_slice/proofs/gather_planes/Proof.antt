@@ -1,5 +1,5 @@
--- `plane_slice::gather_planes` meets its contract: a walk of its MIR, by hand, with a loop and two calls in it. Each turn copies an entry out of the slice
--- and hands it, with the listing by value, to `plane::with_plane`, which is covered; the first listing is `plane::no_planes`'s.
+-- `line_slice::gather_planes` meets its contract: a walk of its MIR, by hand, with a loop and two calls in it. Each turn copies an entry out of the slice
+-- and hands it, with the listing by value, to `line_planes::with_plane`, which is covered; the first listing is `line_planes::no_planes`'s.
 -- What the plain structs own is made anew by `owned`; the loop's variant has what their relation says.
 -- Assumes nothing.
 use mathlib.Core.Path.{_≡_, refl, sym, _∙_, ap, subst}

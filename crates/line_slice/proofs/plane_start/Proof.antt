@@ -1,4 +1,4 @@
--- `plane_slice::plane_start` meets its contract: a walk of its MIR, by hand, with a loop, a return within it and a call at each way out. Each turn copies
+-- `line_slice::plane_start` meets its contract: a walk of its MIR, by hand, with a loop, a return within it and a call at each way out. Each turn copies
 -- an entry out of the slice. The answer, an enum, is made by a covered function; the walk knows of it what that function's contract says.
 -- Assumes nothing.
 use mathlib.Core.Path.{_≡_, refl, sym, _∙_, subst}
