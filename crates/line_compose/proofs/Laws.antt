@@ -170,7 +170,7 @@ module _ (s : List ℕ) (extent : Extent) (t : Listing) (d : List ℕ) (y : ℕ)
 
 pub ruleset showing = (needs, shown-place, shown-standing, shown-rows, shown-fits, shown-no-room, shown-done)
 
--- ---- behind the verdict
+-- ---- after the verdict
 
 module _ (s : List ℕ) (t : Listing) (part : Bool) (d : List ℕ) (k y : ℕ) where
   by-ruling : (a : Answer) (out : List ℕ) (x : Ruling) → rulingOf s (listFrom t part) d k y ≡ x → Refused a ≡ ruledOf x → Lines s (listFrom t part) d k y out a out

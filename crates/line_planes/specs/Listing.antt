@@ -1,8 +1,8 @@
 -- The plane list as parallel numbers: its first sixteen entries, layers and starts apart.
 --
 --   noPlanes         no entry
---   withPlane t p    one entry more; a seventeenth and those behind it are passed over
---   gathered t ps    the entries ps, in their order, behind those of t
+--   withPlane t p    one entry more; a seventeenth and those after it are passed over
+--   gathered t ps    the entries ps, in their order, after those of t
 --   listingOf s      the whole entries of a list from C
 --   entryOf t i      entry i of it
 --   entriesOf        all entries that it has, at most sixteen

@@ -43,7 +43,7 @@ pub fn plane_within(p: Plane, r: Record, room: usize) -> bool
     p.start as usize + span <= room
 }
 
-// An entry behind one of layer `last`.
+// An entry after one of layer `last`.
 pub fn plane_ok(sheet: &[u8], extent: Extent, samples: &[u8], last: u8, p: Plane) -> bool
     requires { ⌜ Whole (now sheet) extent ⌝ }
     ensures { λ b. ⌜ b ≡ planeOk (bareScene (now (sheet .entry)) extent (now (samples .entry))) last p ⌝ }

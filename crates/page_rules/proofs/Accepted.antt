@@ -111,7 +111,7 @@ mask-facts hd k height at n false g c w h small m =
       contents = inr (m .1 refl, record { coder = refl; start = refl; empty = inl refl });
     }
 
--- ---- the states behind the three records
+-- ---- the states after the three records
 
 module _ (st : State) (r : Record) where
   pub after-is-1 : r .layer ≡ 1 → after st r ≡ after1 st r

@@ -90,7 +90,7 @@ pub all-three : List ℕ
 unfolding typed picture
 all-three = headOf (typed 7 5) ++ (coded-mask ++ (picture ++ picture))
 
--- the sheets' sizes, with an optional segment before and zeros behind
+-- the sheets' sizes, with an optional segment before and zeros after
 pub six-types : (readOf (startOf colours ++ (back-only ++ (end ++ end))) stripeSheet ≡ Done 3)
     × (readOf (startOf colours ++ (mask-only ++ (end ++ end))) stripeSheet ≡ Done 3)
     × (readOf (startOf colours ++ (mask-back ++ (end ++ end))) stripeSheet ≡ Done 3)

@@ -85,7 +85,7 @@ read-refused s o room =
     go (no a) e = λ d. inl (page-refused s a o e)
 
 -- ---- a refusal other than Short, TooLong and NoRoom is decided by the octets up to where reading looked: up to the end of the field at fault, of
--- the ident behind a length, of the JPEG body. Every page that agrees so far gets the same refusal
+-- the ident after a length, of the JPEG body. Every page that agrees so far gets the same refusal
 
 pub page-decided : (s : List ℕ) → Octets s → (a : Answer) → pageOf s ≡ no a → ((p : ℕ) → a ≡ Short p → ⊥) → (t : List ℕ) → Agree (pageLook s) s t → pageOf t ≡ no a
 page-decided s o a q u t g = page-looked s o a q u .hangs .same t g ∙ q

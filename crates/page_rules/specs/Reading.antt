@@ -1,8 +1,8 @@
 -- Reading a Mode 1 page (01, "The page, Mode 1" and "Numbers that a call returns"): the first fault in page order, or the records of its sheet.
 --
 --   startTable        the start of page segment and the termination, field by field
---   segmentTable      a segment behind them: FF ED, a length of at least 6, and an ident that may stand there
---   stripeTable       the fields of a stripe behind its ident
+--   segmentTable      a segment after them: FF ED, a length of at least 6, and an ident that may stand there
+--   stripeTable       the fields of a stripe after its ident
 --   walked           an image layer where the type names one
 --   layersOf         the coded layers of a stripe, and its records
 --   bodyFrom         optional segments and stripes, up to the first FF D9
@@ -64,7 +64,7 @@ startTable =
 abbrev pub headFrom : List ℕ → Head
 headFrom vs = record { mask = getD vs 3 0; image = getD vs 4 0; main = getD vs 5 0; width = getD vs 6 0 }
 
--- ---- a segment behind the start: before the first stripe 01 or 03 to FE, then only 01
+-- ---- a segment after the start: before the first stripe 01 or 03 to FE, then only 01
 
 abbrev pub identOk : ℕ → ℕ → Bool
 identOk k n = eqb n 0x01 || eqb k 0 && within 0x03 0xFE n

@@ -6,10 +6,10 @@
 --   pixels f n         the octets of the first n pixels of a line
 --   linePixels v y     the octets of line y of a scene
 --   planeOk            an entry, after the layer listed last: the layer is above it, present, coded, and within the sample buffer
---   planesJudged       BadPlane at the first entry at fault, or at a part entry behind whole ones
+--   planesJudged       BadPlane at the first entry at fault, or at a part entry after whole ones
 --   Ruling             the scene to be composed, or the refusal
 --   rulingOf           BadSheet, BadLine, BadPlane
---   lineOf             what the call answers, where the buffer holds so many octets: behind those NoRoom
+--   lineOf             what the call answers, where the buffer holds so many octets: after those NoRoom
 --   lineInto           what the buffer holds afterwards
 --   Lines              the call's promise: it answers a, and the buffer is then e
 use Prim.Native.Nat.{ℕ, zero, suc, _+_, _*_}
@@ -67,7 +67,7 @@ planeOk v last p =
     && coded (recordOf v (p .layer))
     && leb (p .start + planeSpan (recordOf v (p .layer))) (length (v .samples))
 
--- entry i on, behind an entry of layer `last`
+-- entry i on, after an entry of layer `last`
 unfoldable pub planesJudged : Scene → Bool → ℕ → ℕ → List Plane → ListVerdict
 unfolding planeOk
 planesJudged v part last i [] = cond part (ListVerdict.Refused i) Fine

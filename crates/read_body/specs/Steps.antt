@@ -62,7 +62,7 @@ pub record Ready (out s : List ℕ) (k left at : ℕ) : Type 0 where
   pub low : left ≤ 65535
   pub room : length out ≡ pageSheet
 
--- however reading goes on behind a stripe, it goes on with this height, these records and this place
+-- however reading goes on after a stripe, it goes on with this height, these records and this place
 pub record StripeRead (hd : Head) (k left size : ℕ) (s : List ℕ) (at : ℕ) (out : List ℕ) (e height : ℕ) (out′ : List ℕ) : Type 0 where
   pub records : List Record
   pub three : length records ≡ 3

@@ -16,7 +16,7 @@ pub struct Place {
     pub left: u32,
 }
 
-// What the body comes to: how many stripes it has, and the place behind its first FF D9; or why it is refused.
+// What the body comes to: how many stripes it has, and the place after its first FF D9; or why it is refused.
 pub enum Body {
     Stripes { count: u16, next: u32 },
     Refused(Answer),
@@ -28,7 +28,7 @@ pub enum Turn {
     Stop(Body),
 }
 
-// What a stripe comes to: the place behind it and its height, or why it is refused.
+// What a stripe comes to: the place after it and its height, or why it is refused.
 pub enum Step {
     Next { next: u32, height: u32 },
     Refused(Answer),

@@ -1,4 +1,4 @@
-// The fields of a stripe (9.3) behind its ident: the table `stripeTable` of `page_rules` in code, line by line.
+// The fields of a stripe (9.3) after its ident: the table `stripeTable` of `page_rules` in code, line by line.
 ghost use mathlib.Core.Path.{_≡_};
 ghost use mathlib.Core.List.{[]};
 ghost use Prim.Native.Nat.{_≤_};

@@ -128,7 +128,7 @@ mask-inside s at mask i y z = record { within = leb-true _ _ (sym y ∙ z); smal
 pub mask-fits : (s : List ℕ) (at mask : ℕ) {f : Bool} → Inside s at → f ≡ leb (at + mask) (length s) → f ≡ true → Fits w32 (at + mask)
 mask-fits s at mask i y z = let l = i .small in let w = leb-true (at + mask) (length s) (sym y ∙ z) in record { fits = omega arith }
 
--- the place behind an image layer is one of the page, and not before it
+-- the place after an image layer is one of the page, and not before it
 pub walked-between : (s : List ℕ) (main : ℕ) (b : Bool) (at : ℕ) (c : LayerData) (n : ℕ) → at ≤ length s → walked s main b at ≡ ok c n → (at ≤ n) × (n ≤ length s)
 unfolding walked onWalk
 walked-between s main true at c n h e = by (walkOf s at main) (walk-inside s at main) e

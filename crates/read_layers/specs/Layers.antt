@@ -2,7 +2,7 @@
 --
 --   Inside s at              a place of a page that is not too long
 --   layerOf r                an image layer's reading
---   foreOf s main t back at  the foreground, behind a background
+--   foreOf s main t back at  the foreground, after a background
 --   layersIn s main t mask at  all of them, from the mask's first octet on
 use Prim.Native.Nat.{ℕ, _≤_}
 use mathlib.Core.List.{List}

@@ -39,7 +39,7 @@ use Rattle.read_body.proofs.Stripe.{judged-no, judged-ok}
 
 -- ---- judge_rest
 
--- what the end comes to does not hang on the records that stand before it
+-- what the end comes to does not depend on the records that stand before it
 module _ {A : Type 0} (s : List ℕ) (m : ℕ) (rs : A) where
   abbrev ended : Res A
   ended = bind (fields endTable [] s m) (λ (es : List ℕ) (e : ℕ). bind (zerosOf (drop e s) e) (λ (z end : ℕ). ok rs end))

@@ -1,7 +1,7 @@
--- A page behind its start, and the sheet: what each step is promised to come to, in the words of `page_rules`.
+-- A page after its start, and the sheet: what each step is promised to come to, in the words of `page_rules`.
 --
 --   Lent out s               a page that is not too long, and the scratch
---   restOf hd s              the page behind its start
+--   restOf hd s              the page after its start
 --   Judges x out r out′      the verdict is that of a reading x, and its records are laid in front
 --   Emits laid n d a e       so many stripes of what is laid, put in front of a sheet that has room for them
 use Prim.Native.Nat.{ℕ, _*_, _≤_}

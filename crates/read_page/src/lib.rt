@@ -20,7 +20,7 @@ pub enum Verdict {
     Refused(Answer),
 }
 
-// Behind a start that is fine: the body, the second FF D9 of the end, and zero octets only.
+// After a start that is fine: the body, the second FF D9 of the end, and zero octets only.
 fn judge_rest(out: &mut [u8], s: &[u8]) -> Verdict
     requires { ⌜ Opened (now out) (now s) ⌝ }
     ensures { λ r. ⌜ Judges (restOf (headAt (now (s .entry))) (now (s .entry))) (now (out .entry)) r (now (out .exit)) ⌝ }

@@ -1,4 +1,4 @@
-// A segment behind the start of page (`segmentTable` and `endTable` of `page_rules`), and the end. It is met up to two million times in a page, so that it
+// A segment after the start of page (`segmentTable` and `endTable` of `page_rules`), and the end. It is met up to two million times in a page, so that it
 // branches where a table of fields has one way out.
 ghost use mathlib.Core.Path.{_≡_};
 ghost use Prim.Native.Nat.{_+_, _≤_, _<_};
@@ -14,8 +14,8 @@ use page_rules::MRC;
 use page_rules::STRIPE;
 use read_field::Judged;
 
-// What stands behind the start of page: the first FF D9 of the end; a stripe, by the length that it tells; an optional segment, with the place
-// behind it; or what is wrong.
+// What stands after the start of page: the first FF D9 of the end; a stripe, by the length that it tells; an optional segment, with the place
+// after it; or what is wrong.
 pub enum Segment {
     End,
     Stripe { size: u16 },
@@ -44,7 +44,7 @@ fn skip(s: &[u8], at: u32, body: u32) -> Segment
     }
 }
 
-// Behind the marker and a length that is long enough: the ident, and what it makes of the segment.
+// After the marker and a length that is long enough: the ident, and what it makes of the segment.
 fn by_ident(s: &[u8], k: u32, at: u32, size: u16) -> Segment
     requires { ⌜ Behind at size ⌝ }
     ensures { λ r. ⌜ r ≡ identOf k (now (s .entry)) at size ⌝ }
@@ -63,7 +63,7 @@ fn by_ident(s: &[u8], k: u32, at: u32, size: u16) -> Segment
     }
 }
 
-// Behind the marker: a length below 6 at once.
+// After the marker: a length below 6 at once.
 fn by_length(s: &[u8], k: u32, at: u32) -> Segment
     requires { ⌜ at ≤ 16777217 ⌝ }
     ensures { λ r. ⌜ r ≡ lengthOf k (now (s .entry)) at ⌝ }

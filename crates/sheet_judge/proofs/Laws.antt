@@ -21,7 +21,7 @@ use Rattle.sheet_rules.specs.Record.{recordSize, recordAt, recordsFrom, rest}
 use Rattle.sheet_rules.specs.Judge.{closes, keeps, begin, after, after1, after2, after3, stepOf, endOf, onStep, walk, judge, judgeOf, answerOf, sheetAnswer}
 use Rattle.sheet_rules.proofs.Theorems.{refused-few}
 
--- ---- the state behind a record
+-- ---- the state after a record
 
 module _ (st t : State) (r : Record) where
   pub after-one : r .layer ≡ 1 → t ≡ after1 st r → t ≡ after st r

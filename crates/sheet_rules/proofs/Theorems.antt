@@ -94,7 +94,7 @@ sheet-few s n m e =
     let st = g .stripes in
     (omega arith, omega arith, omega arith, omega arith)
 
--- a record at fault is one of the first 960, or the one due behind them
+-- a record at fault is one of the first 960, or the one due after them
 pub refused-few : (s : List ℕ) (i : ℕ) → judgeOf s ≡ Refused i → (i ≤ mostRecords) × (i ≤ length s / recordSize)
 refused-few s i e = go (sheet-refused s i .0 e)
   where

@@ -59,7 +59,7 @@ module _ (r : Record) where
   pub height-else : (r .layer ≡ 2 → ⊥) → 0 ≡ heightIn r
   height-else d = simp (ne-eqb (r .layer) 2 d)
 
--- ---- one more record: of a stripe before, of the stripe itself, of one behind
+-- ---- one more record: of a stripe before, of the stripe itself, of one after it
 
 module _ (k : ℕ) (extent : Extent) (r : Record) where
   pub more-before : (h : ℕ) → r .stripe < k → h ≡ heightIn r

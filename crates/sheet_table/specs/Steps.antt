@@ -1,4 +1,4 @@
--- What is known of a sheet behind its judge, and of a stripe behind its finding: the steps of a line and of coded data begin so.
+-- What is known of a sheet once it is judged, and of a stripe once it is found: the steps of a line and of coded data begin so.
 --
 --   JudgedGood s     the judge takes the sheet
 --   Whole s extent    the stripe's records are there, and few

@@ -17,7 +17,7 @@ use sheet_rules::TWO_RECORDS;
 use write_rules::Tally;
 use write_verdict::Pass;
 
-// Three records a stripe; answers the place behind the last.
+// Three records a stripe; answers the place after the last.
 fn put_stripes(out: &mut [u8], s: &[u8], d: &[u8], n: usize) -> usize
     requires { ⌜ Lined (now out) (now s) (now d) n ⌝ }
     ensures put { λ _. ⌜ now (out .exit) ≡ putAt (now (out .entry)) 22 (stripesBy (now (d .entry)) (records (now (s .entry)))) ⌝ }
@@ -76,7 +76,7 @@ fn emit_page(out: &mut [u8], s: &[u8], d: &[u8], t: Tally)
     put_end(out, at);
 }
 
-// Behind the verdict: TooLong, then NoRoom, then the page.
+// After the verdict: TooLong, then NoRoom, then the page.
 fn write_sound(s: &[u8], d: &[u8], page: &mut [u8], t: Tally) -> Answer
     requires { ⌜ Sound (now s) (now d) t ⌝ }
     ensures { λ r. ⌜ Writes (now (s .entry)) (now (d .entry)) (now (page .entry)) r (now (page .exit)) ⌝ }

@@ -19,7 +19,7 @@ use Rattle.write_rules.specs.Sentences.{sizeOf, Sound, Gives, no-sheet, 
 use Rattle.write_rules.proofs.Answered.{verdict-back, accepted-sound, sheet-plain, verdict-sheet, verdict-mode, verdict-passes, verdict-there, short-there, mismatch-there, verdict-refused}
 use Rattle.write_rules.proofs.Into.{tally-size}
 
--- behind the verdict: the size
+-- after the verdict: the size
 size-gives : (s d : List ℕ) (room : ℕ) → Sound s d → Gives s d room (sizeAnswer room (sizeOf (records s)))
 unfolding sizeAnswer
 size-gives s d room k =

@@ -13,7 +13,7 @@
 --   stripeBy, stripesBy    a stripe with its coded layers, and all of them
 --   headBy rs t            what the start of page says
 --   pageBy d rs t          the page's octets
---   sizeAnswer room size   behind the verdict: TooLong, NoRoom, or Done
+--   sizeAnswer room size   after the verdict: TooLong, NoRoom, or Done
 --   writeOf s d room       what the call answers, where the page's buffer holds so many octets
 --   writeInto s d p        what the buffer p holds afterwards
 --   Writes s d p a e       the call's promise: it answers a, and the buffer p is then e
@@ -140,7 +140,7 @@ unfoldable pub pageBy : List ℕ → List Record → Tally → List ℕ
 unfolding stripesBy
 pageBy d rs t = startOf (headBy rs t) ++ (stripesBy d rs ++ (0xFF ∷ 0xD9 ∷ 0xFF ∷ 0xD9 ∷ []))
 
--- ---- the call: behind the verdict TooLong, then NoRoom
+-- ---- the call: after the verdict TooLong, then NoRoom
 
 unfoldable pub sizeAnswer : ℕ → ℕ → Answer
 sizeAnswer room size = cond (ltb longestPage size) TooLong (cond (ltb room size) NoRoom (Done size))
