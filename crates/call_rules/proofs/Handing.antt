@@ -8,6 +8,7 @@ use mathlib.Core.List.{List}
 use lib.ListN.{length, take}
 use Rattle.laws.proofs.Cases.{clash}
 use Rattle.octets.specs.Octets.{Octets}
+use Rattle.sheet_rules.specs.Record.{recordSize}
 use Rattle.answers.specs.declared.Answer.the-variants.{Done}
 use Rattle.answers.specs.Answers.{refusal-count}
 use Rattle.answers_report.specs.declared.Report.{Report}
@@ -99,7 +100,7 @@ module _ (sheet page pencil : List ℕ) (k l : ℕ) (r : DataReport) (c : DataCa
 
 -- with the sheet that a read gave, each layer of the page is handed out, and the part is the layer's octets
 pub read-handed : (page sheet : List ℕ) (r : Report) (sheet′ : List ℕ) → ReadCall page sheet r sheet′ → r .number ≡ 0 → Octets page
-    → OwnParts page (take (r .count * 28) sheet′)
+    → OwnParts page (take (r .count * recordSize) sheet′)
 read-handed page sheet r sheet′ c z o =
-    subst (λ (x : List ℕ). OwnParts page (take (r .count * 28) x)) (sym (c .holds))
+    subst (λ (x : List ℕ). OwnParts page (take (r .count * recordSize) x)) (sym (c .holds))
     (read-parts page sheet o (r .count) (report-done (readOf page (length sheet)) r (c .reports) z))

@@ -5,6 +5,7 @@ use mathlib.Core.Path.{_≡_, sym, ap, subst, _∙_}
 use mathlib.Core.List.{List}
 use lib.ListN.{length, take, drop}
 use Rattle.octets.specs.Octets.{Octets}
+use Rattle.sheet_rules.specs.Record.{recordSize}
 use Rattle.answers.specs.declared.Answer.the-variants.{Done}
 use Rattle.answers_report.specs.declared.Report.{Report}
 use Rattle.page_rules.specs.Reading.{readOf}
@@ -22,9 +23,9 @@ module _ (page sheet : List ℕ) (r : Report) (sheet′ : List ℕ) (c : ReadCal
     answered = report-done (readOf page (length sheet)) r (c .reports) z
 
     -- the octets past the sheet stay
-    pub read-rest : drop (r .count * 28) sheet′ ≡ drop (r .count * 28) sheet
-    read-rest = ap (drop (r .count * 28)) (c .holds) ∙ into-rest page sheet (r .count) answered
+    pub read-rest : drop (r .count * recordSize) sheet′ ≡ drop (r .count * recordSize) sheet
+    read-rest = ap (drop (r .count * recordSize)) (c .holds) ∙ into-rest page sheet (r .count) answered
 
     -- what stands in front is the sheet of the page, and one that the judge accepts
-    pub read-front : Octets page → Front page (r .count) (take (r .count * 28) sheet′)
-    read-front o = subst (λ (l : List ℕ). Front page (r .count) (take (r .count * 28) l)) (sym (c .holds)) (into-front page sheet o (r .count) answered)
+    pub read-front : Octets page → Front page (r .count) (take (r .count * recordSize) sheet′)
+    read-front o = subst (λ (l : List ℕ). Front page (r .count) (take (r .count * recordSize) l)) (sym (c .holds)) (into-front page sheet o (r .count) answered)

@@ -9,6 +9,7 @@ use mathlib.Core.List.{List}
 use lib.ListN.{length}
 use lib.Dec.{leb, ltb}
 use borrow.Author.Tests.{ltb-true, ltb-false}
+use Rattle.sheet_rules.proofs.Cut.{record-nth, records-count}
 use Rattle.laws.proofs.Cases.{cond-with}
 use Rattle.laws.proofs.Says.{says-le, says-lt, says-and, says-else}
 use Rattle.answers.specs.declared.Answer.the-variants.{BadSheet, BadLine, Short}
@@ -25,7 +26,7 @@ use Rattle.data_rules.specs.declared.Found.the-variants.{Lies}
 use Rattle.data_rules.specs.Data.{sourceOf, octetsIn, partIn, recordFound, layerFound, stripeFound, sheetFound, foundOf}
 use Rattle.data_rules.specs.Sentences.{LayerAt, Fits, Passes}
 use Rattle.sheet_rules.specs.Sentences.{Accepted}
-use Rattle.data_rules.proofs.Layer.{layer-first, layer-last, layer-stripe, nth-at, records-count, passes-in, fits-in}
+use Rattle.data_rules.proofs.Layer.{layer-first, layer-last, layer-stripe, passes-in, fits-in}
 
 module _ (s page pencil : List ℕ) (k l : ℕ) where
   pub found-cases : (P : Found → Type 0)
@@ -55,7 +56,7 @@ module _ (s page pencil : List ℕ) (k l : ℕ) where
           let b = f .3 in
           let w : i < length (records s) = omega arith in
           let u = records-count s in
-          let q = nth-at s i (omega arith) in
+          let q = record-nth s i (omega arith) in
           subst (λ x. P (recordFound page pencil l i x)) q
           (of-record (a .sheet, a .whole) i
           (record { within = w; stripe = ap (λ x. x .stripe) q ∙ f .1; layer = ap (λ x. x .layer) q ∙ f .2 })))

@@ -7,6 +7,7 @@ use mathlib.Core.Logic.{_↔_, _⊎_, inl, inr, ⊎-elim}
 use mathlib.Core.List.{List}
 use lib.ListN.{length}
 use borrow.Author.Tests.{eq-eqb, ne-eqb}
+use Rattle.sheet_rules.proofs.Cut.{records-count}
 use Rattle.laws.proofs.Says.{says-eq, says-else}
 use Rattle.answers.specs.declared.Answer.{Answer}
 use Rattle.answers.specs.declared.Answer.the-variants.{Done, Short, BadSheet, BadLine}
@@ -18,7 +19,7 @@ use Rattle.sheet_rules.proofs.Judged.{fault-once, fault-no-sheet}
 use Rattle.sheet_rules.proofs.Theorems.{sheet-refused, refused-few}
 use Rattle.data_rules.specs.Data.{partIn, dataBy, dataOf}
 use Rattle.data_rules.specs.Sentences.{LayerAt, Fits, Passes, Gives, no-sheet, no-layer, passing, handed}
-use Rattle.data_rules.proofs.Layer.{layer-once, records-count, passes-not}
+use Rattle.data_rules.proofs.Layer.{layer-once, passes-not}
 use Rattle.data_rules.proofs.Cases.{found-cases}
 
 -- the part of a record is as long as the record says, also where that is 0

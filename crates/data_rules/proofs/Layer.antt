@@ -1,6 +1,6 @@
 -- The record of a layer of a stripe: where the stripe table has it, and nowhere else; and what holds its data.
 -- Assumes nothing.
-use Prim.Native.Nat.{ℕ, zero, suc, _+_, _-_, _/_, _≤_, _<_}
+use Prim.Native.Nat.{ℕ, zero, suc, _+_, _-_, _≤_, _<_}
 use native.Mathlib.Omega.{arith}
 use mathlib.Core.Path.{_≡_, sym, ap, subst, _∙_}
 use mathlib.Core.Logic.{inl, inr, ⊎-elim}
@@ -9,11 +9,10 @@ use lib.ListN.{length}
 use borrow.Author.Tests.{le-leb, lt-leb}
 use Rattle.laws.proofs.Says.{says-le, says-lt, says-else}
 use Rattle.sheet_rules.specs.declared.Record.{Record}
-use Rattle.sheet_rules.specs.Record.{recordSize, recordAt, records, nth}
+use Rattle.sheet_rules.specs.Record.{nth}
 use Rattle.sheet_rules.specs.Sentences.{Above, Opening, Sheet, stripeCount}
 use Rattle.sheet_rules.specs.StripeTable.{extentOf}
 use Rattle.sheet_rules.proofs.Among.{nth-among}
-use Rattle.sheet_rules.proofs.Cut.{length-records, nth-records}
 use Rattle.sheet_rules.proofs.Fold.{begun-holds, unbroken-begun}
 use Rattle.sheet_rules.proofs.Extents.{Extents, extents-begin, extents-more}
 use Rattle.sheet_rules.proofs.Table.{sheet-table}
@@ -67,15 +66,6 @@ module _ (rs : List Record) (z : Sheet rs) where
   -- a layer of a stripe has one record
   pub layer-once : (k l i j : ℕ) → LayerAt rs k l i → LayerAt rs k l j → i ≡ j
   layer-once k l i j y x = layer-place k l i y ∙ sym (layer-place k l j x)
-
--- a record of the sheet by its number
-pub nth-at : (s : List ℕ) (i : ℕ) → i < length s / recordSize → nth (records s) i ≡ recordAt s i
-unfolding records
-nth-at s i h = let z : 0 + i ≡ i = omega arith in nth-records s (length s / recordSize) 0 i h ∙ ap (recordAt s) z
-
-pub records-count : (s : List ℕ) → length (records s) ≡ length s / recordSize
-unfolding records
-records-count s = length-records s (length s / recordSize) 0
 
 -- ---- what holds its data
 

@@ -1,4 +1,6 @@
--- Coded data handed out (01, "The sheet", its last paragraph; the order, the values and the places under "Numbers that a call returns").
+-- The steps of handing out coded data (01, "The sheet", its last paragraph; the order, the values and the places under "Numbers that a call returns").
+-- Read Sentences.antt first, which says when each answer is given and what the part is: `data-exactly` (proofs/Exactly.antt) and `part-handed`
+-- (proofs/Handed.antt) tie these steps to it.
 -- s is the sheet, k the stripe and l the layer that are asked for.
 --
 --   sourceOf l                   what holds the coded data of a layer of that number

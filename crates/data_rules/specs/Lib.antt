@@ -1,3 +1,3 @@
-pub mod Data
 pub mod Sentences
 pub mod Own
+pub mod Data

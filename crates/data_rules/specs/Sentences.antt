@@ -1,5 +1,5 @@
 -- Coded data handed out, as sentences: when each answer is given (01, "Numbers that a call returns": BadSheet, BadLine, Short), which octets the part is
--- and where it stands, without the steps of Data.antt.
+-- and where it stands. The steps, in Data.antt, come last.
 --
 --   LayerAt rs k l i         the record i is that of layer l of stripe k
 --   Fits page pencil l r     start plus length is within what holds the data: the page for layers 1 to 3, the pencil file for higher ones

@@ -1,4 +1,4 @@
--- Reading hangs on the octets up to where it looked: two lists that agree so far are read alike, refusals too.
+-- Reading depends on the octets up to where it looked: two lists that agree so far are read alike, refusals too.
 -- Assumes nothing.
 use Prim.Native.Nat.{ℕ, _+_, _-_, _≤_}
 use native.Mathlib.Omega.{arith}
@@ -33,7 +33,7 @@ Whole r = (p : ℕ) → r ≡ no (Short p) → ⊥
 
 -- ---- a field
 
--- a test of numbers known already, and then the fields behind it
+-- a test of numbers known already, and then the fields after it
 module _ (refusal : Answer) (table : List Field) (before s : List ℕ) (at : ℕ) (h : at ≤ length s)
     (rest : Whole (fields table before s at) → Hangs (reach table before s at) (λ (t : List ℕ). fields table before t at) s at) where
   test-hangs : (b : Bool) → Whole (cond b (fields table before s at) (no refusal))
@@ -41,7 +41,7 @@ module _ (refusal : Answer) (table : List Field) (before s : List ℕ) (at : ℕ
   test-hangs true w = rest w
   test-hangs false w = hangs-none s (no refusal) at at (omega arith) h
 
--- a field of n octets, whatever it is: its test, and the numbers known behind it, are of those octets alone
+-- a field of n octets, whatever it is: its test, and the numbers known after it, are of those octets alone
 module _ (n at : ℕ) (test : List ℕ → Bool) (known : List ℕ → List ℕ) (refusal : Answer) (table : List Field) where
   abbrev readField : List ℕ → Res (List ℕ)
   readField s = cond (ltb (length s) (at + n)) (no (Short at)) (cond (test s) (fields table (known s) s (at + n)) (no refusal))

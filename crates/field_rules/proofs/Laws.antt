@@ -1,4 +1,4 @@
--- Reading a segment by its table and what its octets are: each from the other, and what either hangs on.
+-- Reading a segment by its table and what its octets are: each from the other, and what either depends on.
 -- Assumes nothing.
 use Prim.Native.Nat.{ℕ, suc, _+_, _-_, _≤_, _<_}
 use native.Mathlib.Omega.{arith}

@@ -1,4 +1,4 @@
--- How far reading a segment looked: up to the place behind its fields where it was read, and where it was refused, as far as its table says.
+-- How far reading a segment looked: up to the place after its fields where it was read, and where it was refused, as far as its table says.
 -- Assumes nothing.
 use Prim.Native.Nat.{ℕ, _+_, _-_, _≤_}
 use native.Mathlib.Omega.{arith}

@@ -42,7 +42,7 @@ module _ (Q : Answer → Type 0) (s : List ℕ) (short : (p : ℕ) → p ≤ len
       (λ u e. fields-refused table (k .1) before at h e)
       (λ u e. told at (refusal (at - back)) (k .0 (at - back) (omega arith)) e)
 
--- ---- where reading ends: behind all fields
+-- ---- where reading ends: after all fields
 
 unfoldable pub rowsSize : List Field → ℕ
 unfolding widths

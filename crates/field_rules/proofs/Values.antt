@@ -1,4 +1,4 @@
--- The numbers that a table's reading gives are those at its fields' places: code may read them there, behind the verdict.
+-- The numbers that a table's reading gives are those at its fields' places: code may read them there, after the verdict.
 -- Assumes nothing.
 use Prim.Native.Nat.{ℕ, _+_}
 use mathlib.Core.Path.{_≡_, sym, _∙_}

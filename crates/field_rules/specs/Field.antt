@@ -1,11 +1,11 @@
 -- A segment of the page as a table of its fields in order, read at a place. The table is the paper's; reading, and what the octets are, come from it.
 --
---   Res A            a value and the place behind it, or a refusal
+--   Res A            a value and the place after it, or a refusal
 --   Width            one, two or four octets
 --   numbers ws s at  the numbers of these widths from a place on, most significant octet first
 --   Field            a field: `mark`, octets that must stand there; `val`, numbers under a rule that may look at those before; or `again`, a
 --                    rule on numbers read before, refused so many octets back
---   fields table before s at   the numbers read, behind those before; or the refusal of the first field at fault
+--   fields table before s at   the numbers read, with those before in front; or the refusal of the first field at fault
 --   reach table before s at    how far it looked
 --
 -- A field that does not fit whole is Short, whatever its octets say.

@@ -1,4 +1,4 @@
-// Markers of a JPEG stream (T.81 B.1.1.3): the class of a code, the marker where one is due, and the next one behind scan data.
+// Markers of a JPEG stream (T.81 B.1.1.3): the class of a code, the marker where one is due, and the next one after scan data.
 ghost use mathlib.Core.Path.{_≡_};
 ghost use mathlib.Core.Bool.{cond};
 ghost use Prim.Native.Nat.{_+_, _<_, _≤_};
@@ -89,7 +89,7 @@ fn stops(a: u8, b: u8) -> bool
     judge(a, b) == 1
 }
 
-// Octet by octet, for the block that has a marker and for the last octets. The last octet has none behind it and is no marker.
+// Octet by octet, for the block that has a marker and for the last octets. The last octet has none after it and is no marker.
 fn near(s: &[u8], from: usize) -> Found
     ensures { λ r. ⌜ r ≡ scanOf (now (s .entry)) from ⌝ }
 {

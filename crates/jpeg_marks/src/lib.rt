@@ -51,7 +51,7 @@ pub fn frame_step(s: &[u8], st: Reach, n: usize) -> Turn
     }
 }
 
-// T.81 B.2.3: the scan header's components are not read; the data behind it ends at the next marker.
+// T.81 B.2.3: the scan header's components are not read; the data after it ends at the next marker.
 pub fn scan_step(s: &[u8], st: Reach, n: usize) -> Turn
     requires { ⌜ n ≤ length (now s) ⌝ }
     ensures { λ r. ⌜ r ≡ scanStepOf (now (s .entry)) st n ⌝ }

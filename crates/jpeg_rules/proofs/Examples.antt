@@ -33,7 +33,7 @@ scan = 0xFF ∷ 0xDA ∷ 0x00 ∷ 0x03 ∷ 0x00 ∷ 0x12 ∷ 0xFF ∷ 0x00 ∷ 0
 unfoldable pub alone : List ℕ
 alone = 0xFF ∷ 0x01 ∷ []
 
--- two scans, a marker that stands alone, and octets behind the layer, FF D9 FF D9 among them
+-- two scans, a marker that stands alone, and octets after the layer, FF D9 FF D9 among them
 pub walk-ends : walkOf (opening ++ tag200 ++ alone ++ frame ++ scan ++ tag300 ++ scan ++ closing ++ closing ++ closing) 0 400 ≡ Ends 68 8 16 200
 unfolding walkOf turnOf markerOf classOf segOf scanOf tagOf frameOf frameBodyOf scanStepOf segmentOf endOf standsAt begins be16At opening closing tag200 tag300 frame scan alone
 walk-ends = refl
@@ -60,7 +60,7 @@ pub walk-two-frames : walkOf (opening ++ tag200 ++ frame ++ frame ++ scan ++ clo
 unfolding walkOf turnOf markerOf classOf segOf scanOf tagOf frameOf frameBodyOf scanStepOf segmentOf endOf standsAt begins be16At opening closing tag200 frame scan
 walk-two-frames = refl
 
--- a second FF D8 behind scan data is decided by its two octets: FF 00 there would be data, without an end
+-- a second FF D8 after scan data is decided by its two octets: FF 00 there would be data, without an end
 pub walk-looks : (walkOf (opening ++ tag200 ++ frame ++ scan ++ opening) 0 400 ≡ Refused (BadLayer 38))
     × (walkLook (opening ++ tag200 ++ frame ++ scan ++ opening) 0 400 ≡ 40)
     × (walkOf (opening ++ tag200 ++ frame ++ scan ++ (0xFF ∷ 0x00 ∷ [])) 0 400 ≡ Refused (Short 31))

@@ -1,4 +1,4 @@
--- The walk hangs on the octets up to where it looked: two lists that agree so far are walked alike, refusals too. Where it ends it looked up to
+-- The walk depends on the octets up to where it looked: two lists that agree so far are walked alike, refusals too. Where it ends it looked up to
 -- its end, and where it is refused, past the place and not far beyond.
 -- Assumes nothing.
 use Prim.Native.Nat.{ℕ, zero, suc, _+_, _-_, _≤_, _<_}
@@ -211,7 +211,7 @@ module _ (s : List ℕ) (o : Octets s) (main : ℕ) where
 
   -- ---- the walk, whatever its count: one for each list that is enough for it
 
-  -- a turn, and then the walk behind it
+  -- a turn, and then the walk after it
   walk-turn : (k : ℕ) (count : List ℕ → ℕ) (st : Reach) → count s ≡ suc k → ((t : List ℕ) → length t < count t + st .at)
       → ((x : Reach) → st .at + 2 ≤ x .at → UncutWalk (walkFrom k s main x) → Looked (walkLookFrom k s main x) (λ (t : List ℕ). walkFrom (count t - 1) t main x) s (x .at + 2))
       → UncutWalk (walkFrom (suc k) s main st) → Looked (walkLookFrom (suc k) s main st) (λ (t : List ℕ). walkFrom (count t) t main st) s (st .at + 2)

@@ -1,4 +1,4 @@
--- The leaves of the walk hang on their octets: a marker, a segment's length, scan data up to the next marker, a tag, a frame's body.
+-- The leaves of the walk depend on their octets: a marker, a segment's length, scan data up to the next marker, a tag, a frame's body.
 -- Assumes nothing.
 use Prim.Native.Nat.{ℕ, zero, suc, _+_, _-_, _≤_}
 use native.Mathlib.Omega.{arith}
@@ -88,7 +88,7 @@ marker-hangs s at =
           simp (l, x, y, le-ltb (length t) (at + 2) (a .right));
     }
 
--- the marker behind scan data is found in any list where the same octets lead up to it
+-- the marker after scan data is found in any list where the same octets lead up to it
 scan-along : (t : List ℕ) (m i p : ℕ) → p - i ≤ m → Passed t i p → scanOf t i ≡ At p
 scan-along t zero i p l k =
     let a = k .after in let b = k .inside in let z : i ≡ p = omega arith in scan-here t i (omega arith) (ap (stopsAt t) z ∙ k .stop) ∙ ap At z

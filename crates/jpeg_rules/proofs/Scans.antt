@@ -1,4 +1,4 @@
--- Scan data: the walk's next marker stands behind it exactly if it is scan data.
+-- Scan data: the walk's next marker stands after it exactly if it is scan data.
 -- Assumes nothing.
 use Prim.Native.Nat.{ℕ, zero, suc, _+_, _-_, _≤_, _<_}
 use native.Mathlib.Omega.{arith}
@@ -36,7 +36,7 @@ module _ (s : List ℕ) (i : ℕ) where
       let z : length s - (i + 1) ≡ suc (length s - (i + 1 + 1)) = omega arith in
       ap (λ (k : ℕ). scanFrom k s i) z ∙ ap (λ (b : Bool). cond b (At i) (scanFrom (length s - (i + 1 + 1)) s (i + 1))) e
 
--- ---- behind scan data the next marker is found
+-- ---- after scan data the next marker is found
 
 pub scan-there : (s : List ℕ) (d : List ℕ) → Data d → (i c : ℕ) (r : List ℕ) → drop i s ≡ d ++ (0xFF ∷ c ∷ r) → stopsOf 0xFF c ≡ true
     → scanOf s i ≡ At (i + length d)
@@ -159,7 +159,7 @@ module _ (s : List ℕ) (p : ℕ) (g : p + 1 < length s) (ff : getD s p 0 ≡ 0x
           (λ (z : i + 1 ≢ p). omega arith)
           (says-else (says-eq (i + 1) p))
 
--- the octets that were passed are scan data, and the marker stands behind them
+-- the octets that were passed are scan data, and the marker stands after them
 pub scan-data : (s : List ℕ) (i p : ℕ) → scanOf s i ≡ At p
     → Data (take (p - i) (drop i s)) × (drop i s ≡ take (p - i) (drop i s) ++ drop p s) × (getD s p 0 ≡ 0xFF)
 scan-data s i p e =

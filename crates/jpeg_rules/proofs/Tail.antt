@@ -1,4 +1,4 @@
--- Where the walk ends, the octets behind the frame are pieces of the grammar.
+-- Where the walk ends, the octets after the frame are pieces of the grammar.
 -- Assumes nothing.
 use Prim.Native.Nat.{ℕ, _+_, _-_, _≤_}
 use native.Mathlib.Omega.{arith}
@@ -53,7 +53,7 @@ stood s o at c n least next two m g =
       stands = k .2 ∙ ap (λ (l : List ℕ). 0xFF ∷ c ∷ l) (b .stands ∙ sym (append-assoc (octets16 (length (b .body) + 2)) (b .body) (drop next s)));
     }
 
--- ---- behind the frame
+-- ---- after the frame
 
 pub record Tail (s : List ℕ) (st : Reach) (e w h r : ℕ) : Type 0 where
   pub after : List Piece

@@ -1,4 +1,4 @@
--- Where a layer of the grammar stands, the walk ends behind it, with its size and resolution.
+-- Where a layer of the grammar stands, the walk ends after it, with its size and resolution.
 -- Assumes nothing.
 use Prim.Native.Nat.{ℕ, _+_, _≤_}
 use native.Mathlib.Omega.{arith}
@@ -48,7 +48,7 @@ headed P (segment b body ∷ ps) g c r h k =
 headed P (scan header scanned ∷ ps) g c r h k =
     k 0xDA ((((octets16 (length header + 2) ++ header) ++ scanned) ++ piecesOf ps) ++ (0xFF ∷ c ∷ r)) refl
 
--- what is known behind pieces
+-- what is known after pieces
 pub record Behind (st t : Reach) (ps : List Piece) : Type 0 where
   pub at : t .at ≡ st .at + length (piecesOf ps)
   pub framed : t .framed ≡ st .framed
@@ -109,7 +109,7 @@ module _ (s : List ℕ) (main : ℕ) where
   allowed-same st u ps e (inl f) = inl (e ∙ f)
   allowed-same st u ps e (inr f) = inr f
 
-  -- a scan stands only behind the frame
+  -- a scan stands only after the frame
   scan-allowed : (st : Reach) (header scanned : List ℕ) (ps : List Piece) → Allowed st (scan header scanned ∷ ps) → st .framed ≡ true
   unfolding Each isScan
   scan-allowed st header scanned ps (inl e) = e
@@ -120,7 +120,7 @@ module _ (s : List ℕ) (main : ℕ) where
   allowed-more st p ps (inl e) = inl e
   allowed-more st p ps (inr e) = inr (e .1)
 
-  -- where the first of pieces gives no resolution, or none is wanted, those behind it give the same
+  -- where the first of pieces gives no resolution, or none is wanted, those after it give the same
   pub res-plain : (x : ℕ) (c : ℕ) (body : List ℕ) (ps : List Piece) → eqb x 0 && tagged c body ≡ false
       → cond (eqb x 0) (resolution ps) x ≡ cond (eqb x 0) (resolution (segment c body ∷ ps)) x
   unfolding resolution
@@ -163,7 +163,7 @@ module _ (s : List ℕ) (main : ℕ) where
   resolved-same ps st p q (inl d) = inl d
   resolved-same ps st p q (inr o) = inr (ap (resolves main) q ∙ o)
 
-  -- the walk over the pieces behind the first, from any state that fits
+  -- the walk over the pieces after the first, from any state that fits
   abbrev Rest : List Piece → ℕ → List ℕ → Walk → Bool → Type 0
   Rest ps c r w f = (u : Reach) → drop (u .at) s ≡ piecesOf ps ++ (0xFF ∷ c ∷ r) → u .framed ≡ f → Resolved u ps → Onto u ps c r w → Walks s main u w
 
@@ -308,7 +308,7 @@ module _ (s : List ℕ) (start main : ℕ) (l rest : List ℕ) (width height res
   w : Walk
   w = Ends (start + length l) width height res
 
-  -- behind the frame
+  -- after the frame
   last-walk : (u t : Reach) → Behind u t (y .after) → u .at ≡ start + 2 + length (piecesOf (y .before)) + 2 + (length (y .body) + 2)
       → u .width ≡ width → u .height ≡ height → u .res ≡ res → drop (t .at) s ≡ 0xFF ∷ 0xD9 ∷ rest → Walks s main t w
   unfolding w

@@ -46,7 +46,7 @@ module _ (s : List ℕ) (main : ℕ) (st : Reach) where
   unfolding markOf classOf
   turn-end r e h = turn-class 0xD9 r End e refl ∙ ap (λ (b : Bool). cond b (Stop (Ends (st .at + 2) (st .width) (st .height) (st .res))) (refused (BadLayer (st .at)))) h
 
-  -- a marker with a length: the body, and what stands behind it
+  -- a marker with a length: the body, and what stands after it
   module _ (c : ℕ) (body r : List ℕ) (e : drop (st .at) s ≡ lengthed c body ++ r) where
     opened : drop (st .at) s ≡ 0xFF ∷ c ∷ octets16 (length body + 2) ++ (body ++ r)
     unfolding lengthed
@@ -171,7 +171,7 @@ module _ (s : List ℕ) (main : ℕ) (st : Reach) where
         turn-class c (octets16 (length body + 2) ++ (body ++ r)) Frame opened k
         ∙ simp (f, ne-eqb (st .res) 0 d, seg-is 8 l, a, b, ne-eqb (be16At body 1) 0 h, ne-eqb (be16At body 3) 0 w)
 
--- ---- a scan, with its data and the marker behind it
+-- ---- a scan, with its data and the marker after it
 
 pub turn-scan : (s : List ℕ) (main : ℕ) (st : Reach) (header scanned : List ℕ) (c : ℕ) (r : List ℕ)
     → drop (st .at) s ≡ lengthed 0xDA header ++ (scanned ++ (0xFF ∷ c ∷ r)) → Data scanned → stopsOf 0xFF c ≡ true → st .framed ≡ true

@@ -67,7 +67,7 @@ g3fax = 0x47 ∷ 0x33 ∷ 0x46 ∷ 0x41 ∷ 0x58 ∷ 0x00 ∷ []
 unfoldable pub tagged : ℕ → List ℕ → Bool
 tagged c body = eqb c 0xE1 && leb 12 (length body + 2) && begins body g3fax
 
--- two octets behind the tag are not tested, then comes the resolution
+-- two octets after the tag are not tested, then comes the resolution
 unfoldable pub resolution : List Piece → ℕ
 unfolding tagged
 resolution [] = 0

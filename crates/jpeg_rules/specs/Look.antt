@@ -2,12 +2,12 @@
 -- a body by the octets up to the body's end, since a body that passes the end is Short, unjudged (01, "Numbers that a call returns").
 --
 --   bodyLook g n go         a segment whose length stands at n: to the end of the length where that is at fault, else what `go` says of the body
---   markLook s st n c       a marker of a class, behind which n stands
+--   markLook s st n c       a marker of a class, after which n stands
 --   turnLook s st           one marker, with its length and its body
 --   walkLook s start main   the walk: as far as its last marker
 --   walkBeyond f                at most so many octets from a refusal's place on were looked at
 --
--- Where the walk is Short, that hangs on the end of the list as well, and these say nothing.
+-- Where the walk is Short, that depends on the end of the list as well, and these say nothing.
 use Prim.Native.Nat.{ℕ, zero, suc, _+_}
 use mathlib.Core.Bool.{_&&_, cond}
 use mathlib.Core.List.{List}
@@ -76,8 +76,8 @@ unfolding walkLookFrom
 walkLook s start main =
     cond (eqb (getD s start 0) 0xFF && eqb (getD s (start + 1) 0) 0xD8) (walkLookFrom (length s) s main (begun (start + 2))) (start + 2)
 
--- a length has two octets; a body ends at most 65,535 octets behind its length's first, where a resolution stands 10 and a frame's height 3
--- octets behind that
+-- a length has two octets; a body ends at most 65,535 octets after its length's first, where a resolution stands 10 and a frame's height 3
+-- octets after that
 unfoldable pub walkBeyond : Fault → ℕ
 walkBeyond (Short p) = 0
 walkBeyond (BadLength p) = 2

@@ -1,8 +1,8 @@
--- The walk over a JPEG layer's markers, from its first octet to behind its FF D9 (01, "Where an image layer ends").
+-- The walk over a JPEG layer's markers, from its first octet to the end of its FF D9 (01, "Where an image layer ends").
 --
 --   segOf s n least     the segment whose length stands at n
---   scanOf s i          the next marker behind scan data
---   frameOf, scanStepOf, segmentOf   a marker of each kind, its code behind which n stands
+--   scanOf s i          the next marker after scan data
+--   frameOf, scanStepOf, segmentOf   a marker of each kind, its code after which n stands
 --   turnOf s main st    one marker
 --   walkOf s start main the walk
 --
@@ -55,7 +55,7 @@ unfolding stopsOf
 scanFrom zero s i = Nothing
 scanFrom (suc k) s i = cond (stopsOf (getD s i 0) (getD s (i + 1) 0)) (At i) (scanFrom k s (i + 1))
 
--- the first from i on that has an octet behind it
+-- the first from i on that has an octet after it
 unfoldable pub scanOf : List ℕ → ℕ → Found
 unfolding scanFrom
 scanOf s i = scanFrom (length s - (i + 1)) s i
@@ -69,7 +69,7 @@ unfoldable pub tagOf : List ℕ → Reach → ℕ → ℕ → Tag
 tagOf s st c n =
     cond (eqb c 0xE1 && eqb (st .res) 0 && leb 12 (be16At s n) && standsAt s (n + 2) g3fax) (Gives (be16At s (n + 10))) Plain
 
--- ---- what is known behind a frame, a scan and another marker
+-- ---- what is known after a frame, a scan and another marker
 
 abbrev pub framed : Reach → ℕ → ℕ → ℕ → Reach
 framed st at width height =
@@ -107,14 +107,14 @@ frameBodyOf s st n next =
     (cond (eqb (be16At s (n + 5)) 0) (refused (BadLayer (n + 5)))
     (Go (framed st next (be16At s (n + 5)) (be16At s (n + 3)))))
 
--- the frame: the first, behind the resolution, and at least 8 long
+-- the frame: the first, after the resolution, and at least 8 long
 unfoldable pub frameOf : List ℕ → Reach → ℕ → Turn
 frameOf s st n =
     cond (st .framed) (refused (BadLayer (st .at)))
     (cond (eqb (st .res) 0) (refused (BadLayer (st .at)))
     (onBody (segOf s n 8) (λ (next : ℕ). frameBodyOf s st n next)))
 
--- a scan: behind the frame; the next marker stands behind its header and its data
+-- a scan: after the frame; the next marker stands after its header and its data
 unfoldable pub scanStepOf : List ℕ → Reach → ℕ → Turn
 scanStepOf s st n =
     cond (st .framed)

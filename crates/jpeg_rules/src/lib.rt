@@ -13,7 +13,7 @@ pub enum Class {
     Segment,
 }
 
-// What stands where a marker is due: its code and the place behind it; an octet other than FF; or too few octets.
+// What stands where a marker is due: its code and the place after it; an octet other than FF; or too few octets.
 pub enum Marker {
     Code { code: u8, next: usize },
     Missing,
@@ -28,7 +28,7 @@ pub enum Fault {
     BadLayer(usize),
 }
 
-// A segment by its length: the place behind it, or what is wrong.
+// A segment by its length: the place after it, or what is wrong.
 pub enum Seg {
     Body(usize),
     Refused(Fault),

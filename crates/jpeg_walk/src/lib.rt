@@ -11,7 +11,7 @@ use jpeg_rules::Reach;
 use jpeg_rules::Turn;
 use jpeg_rules::Walk;
 
-// A marker whose code has been read, with n behind it.
+// A marker whose code has been read, with n after it.
 fn mark_step(s: &[u8], main: u16, st: Reach, code: u8, n: usize) -> Turn
     requires { ⌜ n ≤ length (now s) ⌝ }
     ensures { λ r. ⌜ r ≡ markOf (now (s .entry)) main st code n (classOf code) ⌝ }

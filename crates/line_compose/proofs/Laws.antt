@@ -13,6 +13,8 @@ use Rattle.laws.proofs.Cases.{clash}
 use Rattle.octets.specs.Octets.{putAt}
 use Rattle.octets.proofs.Laws.{put-nothing, put-put, put-length}
 use Rattle.octets.proofs.Turns.{sets-put}
+use Rattle.line_fetch.specs.Rows.{rowSize, rowsSize}
+use Rattle.sheet_rules.specs.StripeTable.{layerRecord}
 use Rattle.answers.specs.declared.Answer.{Answer}
 use Rattle.answers.specs.declared.Answer.the-variants.{Done, NoRoom}
 use Rattle.sheet_rules.specs.declared.Record.{Record}
@@ -24,7 +26,7 @@ use Rattle.sheet_rules.specs.declared.Colour.{Colour}
 use Rattle.picture_rules.specs.declared.Sample.{Sample}
 use Rattle.picture_rules.specs.declared.Sample.the-variants.{Known, Unknown}
 use Rattle.picture_rules.specs.Planes.{PlaneList, listOf}
-use Rattle.picture_rules.specs.Samples.{Scene, recordOf, widthOf}
+use Rattle.picture_rules.specs.Samples.{Scene, widthOf}
 use Rattle.picture_rules.specs.Decide.{decide}
 use Rattle.picture_rules.specs.Line.{unseen, fourOf, pixels, linePixels, Ruling, shows, refuses, rulingOf, lineAnswer, lineOf, lineHolds, lineInto, Lines}
 use Rattle.picture_rules.proofs.Fours.{length-pixels}
@@ -34,7 +36,7 @@ use Rattle.line_planes.specs.declared.Listing.{Listing}
 use Rattle.line_planes.specs.Listing.{listingOf, entriesOf}
 use Rattle.line_planes.proofs.Entries.{gathered-holds}
 use Rattle.line_pixel.specs.Rows.{rowStack, RowsFit}
-use Rattle.line_rows.specs.Rows.{layerAt, rowsOf, Standing}
+use Rattle.line_rows.specs.Rows.{rowsOf, Standing}
 use Rattle.line_rows.proofs.Fit.{rows-fit, pixel-is}
 use Rattle.line_verdict.specs.declared.Ruled.{Ruled}
 use Rattle.line_verdict.specs.declared.Ruled.the-variants.{Shows, Refused}
@@ -125,7 +127,7 @@ module _ (s : List ℕ) (extent : Extent) (t : Listing) (d : List ℕ) (y : ℕ)
   shown-place = let w = whole in let c = stage-layers stage in omega arith
 
   pub shown-standing : Standing s extent
-  unfolding recordOf layerAt
+  unfolding layerRecord
   shown-standing =
       let c = stage-layers stage in
       record {
@@ -136,15 +138,15 @@ module _ (s : List ℕ) (extent : Extent) (t : Listing) (d : List ℕ) (y : ℕ)
         turns = λ l a b. scene-ratio-some stage l a b;
       }
 
-  pub shown-ninety : extent .layers * 6 ≤ length {A = ℕ} (replicate 90 0)
-  shown-ninety = let c = stage-layers stage in let n : length {A = ℕ} (replicate 90 0) ≡ 90 = refl in omega arith
+  pub shown-rows : extent .layers * rowSize ≤ length {A = ℕ} (replicate rowsSize 0)
+  shown-rows = let c = stage-layers stage in let n : length {A = ℕ} (replicate rowsSize 0) ≡ rowsSize = refl in omega arith
 
-  pub shown-fits : (rows : List ℕ) → rows ≡ putAt (replicate 90 0) 0 (rowsOf s extent (entriesOf t) (record { 0 = y }) (extent .layers)) → RowsFit s d rows (extent .layers / 2)
-  shown-fits rows e = subst (λ (r : List ℕ). RowsFit s d r (extent .layers / 2)) (sym e) (rows-fit here list (g .stripe) y (record { 0 = y }) stage whole (replicate 90 0) shown-ninety)
+  pub shown-fits : (rows : List ℕ) → rows ≡ putAt (replicate rowsSize 0) 0 (rowsOf s extent (entriesOf t) (record { 0 = y }) (extent .layers)) → RowsFit s d rows (extent .layers / 2)
+  shown-fits rows e = subst (λ (r : List ℕ). RowsFit s d r (extent .layers / 2)) (sym e) (rows-fit here list (g .stripe) y (record { 0 = y }) stage whole (replicate rowsSize 0) shown-rows)
 
   module _ (out : List ℕ) (second : Record) (width : ℕ) (es : second ≡ recordAt s (extent .first + 1)) (ew : width ≡ second .width) where
     wide-is : width ≡ widthOf here
-    unfolding recordOf
+    unfolding layerRecord
     wide-is = ew ∙ ap (λ (r : Record). r .width) es
 
     pub shown-no-room : length out < width * 4 → Composed here y out NoRoom out
@@ -153,7 +155,7 @@ module _ (s : List ℕ) (extent : Extent) (t : Listing) (d : List ℕ) (y : ℕ)
         let z = lt-ltb (length out) (widthOf here * 4) (subst (λ (n : ℕ). length out < n * 4) wide-is h) in
         record { answers = rw z refl; holds = rw z refl }
 
-    pub shown-done : (rows e : List ℕ) → width * 4 ≤ length out → rows ≡ putAt (replicate 90 0) 0 (rowsOf s extent (entriesOf t) (record { 0 = y }) (extent .layers))
+    pub shown-done : (rows e : List ℕ) → width * 4 ≤ length out → rows ≡ putAt (replicate rowsSize 0) 0 (rowsOf s extent (entriesOf t) (record { 0 = y }) (extent .layers))
         → e ≡ putAt out 0 (pixels (λ (x : MainPos). decide (rowStack s d rows x) (extent .layers / 2)) width) → Composed here y out (Done (width * 4)) e
     unfolding lineAnswer lineHolds linePixels
     shown-done rows e h er ee =
@@ -163,12 +165,12 @@ module _ (s : List ℕ) (extent : Extent) (t : Listing) (d : List ℕ) (y : ℕ)
           holds = rw z
               (ee ∙ ap₂ (λ (r : List ℕ) (n : ℕ). putAt out 0 (pixels (λ (x : MainPos). decide (rowStack s d r x) (extent .layers / 2)) n)) er wide-is
               ∙ ap (λ (f : MainPos → Sample). putAt out 0 (pixels f (widthOf here)))
-              (λ i x. pixel-is here list (g .stripe) y (record { 0 = y }) stage whole (replicate 90 0) shown-ninety x i));
+              (λ i x. pixel-is here list (g .stripe) y (record { 0 = y }) stage whole (replicate rowsSize 0) shown-rows x i));
         }
 
-pub ruleset showing = (needs, shown-place, shown-standing, shown-ninety, shown-fits, shown-no-room, shown-done)
+pub ruleset showing = (needs, shown-place, shown-standing, shown-rows, shown-fits, shown-no-room, shown-done)
 
--- ---- behind the verdict
+-- ---- after the verdict
 
 module _ (s : List ℕ) (t : Listing) (part : Bool) (d : List ℕ) (k y : ℕ) where
   by-ruling : (a : Answer) (out : List ℕ) (x : Ruling) → rulingOf s (listFrom t part) d k y ≡ x → Refused a ≡ ruledOf x → Lines s (listFrom t part) d k y out a out

@@ -2,7 +2,7 @@
 --
 --   sceneFrom    the scene of a stripe, a plane list as parallel numbers, and the samples
 --   Showable v y    the ruling on some stripe's line y shows the scene
---   Composed     the answer and the buffer behind that ruling
+--   Composed     the answer and the buffer after that ruling
 use Prim.Native.Nat.{ℕ}
 use mathlib.Core.Path.{_≡_}
 use mathlib.Core.Bool.{Bool}

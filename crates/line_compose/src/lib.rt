@@ -11,6 +11,7 @@ ghost use Rattle.line_pixel.specs.Rows.{rowStack, RowsFit};
 ghost use Rattle.line_verdict.specs.Ruled.{listFrom};
 ghost use Rattle.line_compose.specs.Composing.{sceneFrom, Showable, Composed};
 use answers::Answer;
+use line_fetch::ROWS_SIZE;
 use line_planes::Listing;
 use line_planes::PLANE_SIZE;
 use line_verdict::Ruled;
@@ -70,7 +71,7 @@ pub fn show_line(
     if out.len() < width * 4 {
         return Answer::NoRoom;
     }
-    let mut rows: [usize; 90] = [0; 90];
+    let mut rows: [usize; ROWS_SIZE] = [0; ROWS_SIZE];
     line_rows::put_rows(&mut rows, sheet, extent, t, MainPos(y as usize));
     put_pixels(
         out,

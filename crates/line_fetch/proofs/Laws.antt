@@ -1,6 +1,6 @@
 -- One law for each way out of the functions of a layer's row: its premises are what is known there.
 -- Assumes nothing.
-use Prim.Native.Nat.{ℕ, _+_, _*_, _≤_, _<_}
+use Prim.Native.Nat.{ℕ, _+_, _-_, _*_, _≤_, _<_}
 use mathlib.Core.Path.{_≡_, refl}
 use mathlib.Core.Logic.{_≢_}
 use mathlib.Core.Bool.{Bool, true, false, _&&_}
@@ -20,19 +20,19 @@ use Rattle.picture_rules.specs.Place.{scale}
 use Rattle.picture_rules.specs.Samples.{bitOf}
 use Rattle.sheet_rules.specs.Record.{colourAt}
 use Rattle.line_fetch.specs.declared.Row.{Row}
-use Rattle.line_fetch.specs.Rows.{rowAt, rowMask, rowImage, MaskFits, ImageFits}
+use Rattle.line_fetch.specs.Rows.{rowSize, rowAt, rowMask, rowImage, MaskFits, ImageFits}
 
-pub row-read : (ns : List ℕ) (i : ℕ)
+pub row-read : (ns : List ℕ) (l : ℕ)
     → record {
-      from = getD ns (i * 6) 0;
-      to = getD ns (i * 6 + 1) 0;
-      k = getD ns (i * 6 + 2) 0;
-      read = getD ns (i * 6 + 3) 0;
-      at = getD ns (i * 6 + 4) 0;
-      other = getD ns (i * 6 + 5) 0;
-    } ≡ rowAt ns i
+      from = getD ns ((l - 1) * rowSize) 0;
+      to = getD ns ((l - 1) * rowSize + 1) 0;
+      k = getD ns ((l - 1) * rowSize + 2) 0;
+      read = getD ns ((l - 1) * rowSize + 3) 0;
+      at = getD ns ((l - 1) * rowSize + 4) 0;
+      other = getD ns ((l - 1) * rowSize + 5) 0;
+    } ≡ rowAt ns l
 unfolding rowAt
-row-read ns i = refl
+row-read ns l = refl
 
 -- ---- a mask's sample, an image layer's
 
@@ -45,9 +45,9 @@ module _ (d : List ℕ) (r : Row) (x : MainPos) where
   unfolding rowMask
   mask-before m h e = simp (lt-leb (r .from) (x .0) h, e)
 
-  pub mask-behind : (m : Mask) → r .to ≤ x .0 → m ≡ bitOf (r .other) → m ≡ rowMask d r x
+  pub mask-after : (m : Mask) → r .to ≤ x .0 → m ≡ bitOf (r .other) → m ≡ rowMask d r x
   unfolding rowMask
-  mask-behind m h e = simp (le-ltb (x .0) (r .to) h, and-no (leb (r .from) (x .0)), e)
+  mask-after m h e = simp (le-ltb (x .0) (r .to) h, and-no (leb (r .from) (x .0)), e)
 
   pub mask-unread : r .from ≤ x .0 → x .0 < r .to → r .read ≡ 0 → Hidden ≡ rowMask d r x
   unfolding rowMask
@@ -66,9 +66,9 @@ module _ (s d : List ℕ) (r : Row) (x : MainPos) where
   unfolding rowImage
   image-before c h e = simp (lt-leb (r .from) (x .0) h, e)
 
-  pub image-behind : (c : Colour) → r .to ≤ x .0 → c ≡ colourAt s (r .other) → Known c ≡ rowImage s d r x
+  pub image-after : (c : Colour) → r .to ≤ x .0 → c ≡ colourAt s (r .other) → Known c ≡ rowImage s d r x
   unfolding rowImage
-  image-behind c h e = simp (le-ltb (x .0) (r .to) h, and-no (leb (r .from) (x .0)), e)
+  image-after c h e = simp (le-ltb (x .0) (r .to) h, and-no (leb (r .from) (x .0)), e)
 
   pub image-unread : r .from ≤ x .0 → x .0 < r .to → r .read ≡ 0 → Unknown ≡ rowImage s d r x
   unfolding rowImage
@@ -85,4 +85,4 @@ module _ (s d : List ℕ) (r : Row) (x : MainPos) where
 
 pub ruleset rows = (needs, row-read)
 
-pub ruleset fetching = (needs, mask-before, mask-behind, mask-unread, mask-read, mask-there, image-before, image-behind, image-unread, image-read, image-there)
+pub ruleset fetching = (needs, mask-before, mask-after, mask-unread, mask-read, mask-there, image-before, image-after, image-unread, image-read, image-there)

@@ -1,11 +1,12 @@
 -- A layer of a stripe in one line of the picture, worked out once a line.
 --
---   rowAt ns i       row i of the rows' numbers
+--   rowSize          how many numbers a row has; rowsSize: those of 15 layers, as many as a stripe has at most
+--   rowAt ns l       the row of layer l among the rows' numbers
 --   numbersOf        the numbers of a row
 --   across r x       the place lies in the row's main pixels
 --   rowMask          a mask's sample in its row; rowImage: that of an image layer, whose base colour stands in the sheet
 --   MaskFits         the samples that the row of a mask names are in the buffer; ImageFits: the same of an image layer, and its base colour in the sheet
-use Prim.Native.Nat.{ℕ, _+_, _*_, _≤_, _<_}
+use Prim.Native.Nat.{ℕ, _+_, _-_, _*_, _≤_, _<_}
 use mathlib.Core.Logic.{_≢_}
 use mathlib.Core.Bool.{Bool, _&&_, cond}
 use mathlib.Core.List.{List, [], _∷_}
@@ -21,15 +22,22 @@ use Rattle.picture_rules.specs.Samples.{bitOf}
 use Rattle.sheet_rules.specs.Record.{colourAt}
 use Rattle.line_fetch.specs.declared.Row.{Row}
 
+abbrev pub rowSize : ℕ
+rowSize = 6
+
+abbrev pub rowsSize : ℕ
+rowsSize = 15 * rowSize
+
+-- layer 1 has the first row
 unfoldable pub rowAt : List ℕ → ℕ → Row
-rowAt ns i =
+rowAt ns l =
     record {
-      from = getD ns (i * 6) 0;
-      to = getD ns (i * 6 + 1) 0;
-      k = getD ns (i * 6 + 2) 0;
-      read = getD ns (i * 6 + 3) 0;
-      at = getD ns (i * 6 + 4) 0;
-      other = getD ns (i * 6 + 5) 0;
+      from = getD ns ((l - 1) * rowSize) 0;
+      to = getD ns ((l - 1) * rowSize + 1) 0;
+      k = getD ns ((l - 1) * rowSize + 2) 0;
+      read = getD ns ((l - 1) * rowSize + 3) 0;
+      at = getD ns ((l - 1) * rowSize + 4) 0;
+      other = getD ns ((l - 1) * rowSize + 5) 0;
     }
 
 abbrev pub numbersOf : Row → List ℕ

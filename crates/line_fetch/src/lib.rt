@@ -1,14 +1,17 @@
 // A layer's sample at a pixel, fetched from the layer's row.
 ghost use mathlib.Core.Path.{_≡_};
-ghost use Prim.Native.Nat.{_+_, _*_, _≤_};
+ghost use Prim.Native.Nat.{_*_, _≤_};
 ghost use lib.ListN.{length};
-ghost use Rattle.line_fetch.specs.Rows.{rowAt, rowMask, rowImage, MaskFits, ImageFits};
+ghost use Rattle.line_fetch.specs.Rows.{rowSize, rowAt, rowMask, rowImage, MaskFits, ImageFits};
 use picture_rules::MainPos;
 use picture_rules::Mask;
 use picture_rules::Sample;
 
 // How many numbers a row has among the rows of a line.
 pub const ROW_SIZE: usize = 6;
+
+// The numbers of the rows of 15 layers, as many as a stripe has at most.
+pub const ROWS_SIZE: usize = 15 * ROW_SIZE;
 
 // A layer in one line of the picture, worked out once a line: its main pixels `from` up to `to`, k of them a sample; whether it was read (0: not),
 // and where the line's samples then start; and what it gives elsewhere: a mask its value, an image layer the place of its base colour in the sheet.
@@ -21,12 +24,12 @@ pub struct Row {
     pub other: usize,
 }
 
-// The rows stand flat in one lent slice: a struct of arrays by value would be copied for every pixel.
-pub fn row_at(rows: &[usize], i: usize) -> Row
-    requires { ⌜ i * 6 + 6 ≤ length (now rows) ⌝ }
-    ensures { λ r. ⌜ r ≡ rowAt (now (rows .entry)) i ⌝ }
+// The row of layer l. The rows stand flat in one lent slice, from layer 1 on: a struct of arrays by value would be copied for every pixel.
+pub fn row_at(rows: &[usize], l: usize) -> Row
+    requires { ⌜ (1 ≤ l) × (l * rowSize ≤ length (now rows)) ⌝ }
+    ensures { λ r. ⌜ r ≡ rowAt (now (rows .entry)) l ⌝ }
 {
-    let b = i * ROW_SIZE;
+    let b = (l - 1) * ROW_SIZE;
     Row {
         from: rows[b],
         to: rows[b + 1],

@@ -5,13 +5,13 @@ ghost use Rattle.line_pixel.specs.Rows.{rowPair, rowStack, PairFits, Row
 use picture_rules::MainPos;
 use picture_rules::Sample;
 
-// One pair more: the mask of row 2k + 1 and the image layer of row 2k + 2, over what lies below.
-pub fn pair_at(s: &[u8], d: &[u8], rows: &[usize], k: usize, x: MainPos, low: Sample) -> Sample
-    requires { ⌜ PairFits (now s) (now d) (now rows) k ⌝ }
-    ensures { λ r. ⌜ r ≡ rowPair (now (s .entry)) (now (d .entry)) (now (rows .entry)) k x low ⌝ }
+// Pair j more, from 1 on: the mask of layer 2j and the image layer 2j + 1, over what lies below.
+pub fn pair_at(s: &[u8], d: &[u8], rows: &[usize], j: usize, x: MainPos, low: Sample) -> Sample
+    requires { ⌜ PairFits (now s) (now d) (now rows) j ⌝ }
+    ensures { λ r. ⌜ r ≡ rowPair (now (s .entry)) (now (d .entry)) (now (rows .entry)) j x low ⌝ }
 {
-    let m = line_fetch::mask_at(d, line_fetch::row_at(rows, k * 2 + 1), x);
-    let up = line_fetch::image_at(s, d, line_fetch::row_at(rows, k * 2 + 2), x);
+    let m = line_fetch::mask_at(d, line_fetch::row_at(rows, j * 2), x);
+    let up = line_fetch::image_at(s, d, line_fetch::row_at(rows, j * 2 + 1), x);
     line_pair::pair_step(m, low, up)
 }
 
@@ -20,11 +20,11 @@ pub fn pixel(s: &[u8], d: &[u8], rows: &[usize], pairs: usize, x: MainPos) -> Sa
     requires { ⌜ RowsFit (now s) (now d) (now rows) pairs ⌝ }
     ensures { λ r. ⌜ r ≡ decide (rowStack (now (s .entry)) (now (d .entry)) (now (rows .entry)) x) pairs ⌝ }
 {
-    let mut cur = line_fetch::image_at(s, d, line_fetch::row_at(rows, 0), x);
-    let mut k: usize = 0;
-    while k < pairs {
-        cur = pair_at(s, d, rows, k, x, cur);
-        k += 1;
+    let mut cur = line_fetch::image_at(s, d, line_fetch::row_at(rows, 1), x);
+    let mut j: usize = 0;
+    while j < pairs {
+        j += 1;
+        cur = pair_at(s, d, rows, j, x, cur);
     }
     cur
 }

@@ -7,10 +7,12 @@ use mathlib.Core.Logic.{⊎-elim}
 use mathlib.Core.List.{List, [], _∷_, _++_, append-nil, append-assoc}
 use lib.ListN.{length, set, take, length-set}
 use lib.Seq.{getD-set-same, getD-set-other}
+use Rattle.octets.specs.Entries.{entriesFrom}
+use Rattle.octets.proofs.Entries.{entries-one-more, entries-same}
 use Rattle.laws.proofs.Says.{says-lt, says-else}
 use Rattle.picture_rules.specs.declared.Plane.{Plane}
 use Rattle.line_planes.specs.declared.Listing.{Listing}
-use Rattle.line_planes.specs.Listing.{noPlanes, gathered, entryOf, entriesFrom, entriesOf}
+use Rattle.line_planes.specs.Listing.{noPlanes, gathered, entryOf, entriesOf}
 use Rattle.line_planes.proofs.Laws.{plane-kept, gather-full}
 
 -- a list as the struct holds it: at most sixteen entries, in arrays of sixteen
@@ -21,21 +23,6 @@ pub record Wide (t : Listing) : Type 0 where
 
 pub wide-none : Wide noPlanes
 wide-none = record { count = omega arith; layers = refl; starts = refl }
-
--- ---- entries one by one
-
-same-entries : (t u : Listing) (k i : ℕ) → ((j : ℕ) → j < i + k → entryOf u j ≡ entryOf t j) → entriesFrom u k i ≡ entriesFrom t k i
-unfolding entriesFrom
-same-entries t u zero i f = refl
-same-entries t u (suc k) i f = ap₂ _∷_ (f i (omega arith)) (same-entries t u k (i + 1) (λ j h. f j (omega arith)))
-
-last-entry : (t : Listing) (k i : ℕ) → entriesFrom t (k + 1) i ≡ entriesFrom t k i ++ (entryOf t (i + k) ∷ [])
-unfolding entriesFrom
-last-entry t zero i = let z : i ≡ i + 0 = omega arith in ap (λ (n : ℕ). entryOf t n ∷ []) z
-last-entry t (suc k) i =
-    let z : i + 1 + k ≡ i + suc k = omega arith in
-    let w : suc k + 1 ≡ suc (k + 1) = omega arith in
-    ap (λ (n : ℕ). entriesFrom t n i) w ∙ ap (λ ps. entryOf t i ∷ ps) (last-entry t k (i + 1) ∙ ap (λ (n : ℕ). entriesFrom t k (i + 1) ++ (entryOf t n ∷ [])) z)
 
 -- ---- one entry more
 
@@ -70,8 +57,8 @@ module _ (t : Listing) (p : Plane) (w : Wide t) (h : t .count < 16) where
   more-entries =
       let a : min (t .count + 1) 16 ≡ t .count + 1 = omega arith in
       let b : min (t .count) 16 ≡ t .count = omega arith in
-      ap (λ (n : ℕ). entriesFrom more n 0) a ∙ last-entry more (t .count) 0
-      ∙ ap₂ (λ ps q. ps ++ (q ∷ [])) (same-entries t more (t .count) 0 (λ j l. entry-old j (omega arith)) ∙ ap (λ (n : ℕ). entriesFrom t n 0) (sym b)) (ap (entryOf more) (let z : 0 + t .count ≡ t .count = omega arith in z) ∙ entry-new)
+      ap (λ (n : ℕ). entriesFrom (entryOf more) n 0) a ∙ entries-one-more (entryOf more) (t .count)
+      ∙ ap₂ (λ ps q. ps ++ (q ∷ [])) (entries-same (entryOf more) (entryOf t) (t .count) 0 0 (λ j l. entry-old (0 + j) (omega arith)) ∙ ap (λ (n : ℕ). entriesFrom (entryOf t) n 0) (sym b)) entry-new
 
 -- ---- the whole list
 

@@ -1,6 +1,6 @@
 -- One law for each way out of the functions that gather a plane list: its premises are what is known there.
 -- Assumes nothing.
-use Prim.Native.Nat.{ℕ, suc, _+_, _-_, _*_, _/_, _≤_, _<_, min}
+use Prim.Native.Nat.{ℕ, _+_, _-_, _*_, _/_, _≤_, _<_, min}
 use native.Mathlib.Omega.{arith}
 use mathlib.Core.Path.{_≡_, refl, sym, ap, _∙_}
 use mathlib.Core.Logic.{_≢_}
@@ -10,11 +10,13 @@ use lib.ListN.{length, getD, set}
 use borrow.Author.Tests.{lt-ltb, le-ltb, eq-eqb, ne-eqb}
 use borrow.Author.Needs.{needs}
 use Rattle.octets.specs.Octets.{be32At}
+use Rattle.octets.specs.Entries.{entriesFrom}
+use Rattle.octets.proofs.Entries.{entries-next, entries-none}
 use Rattle.picture_rules.specs.declared.Plane.{Plane}
-use Rattle.picture_rules.specs.Planes.{planeSize, planeAt, planesFrom, planeStart}
+use Rattle.picture_rules.specs.Planes.{planeSize, planeAt, planeStart}
 use Rattle.picture_rules.specs.declared.Start.the-variants.{From, Unread}
 use Rattle.line_planes.specs.declared.Listing.{Listing}
-use Rattle.line_planes.specs.Listing.{noPlanes, withPlane, gathered, listingOf, entryOf, entriesFrom, entriesOf}
+use Rattle.line_planes.specs.Listing.{noPlanes, withPlane, gathered, listingOf, entryOf, entriesOf}
 
 -- ---- one entry
 
@@ -32,12 +34,12 @@ module _ (t : Listing) (p : Plane) where
   unfolding withPlane
   plane-passed h = simp (le-ltb (t .count) 16 h)
 
--- ---- the loop over the entries: the whole list is what is left of it, gathered behind what is there
+-- ---- the loop over the entries: the whole list is what is left of it, gathered after what is there
 
 pub record Gathering (s : List ℕ) (n : ℕ) (t : Listing) (i : ℕ) : Type 0 where
   pub within : i ≤ n
   pub whole : n ≡ length s / planeSize
-  pub left : listingOf s ≡ gathered t (planesFrom s (n - i) i)
+  pub left : listingOf s ≡ gathered t (entriesFrom (planeAt s) (n - i) i)
 
 pub gather-full : (t : Listing) (ps : List Plane) → 16 ≤ t .count → gathered t ps ≡ t
 unfolding gathered
@@ -49,19 +51,16 @@ module _ (s : List ℕ) (n : ℕ) where
   unfolding listingOf
   gather-none t w e = record { within = omega arith; whole = w; left = let z : length s / planeSize - 0 ≡ length s / planeSize = omega arith in rw (e, w, z) refl }
 
-  one-more : (k i : ℕ) (t : Listing) → i < k → gathered t (planesFrom s (k - i) i) ≡ gathered (withPlane t (planeAt s i)) (planesFrom s (k - (i + 1)) (i + 1))
-  unfolding gathered planesFrom
-  one-more k i t h = let e : k - i ≡ suc (k - (i + 1)) = omega arith in rw e
-
   pub gather-more : (t u : Listing) (p : Plane) (i : ℕ) → Gathering s n t i → i < n → p ≡ planeAt s i → u ≡ withPlane t p → Gathering s n u (i + 1)
-  gather-more t u p i g h ep eu = record { within = omega arith; whole = g .whole; left = g .left ∙ one-more n i t h ∙ rw (eu, ep) refl }
+  unfolding gathered
+  gather-more t u p i g h ep eu = record { within = omega arith; whole = g .whole; left = g .left ∙ ap (gathered t) (entries-next (planeAt s) n i h) ∙ rw (eu, ep) refl }
 
   pub gather-stop : (t : Listing) (i : ℕ) → Gathering s n t i → t .count ≡ 16 → t ≡ listingOf s
-  gather-stop t i g e = sym (g .left ∙ gather-full t (planesFrom s (n - i) i) (omega arith))
+  gather-stop t i g e = sym (g .left ∙ gather-full t (entriesFrom (planeAt s) (n - i) i) (omega arith))
 
   pub gather-end : (t : Listing) (i : ℕ) → Gathering s n t i → n ≤ i → t ≡ listingOf s
-  unfolding gathered planesFrom
-  gather-end t i g h = sym (g .left ∙ (let e : n - i ≡ 0 = omega arith in rw e))
+  unfolding gathered
+  gather-end t i g h = sym (g .left ∙ ap (gathered t) (entries-none (planeAt s) n i h))
 
 -- ---- how many entries there are
 
@@ -77,16 +76,12 @@ module _ (t : Listing) where
 pub record Seeking (t : Listing) (l n i : ℕ) : Type 0 where
   pub within : i ≤ n
   pub all : n ≡ min (t .count) 16
-  pub left : planeStart (entriesOf t) l ≡ planeStart (entriesFrom t (n - i) i) l
+  pub left : planeStart (entriesOf t) l ≡ planeStart (entriesFrom (entryOf t) (n - i) i) l
 
 module _ (t : Listing) (l n : ℕ) where
   pub seek-none : n ≡ min (t .count) 16 → Seeking t l n 0
   unfolding entriesOf
   seek-none e = record { within = omega arith; all = e; left = let z : min (t .count) 16 - 0 ≡ min (t .count) 16 = omega arith in rw (e, z) refl }
-
-  next-entry : (i : ℕ) → i < n → entriesFrom t (n - i) i ≡ entryOf t i ∷ entriesFrom t (n - (i + 1)) (i + 1)
-  unfolding entriesFrom
-  next-entry i h = let e : n - i ≡ suc (n - (i + 1)) = omega arith in rw e
 
   pub seek-more : (p : Plane) (i : ℕ) → Seeking t l n i → i < n → p ≡ entryOf t i → p .layer ≢ l → Seeking t l n (i + 1)
   unfolding planeStart
@@ -94,19 +89,19 @@ module _ (t : Listing) (l n : ℕ) where
       record {
         within = omega arith;
         all = g .all;
-        left = g .left ∙ ap (λ ps. planeStart ps l) (next-entry i h) ∙ ap (λ b. cond b (From (entryOf t i .start)) (planeStart (entriesFrom t (n - (i + 1)) (i + 1)) l)) (ne-eqb (entryOf t i .layer) l (λ q. d (ap (λ (x : Plane). x .layer) e ∙ q)));
+        left = g .left ∙ ap (λ ps. planeStart ps l) (entries-next (entryOf t) n i h) ∙ ap (λ b. cond b (From (entryOf t i .start)) (planeStart (entriesFrom (entryOf t) (n - (i + 1)) (i + 1)) l)) (ne-eqb (entryOf t i .layer) l (λ q. d (ap (λ (x : Plane). x .layer) e ∙ q)));
       }
 
   pub seek-found : (p : Plane) (i : ℕ) → Seeking t l n i → i < n → p ≡ entryOf t i → p .layer ≡ l → From (p .start) ≡ planeStart (entriesOf t) l
   unfolding planeStart
   seek-found p i g h e q =
       sym
-      (g .left ∙ ap (λ ps. planeStart ps l) (next-entry i h) ∙ ap (λ b. cond b (From (entryOf t i .start)) (planeStart (entriesFrom t (n - (i + 1)) (i + 1)) l)) (eq-eqb (entryOf t i .layer) l (ap (λ (x : Plane). x .layer) (sym e) ∙ q))
+      (g .left ∙ ap (λ ps. planeStart ps l) (entries-next (entryOf t) n i h) ∙ ap (λ b. cond b (From (entryOf t i .start)) (planeStart (entriesFrom (entryOf t) (n - (i + 1)) (i + 1)) l)) (eq-eqb (entryOf t i .layer) l (ap (λ (x : Plane). x .layer) (sym e) ∙ q))
       ∙ ap (λ (x : Plane). From (x .start)) (sym e))
 
   pub seek-end : (i : ℕ) → Seeking t l n i → n ≤ i → Unread ≡ planeStart (entriesOf t) l
-  unfolding planeStart entriesFrom
-  seek-end i g h = sym (g .left ∙ (let e : n - i ≡ 0 = omega arith in rw e))
+  unfolding planeStart
+  seek-end i g h = sym (g .left ∙ ap (λ ps. planeStart ps l) (entries-none (entryOf t) n i h))
 
 pub ruleset seeking = (needs, count-few, count-full, seek-none, seek-more, seek-found, seek-end)
 

@@ -28,7 +28,7 @@ pub fn no_planes() -> Listing
     }
 }
 
-// One entry more, behind those before.
+// One entry more, after those that are there.
 pub fn with_plane(t: Listing, p: Plane) -> Listing
     ensures { λ r. ⌜ r ≡ withPlane t p ⌝ }
 {

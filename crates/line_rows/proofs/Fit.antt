@@ -11,6 +11,7 @@ use Rattle.laws.proofs.Cases.{cond-with}
 use Rattle.laws.proofs.Says.{says-and, says-true}
 use Rattle.octets.specs.Octets.{putAt}
 use Rattle.octets.proofs.Laws.{put-length}
+use Rattle.sheet_rules.specs.StripeTable.{layerRecord}
 use Rattle.sheet_rules.specs.declared.Record.{Record}
 use Rattle.sheet_rules.specs.Record.{recordSize}
 use Rattle.sheet_rules.specs.Judge.{coded}
@@ -19,16 +20,15 @@ use Rattle.picture_rules.specs.declared.Start.{Start}
 use Rattle.picture_rules.specs.declared.Start.the-variants.{From, Unread}
 use Rattle.picture_rules.specs.Place.{ratio, scale, covers, inside}
 use Rattle.picture_rules.specs.Planes.{PlaneList, planeStart}
-use Rattle.picture_rules.specs.Samples.{Scene, recordOf, mainOf, indexOf, maskAt, imageAt}
-use Rattle.picture_rules.specs.Decide.{pairStep, decide, stackAt, pairsOf, pixelAt}
-use Rattle.picture_rules.specs.Line.{depth}
+use Rattle.picture_rules.specs.Samples.{Scene, recordOf, mainOf, indexOf, maskAt, imageAt, depth, pairsOf}
+use Rattle.picture_rules.specs.Decide.{pairStep, decide, stackAt, pixelAt}
 use Rattle.picture_rules.proofs.Division.{says-covers, says-inside}
 use Rattle.picture_rules.proofs.Scenes.{Stage, stage-layers, stage-placed, scene-ratio-some}
 use Rattle.picture_rules.proofs.Within.{mask-there, image-there}
 use Rattle.line_fetch.specs.declared.Row.{Row}
-use Rattle.line_fetch.specs.Rows.{rowAt, rowMask, rowImage, MaskFits, ImageFits}
+use Rattle.line_fetch.specs.Rows.{rowSize, rowAt, rowMask, rowImage, MaskFits, ImageFits}
 use Rattle.line_pixel.specs.Rows.{rowStack, RowsFit}
-use Rattle.line_rows.specs.Rows.{layerAt, rowIn, rowBy, otherOf, rowOf, rowsOf}
+use Rattle.line_rows.specs.Rows.{rowIn, rowBy, otherOf, rowOf, rowsOf}
 use Rattle.line_rows.proofs.Laws.{length-rows}
 use Rattle.line_rows.proofs.Same.{row-among, mask-same, image-same, other-image}
 
@@ -104,14 +104,14 @@ module _ (v : Scene) (pl : PlaneList) (k n : ℕ) (y : MainPos) (g : Stage (v .s
     within x p q = says-inside (mainOf v) (recordOf v l) x y .shown (p, q)
 
     pub scene-mask : l % 2 ≡ 0 → MaskFits (v .samples) (rowOf (v .sheet) (v .extent) (v .planes) y l)
-    unfolding rowOf layerAt recordOf indexOf
+    unfolding rowOf layerRecord indexOf
     scene-mask e =
         mask-fits (recordOf v l) (ratio (mainOf v) (recordOf v l)) y (planeStart (v .planes) l) (otherOf (coded (recordOf v 3)) (recordOf v l) (v .extent .first + (l - 1)) l)
         (scene-ratio-some g l a b) (v .samples) (depth-here 1 (depth-even l e))
         (λ i z x p q. let h = mask-there g l i z x y (within x p q) e in omega arith)
 
     pub scene-image : l % 2 ≡ 1 → ImageFits (v .sheet) (v .samples) (rowOf (v .sheet) (v .extent) (v .planes) y l)
-    unfolding rowOf layerAt recordOf indexOf
+    unfolding rowOf layerRecord indexOf
     scene-image e =
         image-fits (recordOf v l) (ratio (mainOf v) (recordOf v l)) y (planeStart (v .planes) l) (otherOf (coded (recordOf v 3)) (recordOf v l) (v .extent .first + (l - 1)) l)
         (scene-ratio-some g l a b) (v .sheet) (v .samples)
@@ -123,25 +123,25 @@ module _ (v : Scene) (pl : PlaneList) (k n : ℕ) (y : MainPos) (g : Stage (v .s
   count : v .extent .layers ≡ pairsOf v * 2 + 1
   count = let c = stage-layers g in omega arith
 
-  module _ (z : List ℕ) (room : v .extent .layers * 6 ≤ length z) where
+  module _ (z : List ℕ) (room : v .extent .layers * rowSize ≤ length z) where
     abbrev rows : List ℕ
     rows = putAt z 0 (rowsOf (v .sheet) (v .extent) (v .planes) y (v .extent .layers))
 
     long : length rows ≡ length z
     long = let l = length-rows (v .sheet) (v .extent) (v .planes) y (v .extent .layers) in put-length z 0 (rowsOf (v .sheet) (v .extent) (v .planes) y (v .extent .layers)) (omega arith)
 
-    here : (i : ℕ) → i < v .extent .layers → rowAt rows i ≡ rowOf (v .sheet) (v .extent) (v .planes) y (i + 1)
-    here i h = row-among (v .sheet) (v .extent) (v .planes) y z (v .extent .layers) i h
+    here : (l : ℕ) → 1 ≤ l → l ≤ v .extent .layers → rowAt rows l ≡ rowOf (v .sheet) (v .extent) (v .planes) y l
+    here l a b = row-among (v .sheet) (v .extent) (v .planes) y z (v .extent .layers) l a b
 
-    image-here : (j : ℕ) → j ≤ pairsOf v → ImageFits (v .sheet) (v .samples) (rowAt rows (j * 2))
+    image-here : (j : ℕ) → j ≤ pairsOf v → ImageFits (v .sheet) (v .samples) (rowAt rows (j * 2 + 1))
     image-here j h =
         let c = count in
-        subst (ImageFits (v .sheet) (v .samples)) (sym (here (j * 2) (omega arith))) (scene-image (j * 2 + 1) (omega arith) (omega arith) (omega arith))
+        subst (ImageFits (v .sheet) (v .samples)) (sym (here (j * 2 + 1) (omega arith) (omega arith))) (scene-image (j * 2 + 1) (omega arith) (omega arith) (omega arith))
 
-    mask-here : (j : ℕ) → j < pairsOf v → MaskFits (v .samples) (rowAt rows (j * 2 + 1))
-    mask-here j h =
+    mask-here : (j : ℕ) → 1 ≤ j → j ≤ pairsOf v → MaskFits (v .samples) (rowAt rows (j * 2))
+    mask-here j g h =
         let c = count in
-        subst (MaskFits (v .samples)) (sym (here (j * 2 + 1) (omega arith))) (scene-mask (j * 2 + 1 + 1) (omega arith) (omega arith) (omega arith))
+        subst (MaskFits (v .samples)) (sym (here (j * 2) (omega arith) (omega arith))) (scene-mask (j * 2) (omega arith) (omega arith) (omega arith))
 
     pub rows-fit : RowsFit (v .sheet) (v .samples) rows (pairsOf v)
     rows-fit =
@@ -150,36 +150,29 @@ module _ (v : Scene) (pl : PlaneList) (k n : ℕ) (y : MainPos) (g : Stage (v .s
         record {
           room = omega arith;
           image = image-here 0 (omega arith);
-          pair = λ j h.
-              let q : (j + 1) * 2 ≡ j * 2 + 2 = omega arith in
-              record {
-                room = omega arith;
-                mask = mask-here j h;
-                image = subst (λ (i : ℕ). ImageFits (v .sheet) (v .samples) (rowAt rows i)) q (image-here (j + 1) (omega arith));
-              };
+          pair = λ j g h. record { some = g; room = omega arith; mask = mask-here j g h; image = image-here j h };
         }
 
     module _ (x : MainPos) where
-      image-is : (j : ℕ) → j ≤ pairsOf v → rowImage (v .sheet) (v .samples) (rowAt rows (j * 2)) x ≡ imageAt v (j * 2 + 1) x y
+      image-is : (j : ℕ) → j ≤ pairsOf v → rowImage (v .sheet) (v .samples) (rowAt rows (j * 2 + 1)) x ≡ imageAt v (j * 2 + 1) x y
       image-is j h =
           let c = count in
           let odd : (j * 2 + 1) % 2 ≡ 1 = omega arith in
-          ap (λ (r : Row). rowImage (v .sheet) (v .samples) r x) (here (j * 2) (omega arith))
+          ap (λ (r : Row). rowImage (v .sheet) (v .samples) r x) (here (j * 2 + 1) (omega arith) (omega arith))
           ∙ image-same v x y (j * 2 + 1) odd (depth-here (j * 2 + 1) (omega arith) (omega arith) 3 (depth-odd (j * 2 + 1) odd))
 
-      mask-is : (j : ℕ) → suc j ≤ pairsOf v → rowMask (v .samples) (rowAt rows (suc j * 2 - 1)) x ≡ maskAt v (suc j * 2) x y
-      mask-is j h =
+      mask-is : (j : ℕ) → 1 ≤ j → j ≤ pairsOf v → rowMask (v .samples) (rowAt rows (j * 2)) x ≡ maskAt v (j * 2) x y
+      mask-is j g h =
           let c = count in
-          let even : suc j * 2 % 2 ≡ 0 = omega arith in
-          let q : suc j * 2 - 1 + 1 ≡ suc j * 2 = omega arith in
-          ap (λ (r : Row). rowMask (v .samples) r x) (here (suc j * 2 - 1) (omega arith) ∙ ap (rowOf (v .sheet) (v .extent) (v .planes) y) q)
-          ∙ mask-same v x y (suc j * 2) even (depth-here (suc j * 2) (omega arith) (omega arith) 1 (depth-even (suc j * 2) even))
+          let even : j * 2 % 2 ≡ 0 = omega arith in
+          ap (λ (r : Row). rowMask (v .samples) r x) (here (j * 2) (omega arith) (omega arith))
+          ∙ mask-same v x y (j * 2) even (depth-here (j * 2) (omega arith) (omega arith) 1 (depth-even (j * 2) even))
 
       decide-is : (j : ℕ) → j ≤ pairsOf v → decide (rowStack (v .sheet) (v .samples) rows x) j ≡ decide (stackAt v x y) j
       unfolding decide
       decide-is zero h = image-is 0 h
       decide-is (suc j) h =
-          ap₂ (λ m lo. pairStep m lo (rowImage (v .sheet) (v .samples) (rowAt rows (suc j * 2)) x)) (mask-is j h) (decide-is j (omega arith))
+          ap₂ (λ m lo. pairStep m lo (rowImage (v .sheet) (v .samples) (rowAt rows (suc j * 2 + 1)) x)) (mask-is (suc j) (omega arith) h) (decide-is j (omega arith))
           ∙ ap (pairStep (maskAt v (suc j * 2) x y) (decide (stackAt v x y) j)) (image-is (suc j) h)
 
       pub pixel-is : decide (rowStack (v .sheet) (v .samples) rows x) (pairsOf v) ≡ pixelAt v x y

@@ -1,21 +1,25 @@
 -- One law for each way out of the functions that make a row: its premises are what is known there.
 -- Assumes nothing.
-use Prim.Native.Nat.{ℕ, zero, suc, _+_, _-_, _*_, _/_, _%_, _≤_, _<_}
+use Prim.Native.Nat.{ℕ, suc, _+_, _-_, _*_, _/_, _%_, _≤_, _<_}
+use native.Mathlib.Nat.{add-zero}
 use native.Mathlib.Omega.{arith}
 use mathlib.Core.Path.{_≡_, refl, sym, ap, ap₂, subst, _∙_}
 use mathlib.Core.Logic.{_≢_}
 use mathlib.Core.Bool.{Bool, true, false, _&&_, not}
-use mathlib.Core.List.{List, _++_}
-use lib.ListN.{length, set, length-append}
-use lib.Dec.{eqb, leb, ltb}
+use mathlib.Core.List.{List, [], _∷_, _++_}
+use lib.ListN.{length, getD, set}
+use lib.Dec.{eqb, leb, ltb, lit<}
 use borrow.Author.Tests.{eq-eqb, ne-eqb}
 use borrow.Author.Needs.{needs}
 use Rattle.sheet_rules.specs.declared.Record.{Record}
 use Rattle.octets.specs.Octets.{putAt}
 use Rattle.octets.proofs.Laws.{put-nothing, put-put, put-length}
 use Rattle.octets.proofs.Turns.{sets-put}
+use Rattle.octets.specs.Entries.{entriesFrom, joined, Entry}
+use Rattle.octets.proofs.Entries.{length-entries, entries-split, joined-append, joined-length}
+use Rattle.sheet_rules.specs.StripeTable.{layerRecord, mainRes}
 use Rattle.sheet_rules.specs.declared.Extent.{Extent}
-use Rattle.sheet_rules.specs.Record.{recordAt}
+use Rattle.sheet_rules.specs.Record.{recordAt, recordSize}
 use Rattle.sheet_rules.specs.Judge.{coded}
 use Rattle.picture_rules.specs.declared.MainPos.{MainPos}
 use Rattle.picture_rules.specs.declared.SamplePos.{SamplePos}
@@ -24,14 +28,14 @@ use Rattle.picture_rules.specs.declared.Start.the-variants.{From, Unread}
 use Rattle.picture_rules.specs.declared.Plane.{Plane}
 use Rattle.picture_rules.specs.Planes.{planeStart}
 use Rattle.picture_rules.specs.Place.{scale, covers}
-use Rattle.picture_rules.specs.Line.{depth}
+use Rattle.picture_rules.specs.Samples.{depth}
 use Rattle.picture_rules.proofs.Division.{says-covers, scale-within}
 use Rattle.line_sample.proofs.Laws.{product-small}
 use Rattle.line_planes.specs.declared.Listing.{Listing}
 use Rattle.line_planes.specs.Listing.{entriesOf}
 use Rattle.line_fetch.specs.declared.Row.{Row}
-use Rattle.line_fetch.specs.Rows.{numbersOf}
-use Rattle.line_rows.specs.Rows.{layerAt, mainAt, rowIn, rowOut, rowBy, otherOf, rowOf, rowsOf, Covered, Layer, Standing}
+use Rattle.line_fetch.specs.Rows.{rowSize, rowAt, numbersOf}
+use Rattle.line_rows.specs.Rows.{rowIn, rowOut, rowBy, otherOf, rowOf, rowsOf, Covered, Layer, Standing}
 
 -- ---- an area
 
@@ -111,7 +115,7 @@ module _ (c : Bool) (r : Record) (i l : ℕ) where
   unfolding otherOf
   other-zero e t = simp (eq-eqb (l % 2) 0 e, sym (ap (λ b. b && eqb l 2 && c) not-not) ∙ t)
 
-  pub other-base : l % 2 ≢ 0 → i * 28 + 14 ≡ otherOf c r i l
+  pub other-base : l % 2 ≢ 0 → i * recordSize + 14 ≡ otherOf c r i l
   unfolding otherOf
   other-base d = simp (ne-eqb (l % 2) 0 d)
 
@@ -120,49 +124,74 @@ module _ (c : Bool) (r : Record) (i l : ℕ) where
 module _ (s : List ℕ) (extent : Extent) (m : ℕ) (c : Bool) (y : MainPos) (l : ℕ) where
   pub layer-made : (ps : List Plane) (r : Record) (k : ℕ) (p : Start) (n : ℕ) (w : Row) → Layer s extent m c l → r ≡ recordAt s (extent .first + (l - 1)) → k ≡ m / r .res
       → p ≡ planeStart ps l → n ≡ otherOf c r (extent .first + (l - 1)) l → w ≡ rowBy r k y p n → w ≡ rowOf s extent ps y l
-  unfolding rowOf layerAt
+  unfolding rowOf layerRecord
   layer-made ps r k p n w g er ek ep en ew = ew ∙ rw (ek, ep, en, er, g .main, g .third) refl
 
   pub layer-res : (r : Record) → Layer s extent m c l → r ≡ recordAt s (extent .first + (l - 1)) → 0 < r .res
-  unfolding layerAt
+  unfolding layerRecord
   layer-res r g e = subst (λ (q : Record). 0 < q .res) (sym e) (g .res)
 
   pub layer-turns : (r : Record) (k : ℕ) → Layer s extent m c l → r ≡ recordAt s (extent .first + (l - 1)) → k ≡ m / r .res → 0 < k
-  unfolding layerAt
+  unfolding layerRecord
   layer-turns r k g e f = subst (λ (n : ℕ). 0 < n) (sym (f ∙ ap₂ (λ (a : ℕ) (q : Record). a / q .res) (g .main) e)) (g .turns)
 
-pub stores-row : (d : List ℕ) (i : ℕ) (w : Row) → i * 6 + 6 ≤ length d
-    → set (set (set (set (set (set d (i * 6) (w .from)) (i * 6 + 1) (w .to)) (i * 6 + 2) (w .k)) (i * 6 + 3) (w .read)) (i * 6 + 4) (w .at)) (i * 6 + 5) (w .other)
-    ≡ putAt d (i * 6) (numbersOf w)
-stores-row d i w h =
-    let a : i * 6 + 1 ≡ suc (i * 6) = omega arith in
-    let b : i * 6 + 2 ≡ suc (suc (i * 6)) = omega arith in
-    let c : i * 6 + 3 ≡ suc (suc (suc (i * 6))) = omega arith in
-    let e : i * 6 + 4 ≡ suc (suc (suc (suc (i * 6)))) = omega arith in
-    let f : i * 6 + 5 ≡ suc (suc (suc (suc (suc (i * 6))))) = omega arith in
-    rw (a, b, c, e, f) (sets-put d (i * 6) (numbersOf w) h)
+pub stores-row : (d : List ℕ) (l : ℕ) (w : Row) → 1 ≤ l → l * rowSize ≤ length d
+    → set (set (set (set (set (set d ((l - 1) * rowSize) (w .from)) ((l - 1) * rowSize + 1) (w .to)) ((l - 1) * rowSize + 2) (w .k)) ((l - 1) * rowSize + 3) (w .read)) ((l - 1) * rowSize + 4) (w .at)) ((l - 1) * rowSize + 5) (w .other)
+    ≡ putAt d ((l - 1) * rowSize) (numbersOf w)
+stores-row d l w g h = six d ((l - 1) * rowSize) (omega arith)
+  where
+    six : (d : List ℕ) (b : ℕ) → b + 6 ≤ length d → set (set (set (set (set (set d b (w .from)) (b + 1) (w .to)) (b + 2) (w .k)) (b + 3) (w .read)) (b + 4) (w .at)) (b + 5) (w .other) ≡ putAt d b (numbersOf w)
+    six d b h =
+        let a : b + 1 ≡ suc b = omega arith in
+        let c : b + 2 ≡ suc (suc b) = omega arith in
+        let e : b + 3 ≡ suc (suc (suc b)) = omega arith in
+        let f : b + 4 ≡ suc (suc (suc (suc b))) = omega arith in
+        let g : b + 5 ≡ suc (suc (suc (suc (suc b)))) = omega arith in
+        rw (a, c, e, f, g) (sets-put d b (numbersOf w) h)
 
 -- ---- the loop over the layers
 
-pub length-rows : (s : List ℕ) (extent : Extent) (ps : List Plane) (y : MainPos) (n : ℕ) → length (rowsOf s extent ps y n) ≡ n * 6
-unfolding rowsOf
-length-rows s extent ps y zero = refl
-length-rows s extent ps y (suc n) =
-    let l = length-append (rowsOf s extent ps y n) (numbersOf (rowOf s extent ps y (suc n))) in let k = length-rows s extent ps y n in omega arith
+row-own : (s t : List ℕ) (i j : ℕ) → ((m : ℕ) → m < rowSize → getD s (i * rowSize + m) 0 ≡ getD t (j * rowSize + m) 0) → rowAt s (i + 1) ≡ rowAt t (j + 1)
+unfolding rowAt
+row-own s t i j e =
+    let a : i + 1 - 1 ≡ i = omega arith in
+    let b : j + 1 - 1 ≡ j = omega arith in
+    let z : getD s (i * rowSize) 0 ≡ getD t (j * rowSize) 0 = simp add-zero at (e 0 (lit< tt)) in
+    rw (a, b) (cc (z, e 1 (lit< tt), e 2 (lit< tt), e 3 (lit< tt), e 4 (lit< tt), e 5 (lit< tt)))
+
+row-back : (w : Row) (s : List ℕ) → rowAt (numbersOf w ++ s) (0 + 1) ≡ w
+unfolding rowAt
+row-back w s = refl
+
+-- the laws of entries hold of rows; entry i is the row of layer i + 1
+pub row-entry : Entry rowSize (λ (ns : List ℕ) (i : ℕ). rowAt ns (i + 1)) numbersOf
+row-entry = record { some = lit< tt; own = row-own; long = λ w. refl; back = row-back }
+
+pub length-rows : (s : List ℕ) (extent : Extent) (ps : List Plane) (y : MainPos) (n : ℕ) → length (rowsOf s extent ps y n) ≡ n * rowSize
+length-rows s extent ps y n =
+    joined-length row-entry (entriesFrom (rowOf s extent ps y) n 1) ∙ ap (λ (k : ℕ). k * rowSize) (length-entries (rowOf s extent ps y) n 1)
+
+rows-more : (s : List ℕ) (extent : Extent) (ps : List Plane) (y : MainPos) (n : ℕ) → rowsOf s extent ps y (n + 1) ≡ rowsOf s extent ps y n ++ numbersOf (rowOf s extent ps y (n + 1))
+unfolding entriesFrom joined
+rows-more s extent ps y n =
+    let z : 1 + n ≡ n + 1 = omega arith in
+    ap (joined numbersOf) (entries-split (rowOf s extent ps y) n 1 1)
+    ∙ joined-append numbersOf (entriesFrom (rowOf s extent ps y) n 1) (rowOf s extent ps y (1 + n) ∷ [])
+    ∙ ap (λ (l : ℕ). rowsOf s extent ps y n ++ numbersOf (rowOf s extent ps y l)) z
 
 pub record Filling (d s : List ℕ) (extent : Extent) (t : Listing) (y : MainPos) (m : ℕ) (c : Bool) (n : ℕ) (out : List ℕ) (i : ℕ) : Type 0 where
   pub within : i ≤ n
   pub all : n ≡ extent .layers
-  pub room : n * 6 ≤ length d
+  pub room : n * rowSize ≤ length d
   pub long : length out ≡ length d
-  pub main : m ≡ mainAt s extent
-  pub third : c ≡ coded (layerAt s extent 3)
+  pub main : m ≡ mainRes s extent
+  pub third : c ≡ coded (layerRecord s extent 3)
   pub filled : out ≡ putAt d 0 (rowsOf s extent (entriesOf t) y i)
 
 module _ (d s : List ℕ) (extent : Extent) (t : Listing) (y : MainPos) (m : ℕ) (c : Bool) (n : ℕ) where
-  pub filling-none : (second third : Record) → extent .layers * 6 ≤ length d → n ≡ extent .layers → second ≡ recordAt s (extent .first + 1) → third ≡ recordAt s (extent .first + 2)
+  pub filling-none : (second third : Record) → extent .layers * rowSize ≤ length d → n ≡ extent .layers → second ≡ recordAt s (extent .first + 1) → third ≡ recordAt s (extent .first + 2)
       → m ≡ second .res → c ≡ not (eqb (third .len) 0) → Filling d s extent t y m c n d 0
-  unfolding rowsOf layerAt
+  unfolding joined entriesFrom layerRecord
   filling-none second third h e es et em ec =
       record {
         within = omega arith;
@@ -189,31 +218,29 @@ module _ (d s : List ℕ) (extent : Extent) (t : Listing) (y : MainPos) (m : ℕ
         third = g .third;
       }
 
-  pub filling-room : (out : List ℕ) (i : ℕ) → Filling d s extent t y m c n out i → i < n → i * 6 + 6 ≤ length out
+  pub filling-room : (out : List ℕ) (i : ℕ) → Filling d s extent t y m c n out i → i < n → (i + 1) * rowSize ≤ length out
   filling-room out i g h = let r = g .room in let l = g .long in omega arith
 
   pub filling-more : (out new : List ℕ) (i : ℕ) (w : Row) → Filling d s extent t y m c n out i → i < n → w ≡ rowOf s extent (entriesOf t) y (i + 1)
-      → new ≡ putAt out (i * 6) (numbersOf w) → Filling d s extent t y m c n new (i + 1)
-  unfolding rowsOf
+      → new ≡ putAt out ((i + 1 - 1) * rowSize) (numbersOf w) → Filling d s extent t y m c n new (i + 1)
   filling-more out new i w g h ew e =
       let l = length-rows s extent (entriesOf t) y i in
       let r = g .room in
       let k = g .long in
-      let q : length (numbersOf w) ≡ 6 = refl in
-      let z : i + 1 ≡ suc i = omega arith in
-      let lz : i * 6 ≡ 0 + length (rowsOf s extent (entriesOf t) y i) = omega arith in
+      let q : length (numbersOf w) ≡ rowSize = refl in
+      let lz : (i + 1 - 1) * rowSize ≡ 0 + length (rowsOf s extent (entriesOf t) y i) = omega arith in
       record {
         within = omega arith;
         all = g .all;
         room = g .room;
-        long = ap length e ∙ put-length out (i * 6) (numbersOf w) (omega arith) ∙ g .long;
+        long = ap length e ∙ put-length out ((i + 1 - 1) * rowSize) (numbersOf w) (omega arith) ∙ g .long;
         main = g .main;
         third = g .third;
         filled =
             e ∙ ap₂ (λ (o : List ℕ) (a : ℕ). putAt o a (numbersOf w)) (g .filled) lz
             ∙ put-put d 0 (rowsOf s extent (entriesOf t) y i) (numbersOf w) (omega arith)
-            ∙ ap (λ (x : Row). putAt d 0 (rowsOf s extent (entriesOf t) y i ++ numbersOf x)) (ew ∙ ap (rowOf s extent (entriesOf t) y) z)
-            ∙ ap (λ (a : ℕ). putAt d 0 (rowsOf s extent (entriesOf t) y a)) (sym z);
+            ∙ ap (λ (x : Row). putAt d 0 (rowsOf s extent (entriesOf t) y i ++ numbersOf x)) ew
+            ∙ ap (putAt d 0) (sym (rows-more s extent (entriesOf t) y i));
       }
 
   pub filling-end : (out : List ℕ) (i : ℕ) → Filling d s extent t y m c n out i → n ≤ i → out ≡ putAt d 0 (rowsOf s extent (entriesOf t) y (extent .layers))

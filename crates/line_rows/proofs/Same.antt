@@ -1,21 +1,21 @@
 -- The rows of a line give what the picture's definitions give: each layer's sample in its row is its sample in the scene, and what the rows name is there.
 -- Assumes nothing.
-use Prim.Native.Nat.{ℕ, zero, suc, _+_, _-_, _*_, _%_, _<_}
+use Prim.Native.Nat.{ℕ, _+_, _-_, _*_, _%_, _<_, _≤_}
 use native.Mathlib.Omega.{arith}
 use mathlib.Core.Path.{_≡_, refl, sym, ap, _∙_}
-use mathlib.Core.Logic.{⊎-elim}
 use mathlib.Core.Bool.{Bool, true, false, _&&_, not, cond}
-use mathlib.Core.List.{List, _++_}
-use lib.ListN.{length, getD, List·getD-append}
-use lib.Seq.{getD-append-add}
+use mathlib.Core.List.{List}
+use lib.ListN.{getD}
 use lib.Dec.{eqb, leb}
 use borrow.Author.Tests.{eq-eqb, ne-eqb, le-ltb}
-use Rattle.laws.proofs.Says.{says-lt, says-else}
 use Rattle.octets.specs.Octets.{putAt}
 use Rattle.octets.proofs.Laws.{put-getD}
+use Rattle.octets.specs.Entries.{entriesFrom}
+use Rattle.octets.proofs.Entries.{length-entries, entry-from, joined-entry}
+use Rattle.sheet_rules.specs.StripeTable.{layerRecord}
 use Rattle.sheet_rules.specs.declared.Record.{Record}
 use Rattle.sheet_rules.specs.declared.Extent.{Extent}
-use Rattle.sheet_rules.specs.Record.{recordAt}
+use Rattle.sheet_rules.specs.Record.{recordAt, recordSize}
 use Rattle.sheet_rules.specs.Judge.{coded}
 use Rattle.picture_rules.specs.declared.MainPos.{MainPos}
 use Rattle.picture_rules.specs.declared.Plane.{Plane}
@@ -26,50 +26,31 @@ use Rattle.picture_rules.specs.declared.Start.{Start}
 use Rattle.picture_rules.specs.declared.Start.the-variants.{From, Unread}
 use Rattle.picture_rules.specs.Place.{ratio, scale, covers, inside}
 use Rattle.picture_rules.specs.Planes.{planeStart}
-use Rattle.picture_rules.specs.Samples.{Scene, recordOf, mainOf, indexOf, bitOf, baseOf, virtual, maskRead, imageRead, maskAt, imageAt}
+use Rattle.picture_rules.specs.Samples.{Scene, recordOf, mainOf, indexOf, bitOf, baseOf, virtual, maskRead, imageRead, maskAt, imageAt, depth}
 use Rattle.sheet_rules.specs.Record.{colourAt}
-use Rattle.picture_rules.specs.Line.{depth}
 use Rattle.line_fetch.specs.declared.Row.{Row}
-use Rattle.line_fetch.specs.Rows.{rowAt, numbersOf, across, rowMask, rowImage}
-use Rattle.line_rows.specs.Rows.{layerAt, rowIn, rowOut, rowBy, otherOf, rowOf, rowsOf}
-use Rattle.line_rows.proofs.Laws.{length-rows}
+use Rattle.line_fetch.specs.Rows.{rowSize, rowAt, across, rowMask, rowImage}
+use Rattle.line_rows.specs.Rows.{rowIn, rowOut, rowBy, otherOf, rowOf, rowsOf}
+use Rattle.line_rows.proofs.Laws.{row-entry, length-rows}
 
 -- ---- a row among the rows
 
-module _ (s : List ℕ) (extent : Extent) (ps : List Plane) (y : MainPos) where
-  number-in : (n i j : ℕ) → i < n → j < 6 → getD (rowsOf s extent ps y n) (i * 6 + j) 0 ≡ getD (numbersOf (rowOf s extent ps y (i + 1))) j 0
-  unfolding rowsOf
-  number-in zero i j h g = absurd (omega arith)
-  number-in (suc n) i j h g =
+module _ (s : List ℕ) (extent : Extent) (ps : List Plane) (y : MainPos) (d : List ℕ) (n : ℕ) where
+  row-put : (i : ℕ) → i < n → rowAt (putAt d 0 (rowsOf s extent ps y n)) (i + 1) ≡ rowOf s extent ps y (1 + i)
+  row-put i h =
       let l = length-rows s extent ps y n in
-      ⊎-elim
-      (λ (k : i < n). List·getD-append (rowsOf s extent ps y n) (numbersOf (rowOf s extent ps y (suc n))) 0 (i * 6 + j) (omega arith) ∙ number-in n i j k g)
-      (λ (k : i < n → ⊥).
-      let e : i * 6 + j ≡ length (rowsOf s extent ps y n) + j = omega arith in
-      let q : suc n ≡ i + 1 = omega arith in
-      ap (λ (a : ℕ). getD (rowsOf s extent ps y n ++ numbersOf (rowOf s extent ps y (suc n))) a 0) e
-      ∙ getD-append-add (rowsOf s extent ps y n) (numbersOf (rowOf s extent ps y (suc n))) j 0
-      ∙ ap (λ (a : ℕ). getD (numbersOf (rowOf s extent ps y a)) j 0) q)
-      (says-else (says-lt i n))
+      let k = length-entries (rowOf s extent ps y) n 1 in
+      row-entry .own (putAt d 0 (rowsOf s extent ps y n)) (rowsOf s extent ps y n) i i
+      (λ m g. let e : i * rowSize + m ≡ 0 + (i * rowSize + m) = omega arith in
+      ap (λ (a : ℕ). getD (putAt d 0 (rowsOf s extent ps y n)) a 0) e ∙ put-getD d 0 (rowsOf s extent ps y n) (i * rowSize + m) (omega arith) (omega arith))
+      ∙ joined-entry row-entry (rowOut 0) (entriesFrom (rowOf s extent ps y) n 1) i (omega arith)
+      ∙ entry-from (rowOf s extent ps y) (rowOut 0) n 1 i h
 
-  module _ (d : List ℕ) (n i : ℕ) (h : i < n) where
-    number-at : (j : ℕ) → j < 6 → getD (putAt d 0 (rowsOf s extent ps y n)) (i * 6 + j) 0 ≡ getD (numbersOf (rowOf s extent ps y (i + 1))) j 0
-    number-at j g =
-        let l = length-rows s extent ps y n in
-        let e : i * 6 + j ≡ 0 + (i * 6 + j) = omega arith in
-        ap (λ (a : ℕ). getD (putAt d 0 (rowsOf s extent ps y n)) a 0) e ∙ put-getD d 0 (rowsOf s extent ps y n) (i * 6 + j) (omega arith) (omega arith) ∙ number-in n i j h g
-
-    pub row-among : rowAt (putAt d 0 (rowsOf s extent ps y n)) i ≡ rowOf s extent ps y (i + 1)
-    unfolding rowAt
-    row-among =
-        let z : i * 6 ≡ i * 6 + 0 = omega arith in
-        let a = ap (λ (k : ℕ). getD (putAt d 0 (rowsOf s extent ps y n)) k 0) z ∙ number-at 0 (omega arith) in
-        let b = number-at 1 (omega arith) in
-        let c = number-at 2 (omega arith) in
-        let e = number-at 3 (omega arith) in
-        let f = number-at 4 (omega arith) in
-        let g = number-at 5 (omega arith) in
-        λ t. record { from = a t; to = b t; k = c t; read = e t; at = f t; other = g t }
+  pub row-among : (l : ℕ) → 1 ≤ l → l ≤ n → rowAt (putAt d 0 (rowsOf s extent ps y n)) l ≡ rowOf s extent ps y l
+  row-among l a b =
+      let z : l - 1 + 1 ≡ l = omega arith in
+      let w : 1 + (l - 1) ≡ l = omega arith in
+      ap (rowAt (putAt d 0 (rowsOf s extent ps y n))) (sym z) ∙ row-put (l - 1) (omega arith) ∙ ap (rowOf s extent ps y) w
 
 -- ---- a layer's sample in its row
 
@@ -150,23 +131,23 @@ module _ (d : List ℕ) (r : Record) (k : ℕ) (x y : MainPos) (other : ℕ) whe
 module _ (c : Bool) (r : Record) (i l : ℕ) where
   other-mask : l % 2 ≡ 0 → otherOf c r i l ≡ cond (not (coded r) && eqb l 2 && c) 1 0
   unfolding otherOf
-  other-mask e = ap (λ (b : Bool). cond b (cond (not (coded r) && eqb l 2 && c) 1 0) (i * 28 + 14)) (eq-eqb (l % 2) 0 e)
+  other-mask e = ap (λ (b : Bool). cond b (cond (not (coded r) && eqb l 2 && c) 1 0) (i * recordSize + 14)) (eq-eqb (l % 2) 0 e)
 
-  pub other-image : l % 2 ≡ 1 → otherOf c r i l ≡ i * 28 + 14
+  pub other-image : l % 2 ≡ 1 → otherOf c r i l ≡ i * recordSize + 14
   unfolding otherOf
-  other-image e = ap (λ (b : Bool). cond b (cond (not (coded r) && eqb l 2 && c) 1 0) (i * 28 + 14)) (ne-eqb (l % 2) 0 (λ z. omega arith))
+  other-image e = ap (λ (b : Bool). cond b (cond (not (coded r) && eqb l 2 && c) 1 0) (i * recordSize + 14)) (ne-eqb (l % 2) 0 (λ z. omega arith))
 
 bit-cond : (b : Bool) → bitOf (cond b 1 0) ≡ cond b One Zero
 unfolding bitOf
 bit-cond true = refl
 bit-cond false = refl
 
-base-there : (s : List ℕ) (i : ℕ) → colourAt s (i * 28 + 14) ≡ baseOf (recordAt s i)
+base-there : (s : List ℕ) (i : ℕ) → colourAt s (i * recordSize + 14) ≡ baseOf (recordAt s i)
 unfolding recordAt
 base-there s i =
-    let a : i * 28 + 14 + 1 ≡ i * 28 + 15 = omega arith in
-    let b : i * 28 + 14 + 2 ≡ i * 28 + 16 = omega arith in
-    λ t. record { c0 = getD s (i * 28 + 14) 0; c1 = getD s (a t) 0; c2 = getD s (b t) 0 }
+    let a : i * recordSize + 14 + 1 ≡ i * recordSize + 15 = omega arith in
+    let b : i * recordSize + 14 + 2 ≡ i * recordSize + 16 = omega arith in
+    λ t. record { c0 = getD s (i * recordSize + 14) 0; c1 = getD s (a t) 0; c2 = getD s (b t) 0 }
 
 -- ---- and so in the scene
 
@@ -175,7 +156,7 @@ module _ (v : Scene) (x y : MainPos) (l : ℕ) where
   rowHere = rowOf (v .sheet) (v .extent) (v .planes) y l
 
   pub mask-same : l % 2 ≡ 0 → depth (recordOf v l .layer) ≡ 1 → rowMask (v .samples) rowHere x ≡ maskAt v l x y
-  unfolding rowOf layerAt recordOf maskAt inside indexOf virtual
+  unfolding rowOf layerRecord maskAt inside indexOf virtual
   mask-same e q =
       let i : ℕ = v .extent .first + (l - 1) in
       let r = recordOf v l in
@@ -192,7 +173,7 @@ module _ (v : Scene) (x y : MainPos) (l : ℕ) where
       go false = bit-cond (eqb l 2 && coded (recordOf v 3))
 
   pub image-same : l % 2 ≡ 1 → depth (recordOf v l .layer) ≡ 3 → rowImage (v .sheet) (v .samples) rowHere x ≡ imageAt v l x y
-  unfolding rowOf layerAt recordOf imageAt inside indexOf
+  unfolding rowOf layerRecord imageAt inside indexOf
   image-same e q =
       let i : ℕ = v .extent .first + (l - 1) in
       let r = recordOf v l in

@@ -1,23 +1,24 @@
 -- The rows of a line, from the records of a stripe and its plane list.
 --
---   layerAt s extent l      the record of layer l; mainAt: the main resolution
 --   rowIn                a layer that the line crosses; rowOut: one that it passes by, or that is not coded
 --   rowBy                the one or the other
 --   otherOf              what a layer gives outside its area
 --   rowOf s extent ps y l   the row of layer l in line y
---   rowsOf               the numbers of the rows of layers 1 to n, one behind the other
+--   rowsOf               the numbers of the rows of layers 1 to n, one after the other
 --   Covered              the line crosses the layer's area, of samples of k main pixels each
 --   Layer                the same of one layer
 --   Standing             what of an accepted sheet the rows need
-use Prim.Native.Nat.{ℕ, zero, suc, _+_, _-_, _*_, _/_, _%_, _≤_, _<_}
+use Prim.Native.Nat.{ℕ, _+_, _-_, _*_, _/_, _%_, _≤_, _<_}
 use mathlib.Core.Path.{_≡_}
 use mathlib.Core.Bool.{Bool, true, _&&_, not, cond}
-use mathlib.Core.List.{List, [], _++_}
+use mathlib.Core.List.{List}
 use lib.ListN.{length}
 use lib.Dec.{eqb}
+use Rattle.octets.specs.Entries.{entriesFrom, joined}
+use Rattle.sheet_rules.specs.StripeTable.{layerRecord, mainRes}
 use Rattle.sheet_rules.specs.declared.Record.{Record}
 use Rattle.sheet_rules.specs.declared.Extent.{Extent}
-use Rattle.sheet_rules.specs.Record.{recordSize, recordAt}
+use Rattle.sheet_rules.specs.Record.{recordSize}
 use Rattle.sheet_rules.specs.Judge.{coded}
 use Rattle.picture_rules.specs.declared.MainPos.{MainPos}
 use Rattle.picture_rules.specs.declared.Plane.{Plane}
@@ -25,15 +26,9 @@ use Rattle.picture_rules.specs.declared.Start.{Start}
 use Rattle.picture_rules.specs.declared.Start.the-variants.{From, Unread}
 use Rattle.picture_rules.specs.Place.{ratio, scale, covers}
 use Rattle.picture_rules.specs.Planes.{planeStart}
-use Rattle.picture_rules.specs.Line.{depth}
+use Rattle.picture_rules.specs.Samples.{depth}
 use Rattle.line_fetch.specs.declared.Row.{Row}
 use Rattle.line_fetch.specs.Rows.{numbersOf}
-
-unfoldable pub layerAt : List ℕ → Extent → ℕ → Record
-layerAt s extent l = recordAt s (extent .first + (l - 1))
-
-abbrev pub mainAt : List ℕ → Extent → ℕ
-mainAt s extent = layerAt s extent 2 .res
 
 abbrev pub rowOut : ℕ → Row
 rowOut other = record { from = 0; to = 0; k = 1; read = 0; at = 0; other = other }
@@ -56,13 +51,11 @@ otherOf coded3 r i l =
 unfoldable pub rowOf : List ℕ → Extent → List Plane → MainPos → ℕ → Row
 unfolding rowBy otherOf
 rowOf s extent ps y l =
-    rowBy (layerAt s extent l) (ratio (mainAt s extent) (layerAt s extent l)) y (planeStart ps l)
-    (otherOf (coded (layerAt s extent 3)) (layerAt s extent l) (extent .first + (l - 1)) l)
+    rowBy (layerRecord s extent l) (ratio (mainRes s extent) (layerRecord s extent l)) y (planeStart ps l)
+    (otherOf (coded (layerRecord s extent 3)) (layerRecord s extent l) (extent .first + (l - 1)) l)
 
-unfoldable pub rowsOf : List ℕ → Extent → List Plane → MainPos → ℕ → List ℕ
-unfolding rowOf
-rowsOf s extent ps y zero = []
-rowsOf s extent ps y (suc n) = rowsOf s extent ps y n ++ numbersOf (rowOf s extent ps y (suc n))
+abbrev pub rowsOf : List ℕ → Extent → List Plane → MainPos → ℕ → List ℕ
+rowsOf s extent ps y n = joined numbersOf (entriesFrom (rowOf s extent ps y) n 1)
 
 pub record Covered (r : Record) (k : ℕ) (y : MainPos) : Type 0 where
   pub some : 0 < k
@@ -75,14 +68,14 @@ pub record Layer (s : List ℕ) (extent : Extent) (m : ℕ) (c : Bool) (l : ℕ)
   pub least : 1 ≤ l
   pub most : l ≤ 15
   pub place : extent .first + (l - 1) < length s / recordSize
-  pub res : 0 < layerAt s extent l .res
-  pub turns : 0 < ratio (mainAt s extent) (layerAt s extent l)
-  pub main : m ≡ mainAt s extent
-  pub third : c ≡ coded (layerAt s extent 3)
+  pub res : 0 < layerRecord s extent l .res
+  pub turns : 0 < ratio (mainRes s extent) (layerRecord s extent l)
+  pub main : m ≡ mainRes s extent
+  pub third : c ≡ coded (layerRecord s extent 3)
 
 pub record Standing (s : List ℕ) (extent : Extent) : Type 0 where
   pub whole : extent .first + extent .layers ≤ length s / recordSize
   pub three : 3 ≤ extent .layers
   pub fifteen : extent .layers ≤ 15
-  pub res : (l : ℕ) → 1 ≤ l → l ≤ extent .layers → 0 < layerAt s extent l .res
-  pub turns : (l : ℕ) → 1 ≤ l → l ≤ extent .layers → 0 < ratio (mainAt s extent) (layerAt s extent l)
+  pub res : (l : ℕ) → 1 ≤ l → l ≤ extent .layers → 0 < layerRecord s extent l .res
+  pub turns : (l : ℕ) → 1 ≤ l → l ≤ extent .layers → 0 < ratio (mainRes s extent) (layerRecord s extent l)

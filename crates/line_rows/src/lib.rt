@@ -4,9 +4,9 @@ ghost use Prim.Native.Nat.{_+_, _-_, _*_, _/_, _<_, _≤_};
 ghost use lib.ListN.{length};
 ghost use Rattle.octets.specs.Octets.{putAt};
 ghost use Rattle.picture_rules.specs.Place.{covers};
-ghost use Rattle.picture_rules.specs.Line.{depth};
+ghost use Rattle.picture_rules.specs.Samples.{depth};
 ghost use Rattle.line_planes.specs.Listing.{entriesOf};
-ghost use Rattle.line_fetch.specs.Rows.{numbersOf};
+ghost use Rattle.line_fetch.specs.Rows.{rowSize, numbersOf};
 ghost use Rattle.line_rows.specs.Rows.{rowIn, rowOut, rowBy, otherOf, rowOf, rowsOf, Covered, Layer, Standing};
 use line_fetch::ROW_SIZE;
 use line_fetch::Row;
@@ -149,11 +149,11 @@ pub fn layer_row(
     row_by(r, k, y, p, other_of(coded3, r, i, l))
 }
 
-pub fn put_row(rows: &mut [usize], i: usize, w: Row)
-    requires { ⌜ i * 6 + 6 ≤ length (now rows) ⌝ }
-    ensures { λ _. ⌜ now (rows .exit) ≡ putAt (now (rows .entry)) (i * 6) (numbersOf w) ⌝ }
+pub fn put_row(rows: &mut [usize], l: usize, w: Row)
+    requires { ⌜ (1 ≤ l) × (l * rowSize ≤ length (now rows)) ⌝ }
+    ensures { λ _. ⌜ now (rows .exit) ≡ putAt (now (rows .entry)) ((l - 1) * rowSize) (numbersOf w) ⌝ }
 {
-    let b = i * ROW_SIZE;
+    let b = (l - 1) * ROW_SIZE;
     rows[b] = w.from;
     rows[b + 1] = w.to;
     rows[b + 2] = w.k;
@@ -162,9 +162,9 @@ pub fn put_row(rows: &mut [usize], i: usize, w: Row)
     rows[b + 5] = w.other;
 }
 
-// The rows of all layers, one behind the other.
+// The rows of all layers, one after the other.
 pub fn put_rows(rows: &mut [usize], sheet: &[u8], extent: Extent, t: Listing, y: MainPos)
-    requires { ⌜ Standing (now sheet) extent × (extent .layers * 6 ≤ length (now rows)) ⌝ }
+    requires { ⌜ Standing (now sheet) extent × (extent .layers * rowSize ≤ length (now rows)) ⌝ }
     ensures { λ _. ⌜ now (rows .exit) ≡ putAt (now (rows .entry)) 0 (rowsOf (now (sheet .entry)) extent (entriesOf t) y (extent .layers)) ⌝ }
 {
     let first = extent.first as usize;
@@ -173,10 +173,10 @@ pub fn put_rows(rows: &mut [usize], sheet: &[u8], extent: Extent, t: Listing, y:
     let third = sheet_record::record_at(sheet, first + 2);
     let main = second.res;
     let coded3 = third.len != 0;
-    let mut i: usize = 0;
-    while i < n {
-        let w = layer_row(sheet, extent, t, main, coded3, y, i + 1);
-        put_row(rows, i, w);
-        i += 1;
+    let mut l: usize = 0;
+    while l < n {
+        l += 1;
+        let w = layer_row(sheet, extent, t, main, coded3, y, l);
+        put_row(rows, l, w);
     }
 }

@@ -11,8 +11,7 @@ use borrow.Author.Needs.{needs}
 use Rattle.picture_rules.specs.declared.MainPos.{MainPos}
 use Rattle.picture_rules.specs.declared.Mask.the-variants.{Zero, One}
 use Rattle.picture_rules.specs.Place.{scale}
-use Rattle.picture_rules.specs.Samples.{bitOf}
-use Rattle.picture_rules.specs.Line.{depth}
+use Rattle.picture_rules.specs.Samples.{bitOf, depth}
 
 -- ---- the scaling step: division by a constant, and by k itself
 

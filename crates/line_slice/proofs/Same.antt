@@ -2,15 +2,18 @@
 -- structs is what `line_planes::listing_of` answers of the octets. Of two answers that a promise allows, both are the same.
 -- Assumes nothing.
 use mathlib.Core.Path.{_≡_, refl, sym, ap, _∙_}
-use Prim.Native.Nat.{ℕ, zero, suc, _+_, _*_, _/_, _%_, _<_}
+use Prim.Native.Nat.{ℕ, zero, suc, _+_, _*_, _<_}
+use native.Mathlib.Nat.{add-zero, add-assoc}
 use native.Mathlib.Omega.{arith}
 use mathlib.Core.List.{List, [], _∷_, _++_}
-use lib.ListN.{length, getD, length-append}
-use lib.Seq.{getD-append-add}
+use lib.ListN.{getD}
+use lib.Dec.{lit<}
 use Rattle.octets.specs.Octets.{be32At, Octets}
-use Rattle.octets.proofs.Laws.{length-octets32, be32-shift, be32-there, octets-append, octets-32}
+use Rattle.octets.proofs.Laws.{length-octets32, be32-there, octets-append, octets-32, be32-same}
+use Rattle.octets.specs.Entries.{joined, Entry}
+use Rattle.octets.proofs.Entries.{joined-whole, joined-rest}
 use Rattle.picture_rules.specs.declared.Plane.{Plane}
-use Rattle.picture_rules.specs.Planes.{planeAt, planesFrom, PlaneList, listOf, wholeList, planeStart}
+use Rattle.picture_rules.specs.Planes.{planeAt, PlaneList, listOf, wholeList, planeStart, planeSize}
 use Rattle.line_planes.specs.declared.Listing.{Listing}
 use Rattle.line_planes.specs.Listing.{noPlanes, gathered, listingOf}
 use Rattle.picture_rules.specs.declared.Start.{Start}
@@ -18,31 +21,12 @@ use Rattle.line_slice.specs.Entries.{entryOctets, planeOctets, Fitting}
 
 -- ---- the octets of the entries, read back
 
-length-entry : (p : Plane) → length (entryOctets p) ≡ 5
-length-entry p = ap suc (length-octets32 _)
-
-length-planes : (ps : List Plane) → length (planeOctets ps) ≡ length ps * 5
-unfolding planeOctets
-length-planes [] = refl
-length-planes (p ∷ ps) =
-    let a : length (entryOctets p ++ planeOctets ps) ≡ length (entryOctets p) + length (planeOctets ps) = length-append (entryOctets p) (planeOctets ps) in
-    omega (arith, a, length-entry p, length-planes ps)
-
--- behind an entry's octets every place is five further
-plane-shift : (p : Plane) (s : List ℕ) (i : ℕ) → planeAt (entryOctets p ++ s) (i + 1) ≡ planeAt s i
+plane-own : (s t : List ℕ) (i j : ℕ) → ((m : ℕ) → m < planeSize → getD s (i * planeSize + m) 0 ≡ getD t (j * planeSize + m) 0) → planeAt s i ≡ planeAt t j
 unfolding planeAt
-plane-shift p s i =
-    let n : length (entryOctets p) ≡ 5 = length-entry p in
-    let a : (i + 1) * 5 ≡ length (entryOctets p) + i * 5 = omega arith in
-    let b : (i + 1) * 5 + 1 ≡ length (entryOctets p) + (i * 5 + 1) = omega arith in
-    let c : getD (entryOctets p ++ s) ((i + 1) * 5) 0 ≡ getD s (i * 5) 0 = ap (λ (j : ℕ). getD (entryOctets p ++ s) j 0) a ∙ getD-append-add (entryOctets p) s (i * 5) 0 in
-    let d : be32At (entryOctets p ++ s) ((i + 1) * 5 + 1) ≡ be32At s (i * 5 + 1) = ap (be32At (entryOctets p ++ s)) b ∙ be32-shift (entryOctets p) s (i * 5 + 1) in
+plane-own s t i j e =
+    let a : getD s (i * planeSize) 0 ≡ getD t (j * planeSize) 0 = simp add-zero at (e 0 (lit< tt)) in
+    let b : be32At s (i * planeSize + 1) ≡ be32At t (j * planeSize + 1) = be32-same s t (i * planeSize + 1) (j * planeSize + 1) (λ k h. simp add-assoc (e (1 + k) (omega arith))) in
     cc
-
-planes-shift : (p : Plane) (s : List ℕ) (k i : ℕ) → planesFrom (entryOctets p ++ s) k (i + 1) ≡ planesFrom s k i
-unfolding planesFrom
-planes-shift p s zero i = refl
-planes-shift p s (suc k) i = rw (plane-shift p s i, planes-shift p s k (i + 1)) refl
 
 plane-first : (p : Plane) (s : List ℕ) → planeAt (entryOctets p ++ s) 0 ≡ p
 unfolding planeAt
@@ -50,18 +34,13 @@ plane-first p s =
     let e : be32At (entryOctets p ++ s) 1 ≡ p .start = be32-there (entryOctets p ++ s) s 1 (p .start) refl in
     rw e refl
 
-planes-back : (ps : List Plane) → planesFrom (planeOctets ps) (length ps) 0 ≡ ps
-unfolding planesFrom planeOctets
-planes-back [] = refl
-planes-back (p ∷ ps) = rw (plane-first p (planeOctets ps), planes-shift p (planeOctets ps) (length ps) 0, planes-back ps) refl
+-- the laws of entries hold of planes
+plane-entry : Entry planeSize planeAt entryOctets
+plane-entry = record { some = lit< tt; own = plane-own; long = λ p. ap suc (length-octets32 _); back = plane-first }
 
 -- the octets of the entries are a list of those entries, with no part
 pub list-same : (ps : List Plane) → listOf (planeOctets ps) ≡ wholeList ps
-list-same ps =
-    let n : length (planeOctets ps) ≡ length ps * 5 = length-planes ps in
-    let k : length (planeOctets ps) / 5 ≡ length ps = omega arith in
-    let e : length (planeOctets ps) % 5 ≡ 0 = omega arith in
-    rw (k, e, planes-back ps) refl
+list-same ps = rw (joined-rest plane-entry ps, joined-whole plane-entry ps) refl
 
 -- entries that fit their types are octets that C can lend
 entry-lent : (p : Plane) → p .layer < 256 → p .start < 4294967296 → Octets (entryOctets p)
@@ -69,7 +48,7 @@ entry-lent p l s zero = l
 entry-lent p l s (suc k) = octets-32 (p .start) s k
 
 pub planes-lent : (ps : List Plane) → Fitting ps → Octets (planeOctets ps)
-unfolding planeOctets
+unfolding joined
 planes-lent [] h = λ k. omega arith
 planes-lent (p ∷ ps) h = octets-append (entryOctets p) (planeOctets ps) (entry-lent p (h .0) (h .1 .0)) (planes-lent ps (h .1 .1))
 

@@ -4,16 +4,16 @@
 --   planeOctets ps   those of each entry, in their order
 --   Fitting ps       each layer is an octet, and each start fits in four
 use Prim.Native.Nat.{ℕ, _<_}
-use mathlib.Core.List.{List, [], _∷_, _++_}
+use mathlib.Core.List.{List, [], _∷_}
 use Rattle.octets.specs.Octets.{octets32}
+use Rattle.octets.specs.Entries.{joined}
 use Rattle.picture_rules.specs.declared.Plane.{Plane}
 
 abbrev pub entryOctets : Plane → List ℕ
 entryOctets p = p .layer ∷ octets32 (p .start)
 
-unfoldable pub planeOctets : List Plane → List ℕ
-planeOctets [] = []
-planeOctets (p ∷ ps) = entryOctets p ++ planeOctets ps
+abbrev pub planeOctets : List Plane → List ℕ
+planeOctets ps = joined entryOctets ps
 
 abbrev pub Fitting : List Plane → Type 0
 Fitting [] = Unit {0}

@@ -1,6 +1,6 @@
 -- One law for each way out of the functions of a line's verdict: its premises are what is known there.
 -- Assumes nothing.
-use Prim.Native.Nat.{ℕ, suc, _+_, _-_, _*_, _/_, _≤_, _<_, min}
+use Prim.Native.Nat.{ℕ, _+_, _-_, _*_, _/_, _≤_, _<_, min}
 use native.Mathlib.Omega.{arith}
 use mathlib.Core.Path.{_≡_, refl, sym, ap, ap₂, _∙_}
 use mathlib.Core.Logic.{_≢_}
@@ -10,6 +10,8 @@ use lib.ListN.{length}
 use lib.Dec.{leb}
 use borrow.Author.Tests.{eq-eqb, ne-eqb, lt-ltb, le-ltb, le-leb, lt-leb}
 use borrow.Author.Needs.{needs}
+use Rattle.octets.specs.Entries.{entriesFrom}
+use Rattle.octets.proofs.Entries.{entries-next}
 use Rattle.answers.specs.declared.Answer.the-variants.{BadSheet, BadPlane, BadLine}
 use Rattle.sheet_rules.specs.declared.Record.{Record}
 use Rattle.sheet_rules.specs.declared.Extent.{Extent}
@@ -18,16 +20,16 @@ use Rattle.sheet_rules.specs.declared.FoundStripe.the-variants.{Has, NoStripe}
 use Rattle.sheet_rules.specs.declared.Verdict.{Verdict}
 use Rattle.sheet_rules.specs.Record.{recordSize, recordAt, records}
 use Rattle.sheet_rules.specs.Judge.{coded, judgeOf, answerOf}
-use Rattle.sheet_rules.specs.StripeTable.{findStripe}
+use Rattle.sheet_rules.specs.StripeTable.{findStripe, layerRecord}
 use Rattle.picture_rules.specs.declared.Plane.{Plane}
 use Rattle.picture_rules.specs.declared.ListVerdict.{ListVerdict}
 use Rattle.picture_rules.specs.declared.ListVerdict.the-variants.{Fine}
 use Rattle.picture_rules.specs.Planes.{PlaneList}
-use Rattle.picture_rules.specs.Samples.{recordOf}
-use Rattle.picture_rules.specs.Line.{depth, planeSpan, planeOk, planesJudged, planeRuling, sceneRuling, stripeRuling, sheetRuling, rulingOf}
+use Rattle.picture_rules.specs.Samples.{depth, planeSpan}
+use Rattle.picture_rules.specs.Line.{planeOk, planesJudged, planeRuling, sceneRuling, stripeRuling, sheetRuling, rulingOf}
 use Rattle.line_planes.specs.declared.Listing.{Listing}
 use Rattle.line_sample.proofs.Laws.{product-small}
-use Rattle.line_planes.specs.Listing.{entryOf, entriesFrom, entriesOf}
+use Rattle.line_planes.specs.Listing.{entryOf, entriesOf}
 use Rattle.line_verdict.specs.declared.Ruled.{Ruled}
 use Rattle.line_verdict.specs.declared.Ruled.the-variants.{Shows}
 use Rattle.line_verdict.specs.Ruled.{bareScene, lineRuling, ruledOf}
@@ -60,7 +62,7 @@ module _ (s : List ℕ) (extent : Extent) (d : List ℕ) (last : ℕ) (p : Plane
 
   pub plane-there : (r : Record) (b : Bool) → last < p .layer → p .layer ≤ extent .layers → r ≡ recordAt s (extent .first + (p .layer - 1))
       → b ≡ coded r && leb (p .start + planeSpan r) (length d) → b ≡ planeOk (bareScene s extent d) last p
-  unfolding planeOk recordOf
+  unfolding planeOk layerRecord
   plane-there r b h k e f = simp (lt-ltb last (p .layer) h, le-leb (p .layer) (extent .layers) k, f, e)
 
   pub plane-place : Whole s extent → last < p .layer → p .layer ≤ extent .layers → extent .first + (p .layer - 1) < length s / recordSize
@@ -71,22 +73,18 @@ module _ (s : List ℕ) (extent : Extent) (d : List ℕ) (last : ℕ) (p : Plane
 pub record Judging (s : List ℕ) (extent : Extent) (d : List ℕ) (t : Listing) (part : Bool) (n last i : ℕ) : Type 0 where
   pub within : i ≤ n
   pub few : n ≤ 16
-  pub left : planesJudged (bareScene s extent d) part 0 0 (entriesOf t) ≡ planesJudged (bareScene s extent d) part last i (entriesFrom t (n - i) i)
+  pub left : planesJudged (bareScene s extent d) part 0 0 (entriesOf t) ≡ planesJudged (bareScene s extent d) part last i (entriesFrom (entryOf t) (n - i) i)
 
 module _ (s : List ℕ) (extent : Extent) (d : List ℕ) (t : Listing) (part : Bool) (n : ℕ) where
   pub judging-none : n ≡ min (t .count) 16 → Judging s extent d t part n 0 0
   unfolding entriesOf
   judging-none e = record { within = omega arith; few = omega arith; left = let z : min (t .count) 16 - 0 ≡ min (t .count) 16 = omega arith in rw (e, z) refl }
 
-  next-entry : (i : ℕ) → i < n → entriesFrom t (n - i) i ≡ entryOf t i ∷ entriesFrom t (n - (i + 1)) (i + 1)
-  unfolding entriesFrom
-  next-entry i h = let e : n - i ≡ suc (n - (i + 1)) = omega arith in rw e
-
   module _ (p : Plane) (b : Bool) (last i : ℕ) (g : Judging s extent d t part n last i) (h : i < n) (e : p ≡ entryOf t i) (k : b ≡ planeOk (bareScene s extent d) last p) where
-    opened : planesJudged (bareScene s extent d) part 0 0 (entriesOf t) ≡ cond b (planesJudged (bareScene s extent d) part (p .layer) (i + 1) (entriesFrom t (n - (i + 1)) (i + 1))) (ListVerdict.Refused i)
+    opened : planesJudged (bareScene s extent d) part 0 0 (entriesOf t) ≡ cond b (planesJudged (bareScene s extent d) part (p .layer) (i + 1) (entriesFrom (entryOf t) (n - (i + 1)) (i + 1))) (ListVerdict.Refused i)
     unfolding planesJudged
     opened =
-        g .left ∙ ap (planesJudged (bareScene s extent d) part last i) (next-entry i h)
+        g .left ∙ ap (planesJudged (bareScene s extent d) part last i) (entries-next (entryOf t) n i h)
         ∙ rw (k, e) refl
 
     pub judging-more : b ≡ true → Judging s extent d t part n (p .layer) (i + 1)
@@ -109,7 +107,7 @@ module _ (s : List ℕ) (pl : PlaneList) (d : List ℕ) (y : ℕ) where
   -- an entry is judged without a look at the list
   bare : (extent : Extent) (part : Bool) (last i : ℕ) (ps qs : List Plane)
       → planesJudged (record { sheet = s; extent = extent; planes = qs; samples = d }) part last i ps ≡ planesJudged (bareScene s extent d) part last i ps
-  unfolding planesJudged planeOk recordOf
+  unfolding planesJudged planeOk layerRecord
   bare extent part last i [] qs = refl
   bare extent part last i (p ∷ ps) qs =
       ap (λ j. cond (planeOk (bareScene s extent d) last p) j (ListVerdict.Refused i)) (bare extent part (p .layer) (i + 1) ps qs)

@@ -4,7 +4,8 @@ ghost use mathlib.Core.Bool.{_&&_};
 ghost use Prim.Native.Nat.{_*_, _+_, _<_};
 ghost use lib.Dec.{leb};
 ghost use Rattle.sheet_rules.specs.Judge.{coded};
-ghost use Rattle.picture_rules.specs.Line.{depth, planeSpan, planeOk, planesJudged, rulingOf};
+ghost use Rattle.picture_rules.specs.Samples.{depth, planeSpan};
+ghost use Rattle.picture_rules.specs.Line.{planeOk, planesJudged, rulingOf};
 ghost use Rattle.line_planes.specs.Listing.{entriesOf};
 ghost use Rattle.line_verdict.specs.Ruled.{bareScene, listFrom, lineRuling, ruledOf};
 ghost use Rattle.sheet_table.specs.Steps.{Whole, JudgedGood};
@@ -42,7 +43,7 @@ pub fn plane_within(p: Plane, r: Record, room: usize) -> bool
     p.start as usize + span <= room
 }
 
-// An entry behind one of layer `last`.
+// An entry after one of layer `last`.
 pub fn plane_ok(sheet: &[u8], extent: Extent, samples: &[u8], last: u8, p: Plane) -> bool
     requires { ⌜ Whole (now sheet) extent ⌝ }
     ensures { λ b. ⌜ b ≡ planeOk (bareScene (now (sheet .entry)) extent (now (samples .entry))) last p ⌝ }

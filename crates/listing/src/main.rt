@@ -1,15 +1,16 @@
 // Reads a sheet from standard input and writes a line a record, or `refused 14 ` and the record at fault.
 //
-// No more than 26,908 octets are read: the judge of so many is the judge of all (`sheet-cut` of `sheet_rules`), so an
+// No more octets are read than decide: the judge of so many is the judge of all (`sheet-cut` of `sheet_rules`), so an
 // input of any length, endless too, is answered.
 use answers::Answer;
 use libc::STDIN_FILENO;
 use libc::STDOUT_FILENO;
+use sheet_rules::DECISIVE_SIZE;
 use sheet_rules::RECORD_SIZE;
 use sheet_rules::Record;
 
 fn main() {
-    let mut buffer = [0u8; 26908];
+    let mut buffer = [0u8; DECISIVE_SIZE];
     let n = io::read_full(STDIN_FILENO, &mut buffer);
     list(&buffer[..n]);
 }

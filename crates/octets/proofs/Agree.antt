@@ -1,4 +1,4 @@
--- What a reading hangs on: two lists that agree in their first octets give the same numbers and strings there, and what is read of these alone
+-- What a reading depends on: two lists that agree in their first octets give the same numbers and strings there, and what is read of these alone
 -- is read alike.
 --
 --   Agree e s t           the lists agree in their first e octets
@@ -52,7 +52,7 @@ module _ (e : ℕ) (s t : List ℕ) (a : Agree e s t) where
   pub stands-agree : (m : List ℕ) (at : ℕ) → at + length m ≤ e → standsAt s at m ≡ standsAt t at m
   stands-agree m at h = stands-front s m at e h (a .left) ∙ ap (λ (x : List ℕ). standsAt x at m) (a .same) ∙ sym (stands-front t m at e h (a .right))
 
--- ---- what a reading hangs on
+-- ---- what a reading depends on
 
 pub record Hangs {A : Type 0} (look : ℕ) (read : List ℕ → A) (s : List ℕ) (at : ℕ) : Type 0 where
   pub ahead : at ≤ look
@@ -76,7 +76,7 @@ module _ {A : Type 0} (s : List ℕ) where
   pub hangs-from : (read : List ℕ → A) (look at from : ℕ) → from ≤ look → Hangs look read s at → Hangs look read s from
   hangs-from read look at from l h = record { ahead = l; inside = h .inside; same = h .same }
 
-  -- first a part that hangs on the octets up to d, then the rest, by what the part gave of s
+  -- first a part that depends on the octets up to d, then the rest, by what the part gave of s
   pub hangs-then : {B : Type 0} (part : List ℕ → B) (on : B → List ℕ → A) (b : B) (d look at : ℕ) → part s ≡ b → Hangs d part s at → Hangs look (on b) s d
       → Hangs look (λ (t : List ℕ). on (part t) t) s at
   hangs-then part on b d look at e p h =

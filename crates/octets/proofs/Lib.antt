@@ -1,3 +1,4 @@
 pub mod Laws
+pub mod Entries
 pub mod Agree
 pub mod Turns

@@ -7,10 +7,9 @@ use mathlib.Core.Path.{_≡_, refl, sym, ap, subst, _∙_}
 use mathlib.Core.Logic.{_⊎_, inl, inr, _≢_, ⊎-elim}
 use mathlib.Core.Bool.{Bool, true, false, not, cond}
 use mathlib.Core.List.{List, [], _∷_, _++_}
-use lib.ListN.{length, length-append, replicate}
+use lib.ListN.{length, length-append}
 use lib.Dec.{lit≤}
 use borrow.Author.Tests.{eq-eqb, ne-eqb}
-use Rattle.octets.specs.Octets.{octets16, octets32}
 use Rattle.laws.proofs.Says.{says-eq, says-not}
 use Rattle.sheet_rules.specs.declared.Record.{Record}
 use Rattle.sheet_rules.specs.declared.State.{State}
@@ -22,12 +21,12 @@ use Rattle.sheet_rules.proofs.New.{CodedFacts, UncodedFacts, ResFacts, New, say
 use Rattle.sheet_rules.proofs.Backward.{listed-nonzero}
 use Rattle.sheet_rules.proofs.Fold.{step-next, run-append, begun-unbroken}
 use Rattle.jpeg_rules.specs.Grammar.{Layer}
-use Rattle.page_rules.proofs.There.{length-start}
+use Rattle.page_rules.proofs.Parts.{backIn, maskIn, foreIn, stripe-length, page-within}
 use Rattle.page_rules.specs.declared.Head.{Head}
 use Rattle.page_rules.specs.declared.LayerData.{LayerData}
-use Rattle.page_rules.specs.Kinds.{hasBack, hasMask, hasFore, Fields, imageRecord, maskRecord}
+use Rattle.page_rules.specs.Kinds.{hasBack, hasMask, hasFore, imageRecord, maskRecord, longestPage}
 use Rattle.sheet_rules.specs.declared.Colour.{Colour}
-use Rattle.page_rules.specs.Grammar.{startOf, GoodHead, MaskCoder, TypeOf, colourOf, headOf, Image, there, absent, Stripe, Stripes, last, next, Page}
+use Rattle.page_rules.specs.Grammar.{GoodHead, MaskCoder, TypeOf, Image, there, absent, Stripe, Stripes, last, next, Page}
 
 -- ---- an image layer's record
 
@@ -44,7 +43,7 @@ record ImageFacts (main k l : ℕ) (b : Bool) (r : Record) : Type 0 where
 layer-size : {main w h r : ℕ} (l : List ℕ) → Layer main l w h r → length l ≢ 0
 layer-size l y z = let a = ap length (y .octets) in omega arith
 
-image-facts : (hd : Head) (k l at : ℕ) (base : Colour) (x y : ℕ) (b : Bool) (o : List ℕ) (c : LayerData) → (l % 2 ≡ 1) → Listed (hd .main) → at + length o ≤ 16777215
+image-facts : (hd : Head) (k l at : ℕ) (base : Colour) (x y : ℕ) (b : Bool) (o : List ℕ) (c : LayerData) → (l % 2 ≡ 1) → Listed (hd .main) → at + length o ≤ longestPage
     → Image (hd .main) at b o c → ImageFacts (hd .main) k l b (imageRecord hd k l base x y c)
 unfolding imageRecord
 image-facts hd k l at base x y b o c odd g small (there {w = w} {h = h} {r = r} z) =
@@ -86,10 +85,6 @@ mask-coder c (inr (inr (inl e))) d = inr (refl, inl e)
 mask-coder c (inr (inr (inr (inl e)))) d = inr (refl, inr (inl e))
 mask-coder c (inr (inr (inr (inr e)))) d = inr (refl, inr (inr e))
 
-pub length-head : (f : Fields) → length (headOf f) ≡ 39
-unfolding headOf colourOf octets32 octets16
-length-head f = refl
-
 -- ---- the state where a stripe begins
 
 pub record Ready (hd : Head) (k left : ℕ) (st : State) : Type 0 where
@@ -102,7 +97,7 @@ record MaskFacts (b : Bool) (r : Record) : Type 0 where
   coded-is : isCoded r ≡ b
   contents : (Coded r × CodedFacts r) ⊎ (UncodedRecord r × UncodedFacts r)
 
-mask-facts : (hd : Head) (k height at n : ℕ) (b : Bool) → MaskCoder (hd .mask) → (b ≡ true → hd .mask ≢ 0) → 1 ≤ hd .width → 1 ≤ height → at + n ≤ 16777215
+mask-facts : (hd : Head) (k height at n : ℕ) (b : Bool) → MaskCoder (hd .mask) → (b ≡ true → hd .mask ≢ 0) → 1 ≤ hd .width → 1 ≤ height → at + n ≤ longestPage
     → (b ≡ true → n ≡ 0 → ⊥) × (b ≡ false → n ≡ 0) → MaskFacts b (maskRecord hd k height (cond b (hd .mask) 0) (cond b at 0) n)
 unfolding maskRecord
 mask-facts hd k height at n true g c w h small m =
@@ -116,7 +111,7 @@ mask-facts hd k height at n false g c w h small m =
       contents = inr (m .1 refl, record { coder = refl; start = refl; empty = inl refl });
     }
 
--- ---- the states behind the three records
+-- ---- the states after the three records
 
 module _ (st : State) (r : Record) where
   pub after-is-1 : r .layer ≡ 1 → after st r ≡ after1 st r
@@ -138,47 +133,26 @@ record Ran (hd : Head) (k left height : ℕ) (st : State) (rs : List Record) : T
   third : t .layer ≡ 3
 
 module _ (hd : Head) (g : GoodHead hd) (k left at : ℕ) (l : List ℕ) (height : ℕ) (rs : List Record) (z : Stripe hd k left at l height rs)
-    (few : k < 64) (small : at + length l ≤ 16777215) (st : State) (rdy : Ready hd k left st) where
-  r1 : Record
-  r1 = imageRecord hd k 1 (z .fields .back) (z .fields .backX) (z .fields .backY) (z .backIs)
-
-  r2 : Record
-  r2 = maskRecord hd k (z .fields .height) (cond (hasMask (z .fields .type)) (hd .mask) 0) (cond (hasMask (z .fields .type)) (at + 39) 0) (z .fields .maskLength)
-
-  r3 : Record
-  r3 = imageRecord hd k 3 (z .fields .fore) (z .fields .foreX) (z .fields .foreY) (z .foreIs)
-
-  sizes : at + 39 + length (z .mask) + length (z .back) + length (z .fore) ≡ at + length l
-  sizes =
-      let a = ap length (z .octets) in
-      let b = length-append (headOf (z .fields)) (z .mask ++ (z .back ++ z .fore)) in
-      let c = length-append (z .mask) (z .back ++ z .fore) in
-      let d = length-append (z .back) (z .fore) in
-      let e = length-head (z .fields) in
-      omega arith
-
-  one : ImageFacts (hd .main) k 1 (hasBack (z .fields .type)) r1
-  unfolding r1
+    (few : k < 64) (small : at + length l ≤ longestPage) (st : State) (rdy : Ready hd k left st) where
+  one : ImageFacts (hd .main) k 1 (hasBack (z .fields .type)) (backIn z)
   one =
-      let q = sizes in
+      let q = stripe-length z in
       image-facts hd k 1 (at + 39 + length (z .mask)) (z .fields .back) (z .fields .backX) (z .fields .backY) (hasBack (z .fields .type)) (z .back) (z .backIs) refl (g .main) (omega arith) (z .backThere)
 
-  two : MaskFacts (hasMask (z .fields .type)) r2
-  unfolding r2
+  two : MaskFacts (hasMask (z .fields .type)) (maskIn z)
   two =
-      let q = sizes in
+      let q = stripe-length z in
       let n = z .size in
       let w = g .width in
       let h = z .good .height in
       mask-facts hd k (z .fields .height) (at + 39) (z .fields .maskLength) (hasMask (z .fields .type)) (g .mask) (z .good .maskCoder) (w .0) (h .0) (omega arith) (z .good .mask)
 
-  three : ImageFacts (hd .main) k 3 (hasFore (z .fields .type)) r3
-  unfolding r3
+  three : ImageFacts (hd .main) k 3 (hasFore (z .fields .type)) (foreIn z)
   three =
-      let q = sizes in
+      let q = stripe-length z in
       image-facts hd k 3 (at + 39 + length (z .mask) + length (z .back)) (z .fields .fore) (z .fields .foreX) (z .fields .foreY) (hasFore (z .fields .type)) (z .fore) (z .foreIs) refl (g .main) (omega arith) (z .foreThere)
 
-  new1 : New st r1
+  new1 : New st (backIn z)
   new1 =
       let x = one in
       let si = x .stripe-is in
@@ -198,10 +172,10 @@ module _ (hd : Head) (g : GoodHead hd) (k left at : ℕ) (l : List ℕ) (height 
       }
 
   st1 : State
-  st1 = after1 st r1
+  st1 = after1 st (backIn z)
 
-  new2 : New st1 r2
-  unfolding st1 after1 r2 maskRecord
+  new2 : New st1 (maskIn z)
+  unfolding st1 after1 maskRecord
   new2 =
       let x = one in
       let si = x .stripe-is in
@@ -231,16 +205,16 @@ module _ (hd : Head) (g : GoodHead hd) (k left at : ℕ) (l : List ℕ) (height 
                     ⊎-elim (λ (y : (k ≡ 0) × (st .stripe ≡ 0) × (st .layer ≡ 0)). inl (y .0))
                     (λ (y : (st .stripe + 1 ≡ k) × (st .layer ≡ 3) × (st .main ≡ hd .main) × (st .width ≡ hd .width)). inr (sym (y .3), sym (y .2)))
                     (rdy .place);
-                res = subst (λ (b : Bool). ResFacts b (r1 .res) (hd .main)) (sym (x .coded-is)) (x .res);
+                res = subst (λ (b : Bool). ResFacts b ((backIn z) .res) (hd .main)) (sym (x .coded-is)) (x .res);
               },
             ));
       }
 
   st2 : State
-  st2 = after2 st1 r2
+  st2 = after2 st1 (maskIn z)
 
-  new3 : New st2 r3
-  unfolding st2 st1 after2 after1 r2 maskRecord
+  new3 : New st2 (foreIn z)
+  unfolding st2 st1 after2 after1 maskRecord
   new3 =
       let x = three in
       let si = x .stripe-is in
@@ -256,42 +230,42 @@ module _ (hd : Head) (g : GoodHead hd) (k left at : ℕ) (l : List ℕ) (height 
             (inr (
               omega arith,
               record {
-                res = subst (λ (b : Bool). ResFacts b (r3 .res) (hd .main)) (sym (x .coded-is)) (x .res);
-                choice = inr (says-choice (isCoded r1) (isCoded r2) (isCoded r3) .told picked);
+                res = subst (λ (b : Bool). ResFacts b ((foreIn z) .res) (hd .main)) (sym (x .coded-is)) (x .res);
+                choice = inr (says-choice (isCoded (backIn z)) (isCoded (maskIn z)) (isCoded (foreIn z)) .told picked);
               },
             ));
       }
     where
-      picked : choiceOk (isCoded r1) (isCoded r2) (isCoded r3) ≡ true
+      picked : choiceOk (isCoded (backIn z)) (isCoded (maskIn z)) (isCoded (foreIn z)) ≡ true
       picked =
-          ap (λ (b : Bool). choiceOk b (isCoded r2) (isCoded r3)) (one .coded-is)
-          ∙ ap (λ (b : Bool). choiceOk (hasBack (z .fields .type)) b (isCoded r3)) (two .coded-is)
+          ap (λ (b : Bool). choiceOk b (isCoded (maskIn z)) (isCoded (foreIn z))) (one .coded-is)
+          ∙ ap (λ (b : Bool). choiceOk (hasBack (z .fields .type)) b (isCoded (foreIn z))) (two .coded-is)
           ∙ ap (λ (b : Bool). choiceOk (hasBack (z .fields .type)) (hasMask (z .fields .type)) b) (three .coded-is)
           ∙ choice (z .fields .type) (z .good .type)
 
-  first-is : after st r1 ≡ st1
+  first-is : after st (backIn z) ≡ st1
   unfolding st1
-  first-is = after-is-1 st r1 (one .layer-is)
+  first-is = after-is-1 st (backIn z) (one .layer-is)
 
-  second-is : after st1 r2 ≡ st2
-  unfolding st2 r2 maskRecord
-  second-is = after-is-2 st1 r2 refl
+  second-is : after st1 (maskIn z) ≡ st2
+  unfolding st2 maskRecord
+  second-is = after-is-2 st1 (maskIn z) refl
 
   st3 : State
-  st3 = after3 st2 r3
+  st3 = after3 st2 (foreIn z)
 
-  ran : run st (r1 ∷ r2 ∷ r3 ∷ []) ≡ Next st3
+  ran : run st ((backIn z) ∷ (maskIn z) ∷ (foreIn z) ∷ []) ≡ Next st3
   unfolding run onStep st3
   ran =
-      let e1 : stepOf st r1 ≡ Next st1 = step-next st r1 new1 ∙ ap Next first-is in
-      let e2 : stepOf st1 r2 ≡ Next st2 = step-next st1 r2 new2 ∙ ap Next second-is in
-      let e3 : stepOf st2 r3 ≡ Next (after3 st2 r3) = step-next st2 r3 new3 ∙ ap Next (after-is-3 st2 r3 (three .layer-is)) in
-      ap (λ (x : Step). onStep x Stop (λ (t : State). run t (r2 ∷ r3 ∷ []))) e1
-      ∙ ap (λ (x : Step). onStep x Stop (λ (t : State). run t (r3 ∷ []))) e2
+      let e1 : stepOf st (backIn z) ≡ Next st1 = step-next st (backIn z) new1 ∙ ap Next first-is in
+      let e2 : stepOf st1 (maskIn z) ≡ Next st2 = step-next st1 (maskIn z) new2 ∙ ap Next second-is in
+      let e3 : stepOf st2 (foreIn z) ≡ Next (after3 st2 (foreIn z)) = step-next st2 (foreIn z) new3 ∙ ap Next (after-is-3 st2 (foreIn z) (three .layer-is)) in
+      ap (λ (x : Step). onStep x Stop (λ (t : State). run t ((maskIn z) ∷ (foreIn z) ∷ []))) e1
+      ∙ ap (λ (x : Step). onStep x Stop (λ (t : State). run t ((foreIn z) ∷ []))) e2
       ∙ ap (λ (x : Step). onStep x Stop (λ (t : State). run t [])) e3
 
   stripe-ran : Ran hd k left height st rs
-  unfolding st3 st2 st1 after3 after2 after1 r1 r2 r3 maskRecord
+  unfolding st3 st2 st1 after3 after2 after1 maskRecord
   stripe-ran =
       let si = three .stripe-is in
       let li = three .layer-is in
@@ -316,7 +290,7 @@ record Whole (st : State) (rs : List Record) : Type 0 where
   third : t .layer ≡ 3
 
 stripes-ran : {hd : Head} → GoodHead hd → {k left at : ℕ} {l : List ℕ} {rs : List Record} → Stripes hd k left at l rs → (st : State) → Ready hd k left st
-    → at + length l ≤ 16777215 → Whole st rs
+    → at + length l ≤ longestPage → Whole st rs
 unfolding run
 stripes-ran g (last some) st rdy small =
     record {
@@ -330,13 +304,9 @@ stripes-ran {hd} g {k} {left} {at} (next {l = l} {more = more} {rs = rs} {sr = s
     let y = stripes-ran g rest (x .t) (x .ready) (omega arith) in
     record { t = y .t; went = run-more st (x .t) rs sr (x .went) ∙ y .went; third = y .third }
 
-pub page-accepted : (s : List ℕ) (rs : List Record) → Page s rs → length s ≤ 16777215 → Sheet rs
+pub page-accepted : (s : List ℕ) (rs : List Record) → Page s rs → length s ≤ longestPage → Sheet rs
 page-accepted s rs p h =
-    let a1 = ap length (p .octets) in
-    let a2 = length-append (startOf (p .head)) (p .optionals ++ (p .stripes ++ (0xFF ∷ 0xD9 ∷ 0xFF ∷ 0xD9 ∷ replicate (p .zeros) 0))) in
-    let a3 = length-append (p .optionals) (p .stripes ++ (0xFF ∷ 0xD9 ∷ 0xFF ∷ 0xD9 ∷ replicate (p .zeros) 0)) in
-    let a4 = length-append (p .stripes) (0xFF ∷ 0xD9 ∷ 0xFF ∷ 0xD9 ∷ replicate (p .zeros) 0) in
-    let a5 = length-start (p .head) in
+    let a = page-within s rs p in
     let w = stripes-ran (p .good) (p .striped) begin (record { place = inl (refl, refl, refl); left-is = refl }) (omega arith) in
     let b = begun-unbroken rs (w .t) (w .went) in
     let g = b .1 in

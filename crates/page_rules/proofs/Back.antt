@@ -167,7 +167,7 @@ module _ (hd : Head) (s : List ℕ) (out : List Record) (n : ℕ) where
         inside = y .inside;
       }
 
-  -- behind a segment's beginning: the reading of a stripe, and the rest
+  -- after a segment's beginning: the reading of a stripe, and the rest
   abbrev Rest : ℕ → Type 0
   Rest fuel = (k left : ℕ) (acc : List Record) (at : ℕ) → at ≤ length s → left ≤ 65535 → k < 65 → bodyFrom fuel hd k left acc s at ≡ ok out n → BodyBack hd k left acc s at out n
 

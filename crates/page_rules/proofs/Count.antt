@@ -17,7 +17,7 @@ use Rattle.page_rules.specs.Reading.{segmentTable, stripeTable, fieldsFr
 use Rattle.page_rules.proofs.Layers.{span-back, layers-back}
 use Rattle.page_rules.proofs.Refused.{segment-size}
 
--- two ways on agree where they agree behind what was read
+-- two ways on agree where they agree after what was read
 bind-same : {A B : Type 0} (r : Res A) (go og : A → ℕ → Res B) → ((x : A) (m : ℕ) → r ≡ ok x m → go x m ≡ og x m) → bind r go ≡ bind r og
 unfolding bind
 bind-same (ok x m) go og h = h x m refl
@@ -28,7 +28,7 @@ module _ (s : List ℕ) (o : Octets s) (hd : Head) where
   Same i j = (k left : ℕ) (acc : List Record) (at : ℕ) → at ≤ length s → length s < i + at → length s < j + at
       → bodyFrom i hd k left acc s at ≡ bodyFrom j hd k left acc s at
 
-  -- how a body of so many segments goes on behind a stripe
+  -- how a body of so many segments goes on after a stripe
   abbrev onward : ℕ → ℕ → ℕ → List Record → ℕ → List Record → ℕ → Res (List Record)
   onward i k left acc height rs e = bodyFrom i hd (suc k) (left - height) (acc ++ rs) s e
 

@@ -10,7 +10,7 @@ use Rattle.jpeg_rules.specs.Marker.{classOf, markerOf}
 use Rattle.jpeg_rules.specs.Walk.{segOf, scanOf, tagOf, frameBodyOf, frameOf, scanStepOf, segmentOf, endOf, turnOf, walkOf}
 use Rattle.jpeg_rules.proofs.Examples as J
 use Rattle.page_rules.specs.declared.Head.{Head}
-use Rattle.page_rules.specs.Kinds.{typeOk, maskCoder, imageCoder, Fields}
+use Rattle.page_rules.specs.Kinds.{typeOk, maskCoder, imageCoder, Fields, stripeSheet}
 use Rattle.page_rules.specs.Grammar.{startOf, optionalOf, colourOf, headOf}
 use Rattle.page_rules.proofs.Many.{head, stripe, coded-mask}
 use Rattle.page_rules.specs.Reading.{startTable, segmentTable, stripeTable, layersOf, endTable, readOf}
@@ -22,7 +22,7 @@ unfoldable pub page : List ℕ
 unfolding end
 page = startOf head ++ (headOf stripe ++ (coded-mask ++ (end ++ end)))
 
-pub read : readOf page 84 ≡ Done 3
+pub read : readOf page stripeSheet ≡ Done 3
 unfolding readOf page startOf headOf colourOf octets16 octets32 startTable segmentTable stripeTable endTable fields maskCoder imageCoder typeOk be16At be32At standsAt begins layersOf
 read = refl
 
@@ -30,15 +30,15 @@ pub no-room : readOf page 83 ≡ NoRoom
 unfolding readOf page startOf headOf colourOf octets16 octets32 startTable segmentTable stripeTable endTable fields maskCoder imageCoder typeOk be16At be32At standsAt begins layersOf
 no-room = refl
 
-pub padded : readOf (page ++ (0 ∷ 0 ∷ [])) 84 ≡ Done 3
+pub padded : readOf (page ++ (0 ∷ 0 ∷ [])) stripeSheet ≡ Done 3
 unfolding readOf page startOf headOf colourOf octets16 octets32 startTable segmentTable stripeTable endTable fields maskCoder imageCoder typeOk be16At be32At standsAt begins layersOf
 padded = refl
 
-pub trailing : readOf (page ++ (0 ∷ 7 ∷ [])) 84 ≡ Trailing 71
+pub trailing : readOf (page ++ (0 ∷ 7 ∷ [])) stripeSheet ≡ Trailing 71
 unfolding readOf page startOf headOf colourOf octets16 octets32 startTable segmentTable stripeTable endTable fields maskCoder imageCoder typeOk be16At be32At standsAt begins layersOf
 trailing = refl
 
-pub no-stripe : readOf (startOf head ++ (optionalOf 10 (1 ∷ 2 ∷ []) ++ (end ++ end))) 84 ≡ BadStripe 32
+pub no-stripe : readOf (startOf head ++ (optionalOf 10 (1 ∷ 2 ∷ []) ++ (end ++ end))) stripeSheet ≡ BadStripe 32
 unfolding readOf end startOf optionalOf octets16 octets32 startTable segmentTable endTable fields maskCoder imageCoder be16At be32At standsAt begins
 no-stripe = refl
 
@@ -90,12 +90,12 @@ pub all-three : List ℕ
 unfolding typed picture
 all-three = headOf (typed 7 5) ++ (coded-mask ++ (picture ++ picture))
 
--- the sheets' sizes, with an optional segment before and zeros behind
-pub six-types : (readOf (startOf colours ++ (back-only ++ (end ++ end))) 84 ≡ Done 3)
-    × (readOf (startOf colours ++ (mask-only ++ (end ++ end))) 84 ≡ Done 3)
-    × (readOf (startOf colours ++ (mask-back ++ (end ++ end))) 84 ≡ Done 3)
-    × (readOf (startOf colours ++ (fore-only ++ (end ++ end))) 84 ≡ Done 3)
-    × (readOf (startOf colours ++ (mask-fore ++ (end ++ end))) 84 ≡ Done 3)
+-- the sheets' sizes, with an optional segment before and zeros after
+pub six-types : (readOf (startOf colours ++ (back-only ++ (end ++ end))) stripeSheet ≡ Done 3)
+    × (readOf (startOf colours ++ (mask-only ++ (end ++ end))) stripeSheet ≡ Done 3)
+    × (readOf (startOf colours ++ (mask-back ++ (end ++ end))) stripeSheet ≡ Done 3)
+    × (readOf (startOf colours ++ (fore-only ++ (end ++ end))) stripeSheet ≡ Done 3)
+    × (readOf (startOf colours ++ (mask-fore ++ (end ++ end))) stripeSheet ≡ Done 3)
     × (readOf (startOf colours ++ (optionalOf 3 (7 ∷ []) ++ (all-three ++ (mask-only ++ (end ++ (end ++ (0 ∷ []))))))) 168 ≡ Done 6)
 unfolding readOf colours back-only mask-only mask-back fore-only mask-fore all-three end startOf headOf colourOf optionalOf octets16 octets32 startTable segmentTable stripeTable endTable fields maskCoder imageCoder typeOk be16At be32At standsAt begins layersOf walkOf turnOf markerOf classOf segOf scanOf tagOf frameOf frameBodyOf scanStepOf segmentOf endOf
 six-types = (refl, refl, refl, refl, refl, refl)

@@ -1,4 +1,4 @@
--- Reading the body of a page hangs on the octets up to where it looked, whatever its count.
+-- Reading the body of a page depends on the octets up to where it looked, whatever its count.
 -- Assumes nothing.
 use Prim.Native.Nat.{ℕ, zero, suc, _+_, _-_, _≤_, _<_}
 use native.Mathlib.Omega.{arith}
@@ -128,7 +128,7 @@ module _ (s : List ℕ) (o : Octets s) (hd : Head) where
   module _ (count : List ℕ → ℕ) (k left : ℕ) (acc : List Record) (at : ℕ)
       (rest : (k left : ℕ) (acc : List Record) (e : ℕ) → at + 8 ≤ e → e ≤ length s → Whole (bodyFrom (count s - 1) hd k left acc s e)
       → Looked (bodyLook (count s - 1) hd k left s e) (λ (t : List ℕ). bodyFrom (count t - 1) hd k left acc t e) s e) where
-    -- what stands behind the fields of a segment: of a stripe or an optional one
+    -- what stands after the fields of a segment: of a stripe or an optional one
     abbrev readBehind : Bool → List ℕ → ℕ → List ℕ → Res (List Record)
     readBehind stripe vs n t =
         cond stripe

@@ -11,6 +11,8 @@ use lib.Dec.{ltb}
 use borrow.Author.Tests.{ltb-false}
 use Rattle.octets.specs.Octets.{Octets, putAt}
 use Rattle.octets.proofs.Laws.{put-back, put-rest, put-length}
+use Rattle.octets.proofs.Entries.{joined-length}
+use Rattle.page_rules.specs.Kinds.{longestPage}
 use Rattle.laws.proofs.Cases.{clash}
 use Rattle.answers.specs.declared.Answer.{Answer}
 use Rattle.answers.specs.declared.Answer.the-variants.{Done, NoRoom, TooLong}
@@ -19,7 +21,7 @@ use Rattle.field_rules.specs.Field.{Res, ok, no}
 use Rattle.sheet_rules.specs.declared.Record.{Record}
 use Rattle.sheet_rules.specs.Record.{recordSize, sheetOf, records}
 use Rattle.sheet_rules.specs.Sentences.{Sheet, stripeCount, GoodSheet}
-use Rattle.sheet_rules.proofs.Cut.{sheet-length, sheet-back, sheet-whole}
+use Rattle.sheet_rules.proofs.Cut.{sheet-back, sheet-whole, record-entry}
 use Rattle.page_rules.specs.Grammar.{Page}
 use Rattle.page_rules.specs.Reading.{pageOf, roomOf, readOf, intoOf, readInto}
 use Rattle.page_rules.proofs.Back.{page-back}
@@ -44,14 +46,14 @@ module _ (s d : List ℕ) (P : Answer → List ℕ → Type 0) where
   into-room (no a) e bad good = bad a (inl e)
 
   by-answer : ((a : Answer) → Refuses s a → P a d)
-      → (length s ≤ 16777215 → (rs : List Record) (n : ℕ) → pageOf s ≡ ok rs n → length rs * recordSize ≤ length d → P (Done (length rs)) (putAt d 0 (sheetOf rs)))
+      → (length s ≤ longestPage → (rs : List Record) (n : ℕ) → pageOf s ≡ ok rs n → length rs * recordSize ≤ length d → P (Done (length rs)) (putAt d 0 (sheetOf rs)))
       → P (readOf s (length d)) (readInto s d)
   unfolding readOf readInto
-  by-answer bad good = by (ltb 16777215 (length s)) refl
+  by-answer bad good = by (ltb longestPage (length s)) refl
     where
-      by : (b : Bool) → ltb 16777215 (length s) ≡ b → P (cond b TooLong (roomOf (length d) (pageOf s))) (cond b d (intoOf d (pageOf s)))
+      by : (b : Bool) → ltb longestPage (length s) ≡ b → P (cond b TooLong (roomOf (length d) (pageOf s))) (cond b d (intoOf d (pageOf s)))
       by true t = bad TooLong (inr (inr refl))
-      by false t = into-room (pageOf s) refl bad (good (ltb-false 16777215 (length s) t))
+      by false t = into-room (pageOf s) refl bad (good (ltb-false longestPage (length s) t))
 
 -- ---- a refusal changes no octet, and no answer changes the buffer's length or the octets past the sheet
 
@@ -62,14 +64,14 @@ into-kept s d =
 pub into-length : (s d : List ℕ) → length (readInto s d) ≡ length d
 into-length s d =
     by-answer s d (λ a e. length e ≡ length d) (λ a y. refl)
-    (λ l rs n e h. put-length d 0 (sheetOf rs) (let z = sheet-length rs in omega arith))
+    (λ l rs n e h. put-length d 0 (sheetOf rs) (let z = joined-length record-entry rs in omega arith))
 
 pub into-rest : (s d : List ℕ) (n : ℕ) → readOf s (length d) ≡ Done n → drop (n * recordSize) (readInto s d) ≡ drop (n * recordSize) d
 into-rest s d n =
     by-answer s d (λ a e. a ≡ Done n → drop (n * recordSize) e ≡ drop (n * recordSize) d) (λ a y q. refl)
     (λ l rs m e h q.
     let c : length rs ≡ n = cc in
-    let z = sheet-length rs in
+    let z = joined-length record-entry rs in
     let p : n * recordSize ≡ 0 + length (sheetOf rs) = omega arith in
     ap (λ (k : ℕ). drop k (putAt d 0 (sheetOf rs))) p ∙ put-rest d 0 (sheetOf rs) (omega arith) ∙ ap (λ (k : ℕ). drop k d) (sym p))
 
@@ -93,7 +95,7 @@ into-front s d o n =
     by-answer s d (λ a e. a ≡ Done n → Front s n (take (n * recordSize) e)) (λ a y q. absurd (never-done s o a y n q))
     (λ l rs m e h q.
     let c : length rs ≡ n = cc in
-    let z = sheet-length rs in
+    let z = joined-length record-entry rs in
     let p : n * recordSize ≡ length (sheetOf rs) = omega arith in
     let f : take (n * recordSize) (putAt d 0 (sheetOf rs)) ≡ sheetOf rs = ap (λ (k : ℕ). take k (putAt d 0 (sheetOf rs))) p ∙ put-back d 0 (sheetOf rs) (omega arith) in
     let g = page-back s o rs m e .0 in

@@ -9,6 +9,7 @@ pub mod Count
 pub mod Looked
 pub mod Hangs
 pub mod Decided
+pub mod Parts
 pub mod Accepted
 pub mod Named
 pub mod Theorems

@@ -18,7 +18,7 @@ use Rattle.page_rules.specs.Look.{layersLook, pageLook}
 use Rattle.page_rules.proofs.Many.{head}
 use Rattle.page_rules.proofs.Examples.{page, colours, typed}
 
--- a start of page of length 17: decided by the ident behind the length, whose last octet is `ident`
+-- a start of page of length 17: decided by the ident after the length, whose last octet is `ident`
 pub long-start : ℕ → List ℕ
 long-start ident = 0xFF ∷ 0xD8 ∷ 0xFF ∷ 0xED ∷ 0x00 ∷ 0x11 ∷ 0x4D ∷ 0x52 ∷ 0x43 ∷ ident ∷ 0x00 ∷ []
 
@@ -45,7 +45,7 @@ pub frame-body : (pageOf flat-page ≡ no (BadLayer 82)) × (pageLook flat-page 
 unfolding pageOf pageLook flat-page flat-frame colours typed J.opening J.tag200 J.closing startOf headOf colourOf octets16 octets32 startTable segmentTable stripeTable fields reach maskCoder imageCoder typeOk be16At be32At standsAt begins layersOf layersLook walkOf walkLook turnOf turnLook markerOf classOf segOf scanOf tagOf frameOf frameBodyOf scanStepOf segmentOf endOf
 frame-body = (refl, refl, refl)
 
--- an octet that is not zero behind the end
+-- an octet that is not zero after the end
 pub trailing-octet : (pageOf (page ++ (0 ∷ 7 ∷ 7 ∷ [])) ≡ no (Trailing 71)) × (pageLook (page ++ (0 ∷ 7 ∷ 7 ∷ [])) ≡ 72) × (pageOf (page ++ (0 ∷ 0 ∷ 7 ∷ [])) ≡ no (Trailing 72))
 unfolding pageOf pageLook page startOf headOf colourOf octets16 octets32 startTable segmentTable stripeTable endTable fields reach maskCoder imageCoder typeOk be16At be32At standsAt begins layersOf layersLook
 trailing-octet = (refl, refl, refl)

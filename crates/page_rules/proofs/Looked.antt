@@ -1,7 +1,7 @@
--- A step of reading hangs on the octets up to where it looked, and so do steps one after another.
+-- A step of reading depends on the octets up to where it looked, and so do steps one after another.
 --
 --   Near a look             a refusal's place lies before `look`, and not far
---   Looked look read s at   reading s from a place hangs on the octets up to `look`: the place behind what was read, or near a refusal's
+--   Looked look read s at   reading s from a place depends on the octets up to `look`: the place after what was read, or near a refusal's
 --
 -- Assumes nothing.
 use Prim.Native.Nat.{ℕ, _+_, _-_, _≤_, _<_}
@@ -63,7 +63,7 @@ module _ (s : List ℕ) where
         near = λ a z. k .near a (sym q ∙ z);
       }
 
-  -- first a part that hangs on the octets up to d, then the rest
+  -- first a part that depends on the octets up to d, then the rest
   pub looked-then : {A B : Type 0} (part : List ℕ → B) (on : B → List ℕ → Res A) (b : B) (d look at : ℕ) → part s ≡ b → Hangs d part s at → Looked look (on b) s d
       → Looked look (λ (t : List ℕ). on (part t) t) s at
   looked-then part on b d look at e p k =
@@ -89,7 +89,7 @@ module _ (s : List ℕ) where
       (looked-as rest (λ (t : List ℕ). cond (ltb (length t) d) (no short) (rest t)) look d
       (λ t l. ap (λ (b : Bool). cond b (no short) (rest t)) (le-ltb (length t) d (omega arith))) k)
 
-  -- a step and the steps behind it
+  -- a step and the steps after it
   pub looked-bind : {A B : Type 0} (r : List ℕ → Res A) (go : A → ℕ → List ℕ → Res B) (l : ℕ) (look : A → ℕ → ℕ) (at : ℕ) → (Whole (r s) → Looked l r s at)
       → ((x : A) (n : ℕ) → at ≤ n → n ≤ length s → r s ≡ ok x n → Whole (go x n s) → Looked (look x n) (go x n) s n)
       → Whole (bind (r s) (λ x n. go x n s)) → Looked (onward (r s) l look) (λ (t : List ℕ). bind (r t) (λ x n. go x n t)) s at

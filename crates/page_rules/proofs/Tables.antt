@@ -73,7 +73,7 @@ stripeNumbers f =
     f .type ∷ f .back .c0 ∷ f .back .c1 ∷ f .back .c2 ∷ f .fore .c0 ∷ f .fore .c1 ∷ f .fore .c2 ∷ f .backX ∷ f .backY ∷ f .foreX ∷ f .foreY
     ∷ f .height ∷ f .maskLength ∷ []
 
--- the octets behind the ident
+-- the octets after the ident
 unfoldable pub fieldsOf : Fields → List ℕ
 fieldsOf f =
     f .type

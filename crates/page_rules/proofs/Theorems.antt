@@ -11,6 +11,7 @@ use lib.Dec.{ltb}
 use borrow.Author.Tests.{le-ltb, ltb-false}
 use Rattle.octets.specs.Octets.{Octets}
 use Rattle.octets.proofs.Agree.{Agree}
+use Rattle.page_rules.specs.Kinds.{longestPage}
 use Rattle.laws.proofs.Cases.{cond-with, clash}
 use Rattle.answers.specs.declared.Answer.{Answer}
 use Rattle.answers.specs.declared.Answer.the-variants.{Done, Short, NoRoom, TooLong}
@@ -43,10 +44,10 @@ pub record Readable (s : List ℕ) (room n : ℕ) : Type 0 where
   pub records : List Record
   pub page : Page s records
   pub count : n ≡ length records
-  pub short : length s ≤ 16777215
+  pub short : length s ≤ longestPage
   pub holds : length records * recordSize ≤ room
 
-room-done : (s : List ℕ) → Octets s → (room n : ℕ) → length s ≤ 16777215 → (r : Res (List Record)) → pageOf s ≡ r → roomOf room r ≡ Done n → Readable s room n
+room-done : (s : List ℕ) → Octets s → (room n : ℕ) → length s ≤ longestPage → (r : Res (List Record)) → pageOf s ≡ r → roomOf room r ≡ Done n → Readable s room n
 unfolding roomOf numberOf
 room-done s o room n h (ok rs m) e =
     cond-with (λ x. x ≡ Done n → Readable s room n) (ltb room (length rs * recordSize)) (λ t q. clash cc)
@@ -62,9 +63,9 @@ room-done s o room n h (no a) e = λ q.
 pub read-done : (s : List ℕ) → Octets s → (room n : ℕ) → readOf s room ≡ Done n ↔ Readable s room n
 unfolding readOf
 read-done s o room n = (
-  cond-with (λ x. x ≡ Done n → Readable s room n) (ltb 16777215 (length s)) (λ t q. clash cc)
-      (λ t q. room-done s o room n (ltb-false 16777215 (length s) t) (pageOf s) refl q),
-  λ k. simp (le-ltb 16777215 (length s) (k .short), page-there s (k .records) (k .page), le-ltb room (length (k .records) * recordSize) (k .holds)) (ap Done (sym (k .count))),
+  cond-with (λ x. x ≡ Done n → Readable s room n) (ltb longestPage (length s)) (λ t q. clash cc)
+      (λ t q. room-done s o room n (ltb-false longestPage (length s) t) (pageOf s) refl q),
+  λ k. simp (le-ltb longestPage (length s) (k .short), page-there s (k .records) (k .page), le-ltb room (length (k .records) * recordSize) (k .holds)) (ap Done (sym (k .count))),
 )
 
 -- ---- any other answer is one of the refusals that the paper's order for reading names, at a place of the page
@@ -75,7 +76,7 @@ ReadRefusal n a = Refusal n a ⊎ ((a ≡ NoRoom) ⊎ (a ≡ TooLong))
 pub read-refused : (s : List ℕ) → Octets s → (room : ℕ) → ((n : ℕ) → readOf s room ≡ Done n → ⊥) → ReadRefusal (length s) (readOf s room)
 unfolding readOf ReadRefusal
 read-refused s o room =
-    cond-with (λ x. ((n : ℕ) → x ≡ Done n → ⊥) → ReadRefusal (length s) x) (ltb 16777215 (length s)) (λ t d. inr (inr refl)) λ t. go (pageOf s) refl
+    cond-with (λ x. ((n : ℕ) → x ≡ Done n → ⊥) → ReadRefusal (length s) x) (ltb longestPage (length s)) (λ t d. inr (inr refl)) λ t. go (pageOf s) refl
   where
     go : (r : Res (List Record)) → pageOf s ≡ r → ((n : ℕ) → roomOf room r ≡ Done n → ⊥) → ReadRefusal (length s) (roomOf room r)
     go (ok rs n) e =
@@ -84,7 +85,7 @@ read-refused s o room =
     go (no a) e = λ d. inl (page-refused s a o e)
 
 -- ---- a refusal other than Short, TooLong and NoRoom is decided by the octets up to where reading looked: up to the end of the field at fault, of
--- the ident behind a length, of the JPEG body. Every page that agrees so far gets the same refusal
+-- the ident after a length, of the JPEG body. Every page that agrees so far gets the same refusal
 
 pub page-decided : (s : List ℕ) → Octets s → (a : Answer) → pageOf s ≡ no a → ((p : ℕ) → a ≡ Short p → ⊥) → (t : List ℕ) → Agree (pageLook s) s t → pageOf t ≡ no a
 page-decided s o a q u t g = page-looked s o a q u .hangs .same t g ∙ q
@@ -106,16 +107,16 @@ pub record Decisive (a : Answer) : Type 0 where
 read-page : (s : List ℕ) (room : ℕ) (a : Answer) → Decisive a → readOf s room ≡ a → pageOf s ≡ no a
 unfolding readOf roomOf
 read-page s room a d =
-    cond-with (λ x. x ≡ a → pageOf s ≡ no a) (ltb 16777215 (length s)) (λ t q. absurd (d .notTooLong (sym q))) λ t. by (pageOf s)
+    cond-with (λ x. x ≡ a → pageOf s ≡ no a) (ltb longestPage (length s)) (λ t q. absurd (d .notTooLong (sym q))) λ t. by (pageOf s)
   where
     by : (r : Res (List Record)) → roomOf room r ≡ a → r ≡ no a
     by (ok rs n) =
         cond-with (λ x. x ≡ a → ok rs n ≡ no a) (ltb room (length rs * recordSize)) (λ t q. absurd (d .notNoRoom (sym q))) (λ t q. absurd (d .refusal (length rs) (sym q)))
     by (no b) = λ q. ap no q
 
-pub read-decided : (s : List ℕ) → Octets s → (room : ℕ) (a : Answer) → readOf s room ≡ a → Decisive a → (t : List ℕ) → length t ≤ 16777215 → Agree (pageLook s) s t
+pub read-decided : (s : List ℕ) → Octets s → (room : ℕ) (a : Answer) → readOf s room ≡ a → Decisive a → (t : List ℕ) → length t ≤ longestPage → Agree (pageLook s) s t
     → (other : ℕ) → readOf t other ≡ a
 unfolding readOf roomOf
 read-decided s o room a q d t h g other =
     let e = page-decided s o a (read-page s room a d q) (d .notShort) t g in
-    ap (λ (b : Bool). cond b TooLong (roomOf other (pageOf t))) (le-ltb 16777215 (length t) h) ∙ ap (roomOf other) e
+    ap (λ (b : Bool). cond b TooLong (roomOf other (pageOf t))) (le-ltb longestPage (length t) h) ∙ ap (roomOf other) e

@@ -90,7 +90,7 @@ pub data Image (main at : ℕ) : Bool → List ℕ → LayerData → Type 0 wher
   there : {l : List ℕ} {w h r : ℕ} → Layer main l w h r → Image main at true l (There at (length l) w h r)
   absent : Image main at false [] Absent
 
--- the records of a stripe: the mask's data stands behind the head, then the background's, then the foreground's
+-- the records of a stripe: the mask's data stands after the head, then the background's, then the foreground's
 abbrev pub recordsOf : Head → ℕ → Fields → ℕ → LayerData → LayerData → List Record
 recordsOf hd k f at back fore =
     imageRecord hd k 1 (f .back) (f .backX) (f .backY) back

@@ -1,18 +1,30 @@
 -- What a page and a stripe say of themselves: coders, types, and the records of a stripe's three layers (01, "The page, Mode 1").
 --
+--   longestPage      the octets of the longest page that is read or written
+--   stripeSheet      the octets of a stripe's records in the sheet; pageSheet: of those of 64 stripes
 --   typeOk hd t      the type is taken, and names no layer whose coder octet is 0
 --   Fields           the fields of a stripe
 --   imageRecord      the record of an image layer; maskRecord: of layer 2
-use Prim.Native.Nat.{ℕ, _/_, _%_}
+use Prim.Native.Nat.{ℕ, _*_, _/_, _%_}
 use mathlib.Core.Bool.{Bool, _&&_, _||_, not}
 use mathlib.Core.List.{[], _∷_}
 use lib.Dec.{eqb, leb}
 use Rattle.laws.specs.Tests.{among}
 use Rattle.sheet_rules.specs.declared.Colour.{Colour}
 use Rattle.sheet_rules.specs.declared.Record.{Record}
+use Rattle.sheet_rules.specs.Record.{recordSize}
 use Rattle.page_rules.specs.declared.Head.{Head}
 use Rattle.page_rules.specs.declared.LayerData.{LayerData}
 use Rattle.page_rules.specs.declared.LayerData.the-variants.{There, Absent}
+
+abbrev pub longestPage : ℕ
+longestPage = 16777215
+
+abbrev pub stripeSheet : ℕ
+stripeSheet = 3 * recordSize
+
+abbrev pub pageSheet : ℕ
+pageSheet = 64 * stripeSheet
 
 -- mask coder octet 0, 1, 2, 4 or 8; image coder octet 0 or 1
 unfoldable pub maskCoder : ℕ → Bool

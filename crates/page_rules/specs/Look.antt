@@ -1,18 +1,18 @@
 -- How far reading a page looked, to be read beside Reading.antt. A refusal other than Short, TooLong and NoRoom is decided by the octets up to
--- there: the first fault in page order shows at the end of its field; a length that depends on the ident is judged at the end of the ident behind
+-- there: the first fault in page order shows at the end of its field; a length that depends on the ident is judged at the end of the ident after
 -- it; and a fault inside a JPEG body at the end of that body, since a body that passes the page's end is Short, unjudged (01, "Numbers that a
 -- call returns").
 --
---   onward r looked go   a step: where it was refused it looked so far, and where it was read the steps behind it say
+--   onward r looked go   a step: where it was refused it looked so far, and where it was read the steps after it say
 --   layerLook            an image layer where the type names one
 --   layersLook           the coded layers of a stripe
---   stripeLook           a stripe behind its ident
+--   stripeLook           a stripe after its ident
 --   bodyLook             optional segments and stripes
 --   zerosLook            zero octets up to the first that is none
 --   pageLook s           the whole page
 --   beyond a             at most so many octets from a refusal's place on were looked at
 --
--- A page that is read is looked at to its end, and Short hangs on where the page ends: of these it says nothing.
+-- A page that is read is looked at to its end, and Short depends on where the page ends: of these it says nothing.
 use Prim.Native.Nat.{ℕ, zero, suc, _+_, _-_}
 use mathlib.Core.Bool.{Bool, cond}
 use mathlib.Core.List.{List, [], _∷_}
@@ -45,7 +45,7 @@ layersLook hd f s at =
     onward (walked s (hd .main) (hasBack (f .type)) p) (layerLook s (hd .main) (hasBack (f .type)) p) (λ (back : LayerData) (q : ℕ).
     onward (walked s (hd .main) (hasFore (f .type)) q) (layerLook s (hd .main) (hasFore (f .type)) q) (λ (fore : LayerData) (e : ℕ). e)))
 
--- a 65th stripe is faulted at its ident, and a wrong length judged behind the ident: both show at the ident's end
+-- a 65th stripe is faulted at its ident, and a wrong length judged after the ident: both show at the ident's end
 unfoldable pub stripeLook : Head → ℕ → ℕ → ℕ → List ℕ → ℕ → (ℕ → List Record → ℕ → ℕ) → ℕ
 unfolding layersLook
 stripeLook hd k left size s at go =

@@ -1,8 +1,8 @@
 -- Reading a Mode 1 page (01, "The page, Mode 1" and "Numbers that a call returns"): the first fault in page order, or the records of its sheet.
 --
 --   startTable        the start of page segment and the termination, field by field
---   segmentTable      a segment behind them: FF ED, a length of at least 6, and an ident that may stand there
---   stripeTable       the fields of a stripe behind its ident
+--   segmentTable      a segment after them: FF ED, a length of at least 6, and an ident that may stand there
+--   stripeTable       the fields of a stripe after its ident
 --   walked           an image layer where the type names one
 --   layersOf         the coded layers of a stripe, and its records
 --   bodyFrom         optional segments and stripes, up to the first FF D9
@@ -32,7 +32,7 @@ use Rattle.jpeg_rules.specs.Walk.{walkOf}
 use Rattle.page_rules.specs.declared.Head.{Head}
 use Rattle.page_rules.specs.declared.LayerData.{LayerData}
 use Rattle.page_rules.specs.declared.LayerData.the-variants.{There, Absent}
-use Rattle.page_rules.specs.Kinds.{maskCoder, imageCoder, hasBack, hasMask, hasFore, typeOk, Fields, offsetOk}
+use Rattle.page_rules.specs.Kinds.{maskCoder, imageCoder, hasBack, hasMask, hasFore, typeOk, Fields, offsetOk, longestPage}
 use Rattle.page_rules.specs.Grammar.{recordsOf}
 
 -- a rule on a field of one number
@@ -64,7 +64,7 @@ startTable =
 abbrev pub headFrom : List ℕ → Head
 headFrom vs = record { mask = getD vs 3 0; image = getD vs 4 0; main = getD vs 5 0; width = getD vs 6 0 }
 
--- ---- a segment behind the start: before the first stripe 01 or 03 to FE, then only 01
+-- ---- a segment after the start: before the first stripe 01 or 03 to FE, then only 01
 
 abbrev pub identOk : ℕ → ℕ → Bool
 identOk k n = eqb n 0x01 || eqb k 0 && within 0x03 0xFE n
@@ -190,7 +190,7 @@ roomOf room (no a) = a
 
 unfoldable pub readOf : List ℕ → ℕ → Answer
 unfolding pageOf roomOf
-readOf s room = cond (ltb 16777215 (length s)) TooLong (roomOf room (pageOf s))
+readOf s room = cond (ltb longestPage (length s)) TooLong (roomOf room (pageOf s))
 
 -- the sheet's octets in front, and the octets past them as they were; a refusal changes nothing
 unfoldable pub intoOf : List ℕ → Res (List Record) → List ℕ
@@ -199,7 +199,7 @@ intoOf d (no a) = d
 
 unfoldable pub readInto : List ℕ → List ℕ → List ℕ
 unfolding pageOf intoOf
-readInto s d = cond (ltb 16777215 (length s)) d (intoOf d (pageOf s))
+readInto s d = cond (ltb longestPage (length s)) d (intoOf d (pageOf s))
 
 pub record Reads (s d : List ℕ) (a : Answer) (e : List ℕ) : Type 0 where
   pub answers : a ≡ readOf s (length d)

@@ -1,5 +1,15 @@
 // The types and fixed octets of a Mode 1 page. Its grammar and reading stand in specs/, the theorems about them in proofs/.
 
+use sheet_rules::RECORD_SIZE;
+
+// The octets of the longest page that is read or written.
+pub const LONGEST_PAGE: usize = 16777215;
+
+// The octets of a stripe's three records in the sheet, and of those of 64 stripes.
+pub const STRIPE_SHEET: usize = 3 * RECORD_SIZE;
+
+pub const PAGE_SHEET: usize = 64 * STRIPE_SHEET;
+
 // The octets that the reader compares and the writer puts: FF D8, FF ED and FF D9.
 pub const SOI: [u8; 2] = [0xFF, 0xD8];
 

@@ -129,7 +129,7 @@ module _ (s : List ℕ) (pl : PlaneList) (d : List ℕ) (k y : ℕ) (out : List 
           (λ t. let f = ltb-false (length out) (widthOf v * 4) t in let l = length-line v y in put-length out 0 (linePixels v y) (omega arith))
       by (refuses a) = refl
 
--- ---- a line does not hang on what the buffer held, nor on how much more it holds
+-- ---- a line does not depend on what the buffer held, nor on how much more it holds
 
 pub line-anywhere : (s : List ℕ) (pl : PlaneList) (d : List ℕ) (k y : ℕ) (out put : List ℕ) (n : ℕ) → lineOf s pl d k y (length out) ≡ Done n → n ≤ length put
     → (lineOf s pl d k y (length put) ≡ Done n) × (take n (lineInto s pl d k y put) ≡ take n (lineInto s pl d k y out))

@@ -12,8 +12,7 @@ use Rattle.sheet_rules.specs.declared.Record.{Record}
 use Rattle.picture_rules.specs.declared.MainPos.{MainPos}
 use Rattle.picture_rules.specs.declared.SamplePos.{SamplePos}
 use Rattle.picture_rules.specs.Place.{ratio, scale, covers, inside, alongOf, downOf}
-use Rattle.picture_rules.specs.Samples.{indexOf}
-use Rattle.picture_rules.specs.Line.{depth, planeSpan}
+use Rattle.picture_rules.specs.Samples.{indexOf, depth, planeSpan}
 
 -- ---- along one side
 

@@ -19,14 +19,14 @@ use Rattle.sheet_rules.specs.declared.Verdict.{Verdict}
 use Rattle.sheet_rules.specs.declared.Verdict.the-variants.{Good}
 use Rattle.sheet_rules.specs.Record.{records}
 use Rattle.sheet_rules.specs.Judge.{judgeOf}
-use Rattle.sheet_rules.specs.StripeTable.{extentOf, findStripe}
+use Rattle.sheet_rules.specs.StripeTable.{extentOf, findStripe, layerRecord}
 use Rattle.sheet_rules.proofs.Theorems.{sheet-accepted}
 use Rattle.sheet_rules.proofs.Table.{sheet-table, stripe-found, stripe-missing}
 use Rattle.picture_rules.specs.declared.Plane.{Plane}
 use Rattle.picture_rules.specs.declared.ListVerdict.{ListVerdict}
 use Rattle.picture_rules.specs.declared.ListVerdict.the-variants.{Fine}
 use Rattle.picture_rules.specs.Planes.{PlaneList}
-use Rattle.picture_rules.specs.Samples.{Scene, recordOf}
+use Rattle.picture_rules.specs.Samples.{Scene}
 use Rattle.picture_rules.specs.Line.{planeOk, planesJudged, shows, planeRuling, sceneRuling, stripeRuling, sheetRuling, rulingOf, lineAnswer, lineOf, lineHolds, lineInto, Lines}
 
 -- ---- the entries of one stripe, judged
@@ -37,7 +37,7 @@ module _ (s d : List ℕ) (extent : Extent) (part : Bool) where
 
   -- the judge looks at no entry but the one it judges
   ok-same : (ps qs : List Plane) (last : ℕ) (p : Plane) → planeOk (scene ps) last p ≡ planeOk (scene qs) last p
-  unfolding planeOk recordOf
+  unfolding planeOk layerRecord
   ok-same ps qs last p = refl
 
   judged-same : (ps qs : List Plane) (last i : ℕ) (ts : List Plane) → planesJudged (scene ps) part last i ts ≡ planesJudged (scene qs) part last i ts

@@ -7,6 +7,7 @@ use mathlib.Core.Bool.{Bool, true, false, cond, _&&_}
 use mathlib.Core.List.{List}
 use lib.ListN.{length, getD}
 use lib.Dec.{eqb}
+use Rattle.sheet_rules.specs.StripeTable.{layerRecord}
 use Rattle.laws.proofs.Cases.{cond-with, cond-both, clash}
 use Rattle.laws.proofs.Says.{says-and, says-true, says-not, says-eq}
 use Rattle.answers.specs.declared.Answer.the-variants.{Done}
@@ -22,9 +23,9 @@ use Rattle.picture_rules.specs.Place.{inside}
 use Rattle.picture_rules.specs.declared.Start.{Start}
 use Rattle.picture_rules.specs.declared.Start.the-variants.{From, Unread}
 use Rattle.picture_rules.specs.Planes.{PlaneList, planeStart}
-use Rattle.picture_rules.specs.Samples.{Scene, recordOf, mainOf, widthOf, indexOf, bitOf, virtual, maskRead, imageRead, maskAt, imageAt}
-use Rattle.picture_rules.specs.Decide.{sameColour, agree, pairStep, Stack, decide, stackAt, pairsOf, pixelAt}
-use Rattle.picture_rules.specs.Line.{unseen, fourOf, planeSpan, lineOf, lineInto}
+use Rattle.picture_rules.specs.Samples.{Scene, recordOf, mainOf, widthOf, indexOf, bitOf, virtual, maskRead, imageRead, maskAt, imageAt, planeSpan, pairsOf}
+use Rattle.picture_rules.specs.Decide.{sameColour, agree, pairStep, Stack, decide, stackAt, pixelAt}
+use Rattle.picture_rules.specs.Line.{unseen, fourOf, lineOf, lineInto}
 use Rattle.picture_rules.specs.Sentences.{sceneOf, AllFine}
 use Rattle.picture_rules.specs.Demand.{fourAt, at, Reread, AllRead}
 use Rattle.picture_rules.proofs.Division.{mask-within, image-within}
@@ -136,7 +137,7 @@ module _ (s : List ℕ) (k y : ℕ) (pl qm : PlaneList) (d e : List ℕ) (g : St
 
   module _ (x z : MainPos) where
     mask-grows : (l : ℕ) → 1 ≤ l → l ≤ old .extent .layers → l % 2 ≡ 0 → MaskGrows (maskAt old l x z) (maskAt new l x z)
-    unfolding maskAt recordOf virtual
+    unfolding maskAt layerRecord virtual
     mask-grows l a b even =
         let p = stage-placed g l a b .layer in
         cond-both MaskGrows (coded (recordOf old l))
@@ -148,7 +149,7 @@ module _ (s : List ℕ) (k y : ℕ) (pl qm : PlaneList) (d e : List ℕ) (g : St
         (λ t. mask-self (virtual old l))
 
     image-grows : (l : ℕ) → 1 ≤ l → l ≤ old .extent .layers → l % 2 ≡ 1 → ImageGrows (imageAt old l x z) (imageAt new l x z)
-    unfolding imageAt recordOf
+    unfolding imageAt layerRecord
     image-grows l a b odd =
         let p = stage-placed g l a b .layer in
         cond-both ImageGrows (coded (recordOf old l) && inside (mainOf old) (recordOf old l) x z)
@@ -181,7 +182,7 @@ pub more-stays : (s : List ℕ) (pl qm : PlaneList) (d e : List ℕ) (k y : ℕ)
     → lineOf s pl d k y (length out) ≡ Done n → lineOf s qm e k y (length put) ≡ Done m → Reread (sceneOf s pl d k) (sceneOf s qm e k)
     → (x : ℕ) → x < widthOf (sceneOf s pl d k) → getD (fourAt (lineInto s pl d k y out) x) 3 0 ≡ 1
     → fourAt (lineInto s qm e k y put) x ≡ fourAt (lineInto s pl d k y out) x
-unfolding recordOf
+unfolding layerRecord
 more-stays s pl qm d e k y out put n m a b again x h t =
     let old : Scene = sceneOf s pl d k in
     let new : Scene = sceneOf s qm e k in

@@ -25,12 +25,12 @@ use Rattle.picture_rules.specs.declared.Plane.{Plane}
 use Rattle.picture_rules.specs.declared.ListVerdict.{ListVerdict}
 use Rattle.picture_rules.specs.declared.ListVerdict.the-variants.{Fine}
 use Rattle.picture_rules.specs.Planes.{PlaneList}
-use Rattle.picture_rules.specs.Samples.{Scene, recordOf}
-use Rattle.picture_rules.specs.Line.{planeSpan, planeOk, planesJudged, Ruling, shows, refuses, planeRuling, sceneRuling, stripeRuling, sheetRuling, rulingOf}
+use Rattle.picture_rules.specs.Samples.{Scene, recordOf, planeSpan}
+use Rattle.picture_rules.specs.Line.{planeOk, planesJudged, Ruling, shows, refuses, planeRuling, sceneRuling, stripeRuling, sheetRuling, rulingOf}
 use Rattle.picture_rules.specs.Sentences.{HasLine, sceneOf, plane, FineEntry, AllFine, PlaneAt}
 use Rattle.sheet_rules.specs.Sentences.{Accepted}
 
--- ---- one entry, behind an entry of layer `last`
+-- ---- one entry, after an entry of layer `last`
 
 abbrev GoodEntry : Scene → ℕ → Plane → Type 0
 GoodEntry v last p =
@@ -44,7 +44,7 @@ says-plane v last p =
     (says-and (says-and (says-lt last (p .layer)) (says-le (p .layer) (v .extent .layers))) (says-not (says-eq (recordOf v (p .layer) .len) 0)))
     (says-le (p .start + planeSpan (recordOf v (p .layer))) (length (v .samples)))
 
--- the layer before entry i of a list behind an entry of layer `last`
+-- the layer before entry i of a list after an entry of layer `last`
 abbrev before : ℕ → List Plane → ℕ → ℕ
 before last ps zero = last
 before last ps (suc i) = plane ps i .layer

@@ -7,7 +7,6 @@ use mathlib.Core.Path.{_≡_, refl, sym, ap, subst, _∙_}
 use mathlib.Core.Logic.{_⊎_, inl, inr, ⊎-elim}
 use mathlib.Core.Bool.{Bool, true, _||_, not}
 use mathlib.Core.List.{List}
-use lib.ListN.{length}
 use lib.Dec.{eqb, ltb, lit<, lit≤}
 use borrow.Author.Tests.{lt-ltb, ltb-true, eq-eqb}
 use Rattle.laws.proofs.Cases.{cond-with, clash}
@@ -18,12 +17,12 @@ use Rattle.sheet_rules.specs.declared.FoundStripe.{FoundStripe}
 use Rattle.sheet_rules.specs.declared.FoundStripe.the-variants.{Has, NoStripe}
 use Rattle.sheet_rules.specs.declared.Verdict.{Verdict}
 use Rattle.sheet_rules.specs.declared.Verdict.the-variants.{Good}
-use Rattle.sheet_rules.specs.Record.{recordSize, recordAt, records, nth}
+use Rattle.sheet_rules.specs.Record.{recordAt, records, nth}
 use Rattle.sheet_rules.specs.Judge.{judgeOf, divides}
 use Rattle.sheet_rules.specs.Sentences.{Among, Listed, Sheet}
-use Rattle.sheet_rules.specs.StripeTable.{extentOf, findStripe}
+use Rattle.sheet_rules.specs.StripeTable.{extentOf, findStripe, layerRecord}
 use Rattle.sheet_rules.proofs.Among.{nth-among}
-use Rattle.sheet_rules.proofs.Cut.{length-records, nth-records}
+use Rattle.sheet_rules.proofs.Cut.{records-count, record-nth}
 use Rattle.sheet_rules.proofs.Extents.{LayerCount}
 use Rattle.sheet_rules.proofs.Theorems.{sheet-accepted}
 use Rattle.sheet_rules.proofs.Table.{sheet-table, stripe-found, stripe-missing, layer-found}
@@ -168,12 +167,11 @@ module _ {s : List ℕ} {pl : PlaneList} {d : List ℕ} {k y : ℕ} {v : Scene} 
       subst (λ (extent : Extent). LayerCount (extent .layers)) (sym stage-extent) (sheet-table (records s) stage-sheet .layers k (omega arith))
 
   pub stage-record : (l : ℕ) → recordOf v l ≡ recordAt s (extentOf k (records s) .first + (l - 1))
-  unfolding recordOf
+  unfolding layerRecord
   stage-record l = let a = stage-extent in let b = g .sheet in cc
 
   -- layer l of the stripe is a record of the sheet with these numbers
   pub stage-placed : (l : ℕ) → 1 ≤ l → l ≤ v .extent .layers → Placed v k l
-  unfolding records
   stage-placed l a b =
       let i : ℕ = extentOf k (records s) .first + (l - 1) in
       let b′ : l ≤ extentOf k (records s) .layers = subst (λ (extent : Extent). l ≤ extent .layers) stage-extent b in
@@ -181,9 +179,8 @@ module _ {s : List ℕ} {pl : PlaneList} {d : List ℕ} {k y : ℕ} {v : Scene} 
       let e = stage-record l in
       let w = f .3 in
       let c = sheet-accepted s (g .records) (g .stripes) .0 (g .good) .count in
-      let n = length-records s (length s / recordSize) 0 in
-      let z : 0 + i ≡ i = omega arith in
-      let h : nth (records s) i ≡ recordOf v l = nth-records s (length s / recordSize) 0 i (omega arith) ∙ ap (recordAt s) z ∙ sym e in
+      let n = records-count s in
+      let h : nth (records s) i ≡ recordOf v l = record-nth s i (omega arith) ∙ sym e in
       record {
         among = subst (λ (t : List ℕ). Among (recordOf v l) (records t)) (sym (g .sheet)) (subst (λ (r : Record). Among r (records s)) h (nth-among (records s) i (omega arith)));
         stripe = ap (λ (r : Record). r .stripe) e ∙ f .1;
@@ -218,7 +215,6 @@ module _ {s : List ℕ} {pl : PlaneList} {d : List ℕ} {k y : ℕ} {v : Scene} 
       stage-sheet .unbroken .wide (recordOf v 2) (stage-among 2 (omega arith) (omega arith)) (stage-placed 2 (omega arith) (omega arith) .layer)
 
   pub scene-height : v .extent .height ≡ recordOf v 2 .height
-  unfolding records
   scene-height =
       let c = sheet-accepted s (g .records) (g .stripes) .0 (g .good) .stripes in
       let h = stage-stripe in
@@ -228,7 +224,6 @@ module _ {s : List ℕ} {pl : PlaneList} {d : List ℕ} {k y : ℕ} {v : Scene} 
       let i : ℕ = extentOf k (records s) .first + 1 in
       let w = layer-found s (g .records) (g .stripes) (g .good) k 2 (lit≤ tt) two .3 in
       let n = sheet-accepted s (g .records) (g .stripes) .0 (g .good) .count in
-      let z : 0 + i ≡ i = omega arith in
-      let l = length-records s (length s / recordSize) 0 in
-      let r : nth (records s) i ≡ recordOf v 2 = nth-records s (length s / recordSize) 0 i (omega arith) ∙ ap (recordAt s) z ∙ sym (stage-record 2) in
+      let l = records-count s in
+      let r : nth (records s) i ≡ recordOf v 2 = record-nth s i (omega arith) ∙ sym (stage-record 2) in
       ap (λ (extent : Extent). extent .height) stage-extent ∙ sheet-table (records s) stage-sheet .height k (omega arith) ∙ ap (λ (x : Record). x .height) r

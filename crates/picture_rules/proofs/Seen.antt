@@ -16,8 +16,8 @@ use Rattle.picture_rules.specs.declared.Sample.the-variants.{Known, Unkn
 use Rattle.picture_rules.specs.declared.Mask.{Mask}
 use Rattle.picture_rules.specs.declared.Mask.the-variants.{Zero, One, Hidden}
 use Rattle.picture_rules.specs.Place.{alongOf, downOf}
-use Rattle.picture_rules.specs.Samples.{Scene, recordOf, mainOf, maskAt, imageAt}
-use Rattle.picture_rules.specs.Decide.{sameColour, agree, pairStep, Stack, decide, pairsOf, pixelAt}
+use Rattle.picture_rules.specs.Samples.{Scene, recordOf, mainOf, maskAt, imageAt, pairsOf}
+use Rattle.picture_rules.specs.Decide.{sameColour, agree, pairStep, Stack, decide, pixelAt}
 use Rattle.picture_rules.specs.Content.{Content, IsColour, Within, maskWith, imageWith, colourFrom, colourUnder, SeenAs}
 use Rattle.picture_rules.proofs.Rule.{same-true, same-false}
 

@@ -17,8 +17,8 @@ use Rattle.picture_rules.specs.declared.ListVerdict.the-variants.{Fine}
 use Rattle.picture_rules.specs.declared.Start.the-variants.{From}
 use Rattle.picture_rules.specs.Place.{inside, alongOf, downOf}
 use Rattle.picture_rules.specs.Planes.{PlaneList, planeStart}
-use Rattle.picture_rules.specs.Samples.{Scene, recordOf, mainOf, indexOf}
-use Rattle.picture_rules.specs.Line.{planeSpan, planesJudged}
+use Rattle.picture_rules.specs.Samples.{Scene, recordOf, mainOf, indexOf, planeSpan}
+use Rattle.picture_rules.specs.Line.{planesJudged}
 use Rattle.picture_rules.specs.Sentences.{plane, layerBefore, AllFine}
 use Rattle.picture_rules.proofs.Division.{mask-within, image-within}
 use Rattle.picture_rules.proofs.Scenes.{Stage, stage-placed}

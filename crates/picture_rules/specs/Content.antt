@@ -18,8 +18,7 @@ use Rattle.picture_rules.specs.declared.Sample.the-variants.{Known, Unkn
 use Rattle.picture_rules.specs.declared.Mask.{Mask}
 use Rattle.picture_rules.specs.declared.Mask.the-variants.{Zero, One, Hidden}
 use Rattle.picture_rules.specs.Place.{alongOf, downOf}
-use Rattle.picture_rules.specs.Samples.{Scene, recordOf, mainOf, maskAt, imageAt}
-use Rattle.picture_rules.specs.Decide.{pairsOf}
+use Rattle.picture_rules.specs.Samples.{Scene, recordOf, mainOf, maskAt, imageAt, pairsOf}
 
 -- by layer, and by the sample's place along and down; true is 1
 pub record Content : Type 0 where

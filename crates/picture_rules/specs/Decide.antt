@@ -1,4 +1,5 @@
--- The rule of a pair of layers, and a pixel decided from the lowest pair up (01, "Colour of a pixel").
+-- The rule of a pair of layers, and a pixel decided from the lowest pair up (01, "Colour of a pixel"): the steps that find what Content.antt says is
+-- seen.
 --
 --   sameColour    two colours are the same in all three octets
 --   agree         what two samples agree on
@@ -6,9 +7,8 @@
 --   Stack         the samples at a pixel: image k is that of layer 2k + 1, and mask k, from 1 on, that of layer 2k
 --   decide s n    after n pairs
 --   stackAt       the samples of a scene at a place
---   pairsOf v     the pairs of a stripe of N layers, N being odd
 --   pixelAt       the picture of a pixel
-use Prim.Native.Nat.{ℕ, zero, suc, _+_, _*_, _/_}
+use Prim.Native.Nat.{ℕ, zero, suc, _+_, _*_}
 use mathlib.Core.Bool.{Bool, _&&_, cond}
 use lib.Dec.{eqb}
 use Rattle.picture_rules.specs.declared.MainPos.{MainPos}
@@ -17,7 +17,7 @@ use Rattle.picture_rules.specs.declared.Sample.{Sample}
 use Rattle.picture_rules.specs.declared.Sample.the-variants.{Known, Unknown}
 use Rattle.picture_rules.specs.declared.Mask.{Mask}
 use Rattle.picture_rules.specs.declared.Mask.the-variants.{Zero, One, Hidden}
-use Rattle.picture_rules.specs.Samples.{Scene, maskAt, imageAt}
+use Rattle.picture_rules.specs.Samples.{Scene, maskAt, imageAt, pairsOf}
 
 unfoldable pub sameColour : Colour → Colour → Bool
 sameColour c d = eqb (c .c0) (d .c0) && eqb (c .c1) (d .c1) && eqb (c .c2) (d .c2)
@@ -48,9 +48,6 @@ decide s (suc k) = pairStep (s .mask (suc k)) (decide s k) (s .image (suc k))
 
 abbrev pub stackAt : Scene → MainPos → MainPos → Stack
 stackAt v x y = record { mask = λ k. maskAt v (k * 2) x y; image = λ k. imageAt v (k * 2 + 1) x y }
-
-abbrev pub pairsOf : Scene → ℕ
-pairsOf v = v .extent .layers / 2
 
 unfoldable pub pixelAt : Scene → MainPos → MainPos → Sample
 unfolding decide

@@ -17,9 +17,8 @@ use Rattle.picture_rules.specs.declared.MainPos.{MainPos}
 use Rattle.sheet_rules.specs.declared.Colour.{Colour}
 use Rattle.picture_rules.specs.declared.Plane.{Plane}
 use Rattle.picture_rules.specs.Planes.{PlaneList}
-use Rattle.picture_rules.specs.Samples.{Scene, recordOf, widthOf}
+use Rattle.picture_rules.specs.Samples.{Scene, recordOf, widthOf, planeSpan}
 use Rattle.picture_rules.specs.Content.{SeenAs}
-use Rattle.picture_rules.specs.Line.{planeSpan}
 use Rattle.picture_rules.specs.Sentences.{HasLine, sceneOf, AllFine}
 use Rattle.sheet_rules.specs.Sentences.{Accepted}
 

@@ -1,8 +1,8 @@
 pub mod Place
 pub mod Planes
 pub mod Samples
-pub mod Decide
-pub mod Content
-pub mod Line
 pub mod Sentences
+pub mod Content
 pub mod Demand
+pub mod Decide
+pub mod Line

@@ -1,28 +1,26 @@
--- A line of pixels: its octets, and the call (01, "Colour of a pixel"; the order under "Numbers that a call returns").
+-- The steps of a line call (01, "Colour of a pixel"; the order under "Numbers that a call returns"). Read Sentences.antt and Demand.antt first, which say
+-- when each answer is given and what a line shows: `line-exactly` (proofs/Exactly.antt) and `demand-3` (proofs/Demand3.antt) tie these steps to them.
 --
 --   unseen             the colour of an unseen pixel
 --   fourOf u p         the four octets of a decided pixel, u being the unseen colour
 --   pixels f n         the octets of the first n pixels of a line
 --   linePixels v y     the octets of line y of a scene
---   depth l            octets a sample: one in a mask, three in an image layer
---   planeSpan r        octets of all samples of a layer
 --   planeOk            an entry, after the layer listed last: the layer is above it, present, coded, and within the sample buffer
---   planesJudged       BadPlane at the first entry at fault, or at a part entry behind whole ones
+--   planesJudged       BadPlane at the first entry at fault, or at a part entry after whole ones
 --   Ruling             the scene to be composed, or the refusal
 --   rulingOf           BadSheet, BadLine, BadPlane
---   lineOf             what the call answers, where the buffer holds so many octets: behind those NoRoom
+--   lineOf             what the call answers, where the buffer holds so many octets: after those NoRoom
 --   lineInto           what the buffer holds afterwards
 --   Lines              the call's promise: it answers a, and the buffer is then e
-use Prim.Native.Nat.{ℕ, zero, suc, _+_, _*_, _%_}
+use Prim.Native.Nat.{ℕ, zero, suc, _+_, _*_}
 use mathlib.Core.Path.{_≡_}
 use mathlib.Core.Bool.{Bool, _&&_, cond}
 use mathlib.Core.List.{List, [], _∷_, _++_}
 use lib.ListN.{length}
-use lib.Dec.{eqb, leb, ltb}
+use lib.Dec.{leb, ltb}
 use Rattle.octets.specs.Octets.{putAt}
 use Rattle.answers.specs.declared.Answer.{Answer}
 use Rattle.answers.specs.declared.Answer.the-variants.{Done, NoRoom, BadPlane, BadLine}
-use Rattle.sheet_rules.specs.declared.Record.{Record}
 use Rattle.sheet_rules.specs.declared.FoundStripe.{FoundStripe}
 use Rattle.sheet_rules.specs.declared.FoundStripe.the-variants.{Has, NoStripe}
 use Rattle.sheet_rules.specs.declared.Verdict.{Verdict}
@@ -37,7 +35,7 @@ use Rattle.sheet_rules.specs.declared.Colour.{Colour}
 use Rattle.picture_rules.specs.declared.Sample.{Sample}
 use Rattle.picture_rules.specs.declared.Sample.the-variants.{Known, Unknown}
 use Rattle.picture_rules.specs.Planes.{PlaneList}
-use Rattle.picture_rules.specs.Samples.{Scene, recordOf, widthOf}
+use Rattle.picture_rules.specs.Samples.{Scene, recordOf, widthOf, planeSpan}
 use Rattle.picture_rules.specs.Decide.{pixelAt}
 
 -- ---- the octets of a line
@@ -61,12 +59,6 @@ linePixels v y = pixels (λ (x : MainPos). pixelAt v x (record { 0 = y })) (widt
 
 -- ---- the plane list, judged
 
-abbrev pub depth : ℕ → ℕ
-depth l = cond (eqb (l % 2) 0) 1 3
-
-unfoldable pub planeSpan : Record → ℕ
-planeSpan r = r .width * r .height * depth (r .layer)
-
 -- an absent layer is 0 or above N
 unfoldable pub planeOk : Scene → ℕ → Plane → Bool
 unfolding planeSpan
@@ -75,7 +67,7 @@ planeOk v last p =
     && coded (recordOf v (p .layer))
     && leb (p .start + planeSpan (recordOf v (p .layer))) (length (v .samples))
 
--- entry i on, behind an entry of layer `last`
+-- entry i on, after an entry of layer `last`
 unfoldable pub planesJudged : Scene → Bool → ℕ → ℕ → List Plane → ListVerdict
 unfolding planeOk
 planesJudged v part last i [] = cond part (ListVerdict.Refused i) Fine

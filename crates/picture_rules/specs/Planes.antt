@@ -2,16 +2,16 @@
 --
 --   planeSize          the octets of an entry in the form from C
 --   planeAt s i        entry i of a list in that form: the layer, and four octets of start
---   planesFrom s k i   so many entries from entry i on
---   PlaneList          the entries, and whether a part entry stands behind them
+--   PlaneList          the entries, and whether a part entry stands after them
 --   listOf s           the list of these octets; wholeList ps: the list of these entries, which has no part
 --   planeStart            where a layer's samples start, or that it is unread
-use Prim.Native.Nat.{ℕ, zero, suc, _+_, _*_, _/_, _%_}
+use Prim.Native.Nat.{ℕ, _+_, _*_, _%_}
 use mathlib.Core.Bool.{Bool, false, not, cond}
 use mathlib.Core.List.{List, [], _∷_}
 use lib.ListN.{length, getD}
 use lib.Dec.{eqb}
 use Rattle.octets.specs.Octets.{be32At}
+use Rattle.octets.specs.Entries.{wholeEntries}
 use Rattle.picture_rules.specs.declared.Plane.{Plane}
 use Rattle.picture_rules.specs.declared.Start.{Start}
 use Rattle.picture_rules.specs.declared.Start.the-variants.{From, Unread}
@@ -22,16 +22,12 @@ planeSize = 5
 unfoldable pub planeAt : List ℕ → ℕ → Plane
 planeAt s i = record { layer = getD s (i * planeSize) 0; start = be32At s (i * planeSize + 1) }
 
-unfoldable pub planesFrom : List ℕ → ℕ → ℕ → List Plane
-planesFrom s zero i = []
-planesFrom s (suc k) i = planeAt s i ∷ planesFrom s k (i + 1)
-
 pub record PlaneList : Type 0 where
   pub entries : List Plane
   pub part : Bool
 
 abbrev pub listOf : List ℕ → PlaneList
-listOf s = record { entries = planesFrom s (length s / planeSize) 0; part = not (eqb (length s % planeSize) 0) }
+listOf s = record { entries = wholeEntries planeSize planeAt s; part = not (eqb (length s % planeSize) 0) }
 
 abbrev pub wholeList : List Plane → PlaneList
 wholeList ps = record { entries = ps; part = false }

@@ -4,18 +4,22 @@
 --   recordOf v l    the record of layer l
 --   mainOf v        the main resolution, that of layer 2
 --   widthOf v       the page's width, that of layer 2
+--   pairsOf v       the pairs of a stripe of N layers
+--   depth l         octets a sample: one in a mask, three in an image layer
+--   planeSpan r     octets of all samples of a layer
 --   indexOf         a sample's number in its layer, row by row
 --   bitOf           a mask octet's value: 0 is 0, all else 1
 --   virtual v l     what an uncoded mask gives
 --   maskAt          the sample of a mask at a place; imageAt: of an image layer
-use Prim.Native.Nat.{ℕ, _+_, _-_, _*_}
+use Prim.Native.Nat.{ℕ, _+_, _*_, _/_, _%_}
 use mathlib.Core.Bool.{_&&_, cond}
 use mathlib.Core.List.{List}
 use lib.ListN.{getD}
 use lib.Dec.{eqb}
 use Rattle.sheet_rules.specs.declared.Record.{Record}
 use Rattle.sheet_rules.specs.declared.Extent.{Extent}
-use Rattle.sheet_rules.specs.Record.{colourAt, recordAt}
+use Rattle.sheet_rules.specs.Record.{colourAt}
+use Rattle.sheet_rules.specs.StripeTable.{layerRecord, mainRes}
 use Rattle.sheet_rules.specs.Judge.{coded}
 use Rattle.picture_rules.specs.declared.MainPos.{MainPos}
 use Rattle.picture_rules.specs.declared.Plane.{Plane}
@@ -35,15 +39,24 @@ pub record Scene : Type 0 where
   pub planes : List Plane
   pub samples : List ℕ
 
--- layer 1 has the stripe's first record
-unfoldable pub recordOf : Scene → ℕ → Record
-recordOf v l = recordAt (v .sheet) (v .extent .first + (l - 1))
+abbrev pub recordOf : Scene → ℕ → Record
+recordOf v l = layerRecord (v .sheet) (v .extent) l
 
 abbrev pub mainOf : Scene → ℕ
-mainOf v = recordOf v 2 .res
+mainOf v = mainRes (v .sheet) (v .extent)
 
 abbrev pub widthOf : Scene → ℕ
 widthOf v = recordOf v 2 .width
+
+-- N is odd: layer 1 and the pairs above it
+abbrev pub pairsOf : Scene → ℕ
+pairsOf v = v .extent .layers / 2
+
+abbrev pub depth : ℕ → ℕ
+depth l = cond (eqb (l % 2) 0) 1 3
+
+unfoldable pub planeSpan : Record → ℕ
+planeSpan r = r .width * r .height * depth (r .layer)
 
 -- row by row
 unfoldable pub indexOf : ℕ → Record → MainPos → MainPos → ℕ

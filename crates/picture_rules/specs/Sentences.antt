@@ -1,10 +1,11 @@
--- The line call as sentences: when each answer is given (01, "Numbers that a call returns": BadSheet, BadLine, BadPlane, NoRoom), without the steps of Line.antt.
+-- The line call as sentences: when each answer is given (01, "Numbers that a call returns": BadSheet, BadLine, BadPlane, NoRoom). What a line shows is
+-- said in Demand.antt; how both are found, in the steps of Line.antt, comes last.
 --
 --   HasLine s k y       the sheet has a stripe k, and that a line y
 --   sceneOf s pl d k    stripe k of the sheet, the entries of the plane list, and the samples
 --   layerBefore ps i    the layer of the entry before entry i; 0 before the first
 --   FineEntry v ps i    entry i: its layer is above the one before it, present and coded, and its samples lie within the buffer
---   PlaneAt v pl i      the entry at fault: the first that is not fine, or a part entry behind fine ones
+--   PlaneAt v pl i      the entry at fault: the first that is not fine, or a part entry after fine ones
 --   AllFine v pl        no entry is at fault
 --   Gives .. room a     the call answers a, where the buffer holds so many octets
 use Prim.Native.Nat.{ℕ, zero, suc, _+_, _*_, _≤_, _<_}
@@ -20,8 +21,7 @@ use Rattle.sheet_rules.specs.Sentences.{Coded, stripeCount, Accepted, BadSheetA
 use Rattle.sheet_rules.specs.StripeTable.{extentOf}
 use Rattle.picture_rules.specs.declared.Plane.{Plane}
 use Rattle.picture_rules.specs.Planes.{PlaneList}
-use Rattle.picture_rules.specs.Samples.{Scene, recordOf, widthOf}
-use Rattle.picture_rules.specs.Line.{planeSpan}
+use Rattle.picture_rules.specs.Samples.{Scene, recordOf, widthOf, planeSpan}
 
 pub record HasLine (s : List ℕ) (k y : ℕ) : Type 0 where
   pub stripe : k < stripeCount (records s)

@@ -9,16 +9,17 @@ use lib.ListN.{length, take, drop, replicate}
 use lib.Dec.{lit<}
 use lib.Seq.{length-take-le, take-take, take-add, drop-at}
 use Rattle.octets.specs.Octets.{be16At, be32At, octets16, octets32, putAt}
+use Rattle.octets.specs.Entries.{joined}
 use Rattle.answers.specs.declared.Answer.the-variants.{Done}
 use Rattle.sheet_rules.specs.declared.Record.{Record}
 use Rattle.sheet_rules.specs.declared.Verdict.the-variants.{Good}
-use Rattle.sheet_rules.specs.Record.{recordAt, encode, sheetOf, recordsFrom, records}
+use Rattle.sheet_rules.specs.Record.{recordAt, encode, sheetOf, records}
 use Rattle.sheet_rules.specs.Judge.{keeps, after, after1, after2, after3, stepOf, endOf, onStep, walk, judge, judgeOf}
-use Rattle.sheet_rules.specs.StripeTable.{findStripe}
+use Rattle.sheet_rules.specs.StripeTable.{findStripe, layerRecord}
 use Rattle.sheet_rules.proofs.Make.{made}
 use Rattle.sheet_rules.specs.declared.Colour.{Colour}
-use Rattle.picture_rules.specs.Planes.{planeAt, planesFrom, listOf}
-use Rattle.picture_rules.specs.Samples.{recordOf, maskAt, imageAt}
+use Rattle.picture_rules.specs.Planes.{planeAt, listOf}
+use Rattle.picture_rules.specs.Samples.{maskAt, imageAt}
 use Rattle.picture_rules.specs.Place.{scale}
 use Rattle.picture_rules.specs.Line.{lineOf, lineInto}
 use Rattle.picture_rules.proofs.Demand3.{line-length, line-anywhere}
@@ -227,7 +228,7 @@ entry-holds p g q f h = (
 )
 
 pub pixels-hold : Each table
-unfolding octets16 octets32 sheetOf encode judgeOf judge walk onStep stepOf keeps after after1 after2 after3 endOf records recordsFrom recordAt be16At be32At lineOf lineInto putAt findStripe planeAt planesFrom recordOf maskAt imageAt scale
+unfolding octets16 octets32 joined encode judgeOf judge walk onStep stepOf keeps after after1 after2 after3 endOf records recordAt be16At be32At lineOf lineInto putAt findStripe planeAt layerRecord maskAt imageAt scale
 pixels-hold =
     entry-holds pixel-a refl refl refl (lit< tt)
     & entry-holds pixel-b refl refl refl (lit< tt)

@@ -1,4 +1,4 @@
--- What code reads at a stripe's places, behind the verdict on its fields, is what the table's reading gives.
+-- What code reads at a stripe's places, after the verdict on its fields, is what the table's reading gives.
 -- Assumes nothing.
 use Prim.Native.Nat.{ℕ, _+_, _%_, _≤_}
 use native.Mathlib.Nat.{add-assoc}

@@ -7,6 +7,7 @@ use mathlib.Core.List.{List}
 use lib.ListN.{getD}
 use borrow.Author.Needs.{needs}
 use Rattle.octets.specs.Octets.{be32At, putAt}
+use Rattle.page_rules.specs.Kinds.{stripeSheet}
 use Rattle.answers.specs.declared.Answer.{Answer}
 use Rattle.sheet_rules.specs.Record.{sheetOf}
 use Rattle.page_rules.specs.declared.Head.{Head}
@@ -46,7 +47,7 @@ module _ (s : List ℕ) (hd : Head) (k at : ℕ) {t mask : ℕ} (e : t ≡ getD 
   layers-next z h = rw h (simp (is ∙ z))
 
   pub layers-laid : (out : List ℕ) {out′ : List ℕ} {back fore : LayerData} {next : ℕ} → r ≡ Read back fore next
-      → out′ ≡ putAt out (k * 84) (sheetOf (recordsOf hd k (fieldsAt s at) (at + 31) back fore))
+      → out′ ≡ putAt out (k * stripeSheet) (sheetOf (recordsOf hd k (fieldsAt s at) (at + 31) back fore))
       → out′ ≡ laidOf out s hd k at (layersAt hd s at)
   unfolding laidOf
   layers-laid out z h = h ∙ simp (is ∙ z)

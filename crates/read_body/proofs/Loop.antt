@@ -8,9 +8,12 @@ use lib.ListN.{length, length-append}
 use borrow.Author.Needs.{needs}
 use Rattle.octets.specs.Octets.{putAt}
 use Rattle.octets.proofs.Laws.{put-put, put-nothing, put-length}
+use Rattle.octets.specs.Entries.{joined}
+use Rattle.octets.proofs.Entries.{joined-length, joined-append}
+use Rattle.page_rules.specs.Kinds.{stripeSheet}
+use Rattle.sheet_rules.proofs.Cut.{record-entry}
 use Rattle.sheet_rules.specs.declared.Record.{Record}
-use Rattle.sheet_rules.specs.Record.{sheetOf}
-use Rattle.sheet_rules.proofs.Cut.{sheet-append, sheet-length}
+use Rattle.sheet_rules.specs.Record.{sheetOf, encode}
 use Rattle.page_rules.specs.declared.Head.{Head}
 use Rattle.page_rules.specs.Reading.{bodyFrom}
 use Rattle.read_body.specs.declared.Place.{Place}
@@ -33,7 +36,7 @@ pub record Going (hd : Head) (s out₀ : List ℕ) (p : Place) (out : List ℕ) 
 
 module _ (hd : Head) (s out₀ : List ℕ) (o : Opened out₀ s) where
   pub loop-begun : Going hd s out₀ (record { at = 22; stripe = 0; left = 65535 }) out₀
-  unfolding sheetOf
+  unfolding joined
   loop-begun =
       let l = o .long in
       record {
@@ -51,16 +54,16 @@ module _ (hd : Head) (s out₀ : List ℕ) (o : Opened out₀ s) where
     loop-standing = g .standing
 
     -- the records laid take so many octets
-    before : length (sheetOf (g .records)) ≡ p .stripe * 84
-    before = let l = sheet-length (g .records) in let c = g .counted in omega arith
+    before : length (sheetOf (g .records)) ≡ p .stripe * stripeSheet
+    before = let l = joined-length record-entry (g .records) in let c = g .counted in omega arith
 
-    laid-on : (rs : List Record) → putAt out (p .stripe * 84) (sheetOf rs) ≡ putAt out₀ 0 (sheetOf (g .records ++ rs))
+    laid-on : (rs : List Record) → putAt out (p .stripe * stripeSheet) (sheetOf rs) ≡ putAt out₀ 0 (sheetOf (g .records ++ rs))
     laid-on rs =
-        let b : p .stripe * 84 ≡ 0 + length (sheetOf (g .records)) = let c = before in omega arith in
-        ap (λ (l : List ℕ). putAt l (p .stripe * 84) (sheetOf rs)) (g .laid)
+        let b : p .stripe * stripeSheet ≡ 0 + length (sheetOf (g .records)) = let c = before in omega arith in
+        ap (λ (l : List ℕ). putAt l (p .stripe * stripeSheet) (sheetOf rs)) (g .laid)
         ∙ ap (λ (j : ℕ). putAt (putAt out₀ 0 (sheetOf (g .records))) j (sheetOf rs)) b
         ∙ put-put out₀ 0 (sheetOf (g .records)) (sheetOf rs) (omega arith)
-        ∙ ap (putAt out₀ 0) (sym (sheet-append (g .records) rs))
+        ∙ ap (putAt out₀ 0) (sym (joined-append encode (g .records) rs))
 
     module _ (r : Turn) (out′ : List ℕ) (t : Turned hd p s out r out′) where
       stepped : (fuel : ℕ) → length s < fuel + p .at → bodyFrom (length s) hd 0 65535 [] s 22 ≡ bodyAt fuel hd p (g .records) s
@@ -76,7 +79,7 @@ module _ (hd : Head) (s out₀ : List ℕ) (o : Opened out₀ s) where
           let l6 = g .standing .low in
           let l7 = g .standing .room in
           let l8 = w .few in
-          let l9 = sheet-length (x .records) in
+          let l9 = joined-length record-entry (x .records) in
           record {
             fuel = fuel;
             records = g .records ++ x .records;
@@ -84,7 +87,7 @@ module _ (hd : Head) (s out₀ : List ℕ) (o : Opened out₀ s) where
             same = z ∙ x .same fuel (g .records);
             laid = w .laid ∙ laid-on (x .records);
             counted = omega arith;
-            standing = record { inside = w .inside; small = g .standing .small; few = w .few; low = omega arith; room = ap length (w .laid) ∙ put-length out (p .stripe * 84) (sheetOf (x .records)) (omega arith) ∙ l7 };
+            standing = record { inside = w .inside; small = g .standing .small; few = w .few; low = omega arith; room = ap length (w .laid) ∙ put-length out (p .stripe * stripeSheet) (sheetOf (x .records)) (omega arith) ∙ l7 };
           }
 
       pub loop-on : (q : Place) → r ≡ Go q → Going hd s out₀ q out′

@@ -13,12 +13,13 @@ use borrow.Author.Tests.{ltb-false}
 use Rattle.laws.proofs.Cases.{cond-with, bool-else}
 use Rattle.octets.specs.Octets.{standsAt}
 use Rattle.octets.proofs.Laws.{put-nothing}
+use Rattle.octets.specs.Entries.{joined}
+use Rattle.page_rules.specs.Kinds.{stripeSheet}
 use Rattle.answers.specs.declared.Answer.{Answer}
 use Rattle.answers.specs.declared.Answer.the-variants.{BadStripe}
 use Rattle.field_rules.specs.Field.{Res, ok, no, bind, fields}
 use Rattle.field_rules.proofs.Refused.{fields-end}
 use Rattle.sheet_rules.specs.declared.Record.{Record}
-use Rattle.sheet_rules.specs.Record.{sheetOf}
 use Rattle.page_rules.specs.declared.Head.{Head}
 use Rattle.page_rules.specs.Reading.{segmentTable, spanOf, stripeFrom, bodyFrom}
 use Rattle.page_rules.proofs.Layers.{span-back}
@@ -106,13 +107,13 @@ module _ (hd : Head) (p : Place) (s out : List ℕ) (i : Standing out s p) {g : 
   body-wrong a z = record { same = λ fuel acc. body-is fuel acc ∙ ap (onSegment fuel hd (p .stripe) (p .left) acc s (p .at)) z; kept = refl }
 
   pub body-skip : (next : ℕ) → g ≡ Optional next → Passed hd p s out (record { at = next; stripe = p .stripe; left = p .left }) out
-  unfolding sheetOf
+  unfolding joined
   body-skip next z =
       let r = reach (Optional next) z in
       let r0 = r .0 in
       record {
         records = [];
-        onward = record { laid = sym (put-nothing out (p .stripe * 84)); counted = omega arith; few = i .few; low = omega arith; on = omega arith; inside = r .1 };
+        onward = record { laid = sym (put-nothing out (p .stripe * stripeSheet)); counted = omega arith; few = i .few; low = omega arith; on = omega arith; inside = r .1 };
         same = λ fuel acc.
             body-is fuel acc ∙ ap (onSegment fuel hd (p .stripe) (p .left) acc s (p .at)) z
             ∙ ap (λ (l : List Record). bodyFrom fuel hd (p .stripe) (p .left) l s next) (sym (append-nil acc));

@@ -17,7 +17,7 @@ use Rattle.sheet_rules.specs.declared.Record.{Record}
 use Rattle.sheet_rules.specs.Record.{sheetOf}
 use Rattle.page_rules.specs.declared.Head.{Head}
 use Rattle.page_rules.specs.declared.LayerData.{LayerData}
-use Rattle.page_rules.specs.Kinds.{Fields, hasBack, hasFore}
+use Rattle.page_rules.specs.Kinds.{Fields, hasBack, hasFore, stripeSheet}
 use Rattle.page_rules.specs.Grammar.{recordsOf}
 use Rattle.page_rules.specs.Reading.{stripeTable, fieldsFrom, spanOf, walked, layersOf, stripeFrom}
 use Rattle.page_rules.proofs.Layers.{span-back}
@@ -177,7 +177,7 @@ module _ (hd : Head) (k left size : ℕ) (s : List ℕ) (at : ℕ) (out : List �
                   from-fields go ∙ ap (λ (x : Res (List Record)). bind x (λ (rs : List Record) (e : ℕ). go (f .height) rs e)) (layers-done hd k f s (at + 8 + 31) back fore e p)
                   ∙ ap (λ (h : ℕ). go h (recordsOf hd k f (at + 8 + 31) back fore) e) height-is;
               laid =
-                  ap (λ (rs : List Record). putAt out (k * 84) (sheetOf rs))
+                  ap (λ (rs : List Record). putAt out (k * stripeSheet) (sheetOf rs))
                   (sym
                   (records-kept hd left s o (at + 8) (r .seen) vs m z k (at + 8 + 31) (p .q) (p .m) e back fore (r .low)
                   (ap (λ (t : ℕ). walked s (hd .main) (hasBack t) (p .q)) (sym type-is) ∙ p .first)

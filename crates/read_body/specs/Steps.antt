@@ -18,6 +18,7 @@ use mathlib.Core.List.{List, [], _++_}
 use lib.ListN.{length, getD}
 use lib.Dec.{eqb}
 use Rattle.octets.specs.Octets.{be32At, putAt}
+use Rattle.page_rules.specs.Kinds.{longestPage, pageSheet, stripeSheet}
 use Rattle.answers.specs.declared.Answer.{Answer}
 use Rattle.answers.specs.declared.Answer.the-variants.{BadStripe}
 use Rattle.field_rules.specs.Field.{Res, ok, no}
@@ -39,9 +40,9 @@ use Rattle.read_body.specs.declared.Step.{Step}
 use Rattle.read_body.specs.declared.Step.the-variants.{Next}
 
 pub record Laying (out s : List ℕ) (k at : ℕ) : Type 0 where
-  pub holds : k * 84 + 84 ≤ length out
+  pub holds : k * stripeSheet + stripeSheet ≤ length out
   pub whole : at + 31 ≤ length s
-  pub small : length s ≤ 16777215
+  pub small : length s ≤ longestPage
 
 abbrev pub layersAt : Head → List ℕ → ℕ → Layers
 layersAt hd s at = layersIn s (hd .main) (getD s at 0) (be32At s (at + 27)) (at + 31)
@@ -51,22 +52,22 @@ stepOf s at (Read back fore e) = Next e (be32At s (at + 23))
 stepOf s at (Layers.Refused a) = Step.Refused a
 
 unfoldable pub laidOf : List ℕ → List ℕ → Head → ℕ → ℕ → Layers → List ℕ
-laidOf out s hd k at (Read back fore e) = putAt out (k * 84) (sheetOf (recordsOf hd k (fieldsAt s at) (at + 31) back fore))
+laidOf out s hd k at (Read back fore e) = putAt out (k * stripeSheet) (sheetOf (recordsOf hd k (fieldsAt s at) (at + 31) back fore))
 laidOf out s hd k at (Layers.Refused a) = out
 
 pub record Ready (out s : List ℕ) (k left at : ℕ) : Type 0 where
   pub seen : at + 8 ≤ length s
-  pub small : length s ≤ 16777215
+  pub small : length s ≤ longestPage
   pub few : k ≤ 64
   pub low : left ≤ 65535
-  pub room : length out ≡ 5376
+  pub room : length out ≡ pageSheet
 
--- however reading goes on behind a stripe, it goes on with this height, these records and this place
+-- however reading goes on after a stripe, it goes on with this height, these records and this place
 pub record StripeRead (hd : Head) (k left size : ℕ) (s : List ℕ) (at : ℕ) (out : List ℕ) (e height : ℕ) (out′ : List ℕ) : Type 0 where
   pub records : List Record
   pub three : length records ≡ 3
   pub same : (go : ℕ → List Record → ℕ → Res (List Record)) → stripeFrom hd k left size s at go ≡ go height records e
-  pub laid : out′ ≡ putAt out (k * 84) (sheetOf records)
+  pub laid : out′ ≡ putAt out (k * stripeSheet) (sheetOf records)
   pub counted : k < 64
   pub low : height ≤ left
   pub on : at + 8 ≤ e
@@ -85,7 +86,7 @@ endedOf p = cond (eqb (p .stripe) 0) (Body.Refused (BadStripe (p .at))) (Stripes
 
 -- reading goes on from another place with these records more, which are laid
 pub record Onward (s : List ℕ) (p : Place) (out : List ℕ) (q : Place) (out′ : List ℕ) (records : List Record) : Type 0 where
-  pub laid : out′ ≡ putAt out (p .stripe * 84) (sheetOf records)
+  pub laid : out′ ≡ putAt out (p .stripe * stripeSheet) (sheetOf records)
   pub counted : p .stripe * 3 + length records ≡ q .stripe * 3
   pub few : q .stripe ≤ 64
   pub low : q .left ≤ p .left
@@ -106,10 +107,10 @@ StripeTurned hd p size s out (Stop (Stripes count next)) out′ = ⊥
 
 pub record Standing (out s : List ℕ) (p : Place) : Type 0 where
   pub inside : p .at ≤ length s
-  pub small : length s ≤ 16777215
+  pub small : length s ≤ longestPage
   pub few : p .stripe ≤ 64
   pub low : p .left ≤ 65535
-  pub room : length out ≡ 5376
+  pub room : length out ≡ pageSheet
 
 -- the body from a place on, with so many segments to come at most
 abbrev pub bodyAt : ℕ → Head → Place → List Record → List ℕ → Res (List Record)
@@ -137,8 +138,8 @@ Turned hd p s out (Stop (Body.Refused a)) out′ = Refuses hd p s out a out′
 
 pub record Opened (out s : List ℕ) : Type 0 where
   pub long : 22 ≤ length s
-  pub small : length s ≤ 16777215
-  pub room : length out ≡ 5376
+  pub small : length s ≤ longestPage
+  pub room : length out ≡ pageSheet
 
 pub record BodyRead (hd : Head) (s out : List ℕ) (count next : ℕ) (out′ : List ℕ) : Type 0 where
   pub records : List Record

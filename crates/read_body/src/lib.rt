@@ -1,6 +1,7 @@
 // The body of a page, segment by segment: optional segments, stripes and the end. The records of each stripe are laid where all of it is read.
 ghost use mathlib.Core.Path.{_≡_};
 ghost use Prim.Native.Nat.{_≤_};
+ghost use Rattle.page_rules.specs.Kinds.{longestPage};
 ghost use Rattle.read_body.specs.Steps.{Laying, layersAt, stepOf, laidOf, Ready, Striped, endedOf, StripeTurned, Standing, Turned, Opened, Bodied};
 use answers::Answer;
 use page_rules::Head;
@@ -15,7 +16,7 @@ pub struct Place {
     pub left: u32,
 }
 
-// What the body comes to: how many stripes it has, and the place behind its first FF D9; or why it is refused.
+// What the body comes to: how many stripes it has, and the place after its first FF D9; or why it is refused.
 pub enum Body {
     Stripes { count: u16, next: u32 },
     Refused(Answer),
@@ -27,7 +28,7 @@ pub enum Turn {
     Stop(Body),
 }
 
-// What a stripe comes to: the place behind it and its height, or why it is refused.
+// What a stripe comes to: the place after it and its height, or why it is refused.
 pub enum Step {
     Next { next: u32, height: u32 },
     Refused(Answer),
@@ -70,7 +71,7 @@ fn stripe_step(out: &mut [u8], s: &[u8], hd: Head, k: u16, left: u32, at: u32, s
 
 // A page without stripes is faulted at the FF D9.
 fn body_end(p: Place) -> Body
-    requires { ⌜ p .at ≤ 16777215 ⌝ }
+    requires { ⌜ p .at ≤ longestPage ⌝ }
     ensures { λ r. ⌜ r ≡ endedOf p ⌝ }
 {
     if p.stripe == 0 {

@@ -14,7 +14,7 @@ use Rattle.octets.specs.Octets.{be32At}
 use Rattle.answers.specs.declared.Answer.the-variants.{BadType, BadStripe}
 use Rattle.field_rules.specs.Field.{fields, numbers, widths}
 use Rattle.page_rules.specs.declared.Head.{Head}
-use Rattle.page_rules.specs.Kinds.{hasBack, hasMask, hasFore, typeOk, offsetOk}
+use Rattle.page_rules.specs.Kinds.{hasBack, hasMask, hasFore, typeOk, offsetOk, longestPage}
 use Rattle.page_rules.specs.Reading.{maskLengthOk, stripeTable}
 use Rattle.read_field.specs.declared.Judged.{Judged}
 use Rattle.read_field.specs.declared.Judged.the-variants.{Fine}
@@ -22,7 +22,7 @@ use Rattle.read_field.specs.Judged.{fieldOf, judgedOf}
 use Rattle.read_field.proofs.Lines.{line-begin, line-end, line-val}
 
 -- a place of a page, and a little further, is a number of the answer's width
-pub place-fits : (at k : ℕ) → at ≤ 16777215 → k ≤ 64 → Fits w32 (at + k)
+pub place-fits : (at k : ℕ) → at ≤ longestPage → k ≤ 64 → Fits w32 (at + k)
 place-fits at k h l = record { fits = omega arith }
 
 pub types : (hd : Head) (t : ℕ) {b m f : Bool} → b ≡ hasBack t → m ≡ hasMask t → f ≡ hasFore t

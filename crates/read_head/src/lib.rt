@@ -1,9 +1,9 @@
-// The fields of a stripe (9.3) behind its ident: the table `stripeTable` of `page_rules` in code, line by line.
+// The fields of a stripe (9.3) after its ident: the table `stripeTable` of `page_rules` in code, line by line.
 ghost use mathlib.Core.Path.{_≡_};
 ghost use mathlib.Core.List.{[]};
 ghost use Prim.Native.Nat.{_≤_};
 ghost use Rattle.field_rules.specs.Field.{fields};
-ghost use Rattle.page_rules.specs.Kinds.{hasBack, hasMask, hasFore, typeOk, offsetOk};
+ghost use Rattle.page_rules.specs.Kinds.{hasBack, hasMask, hasFore, typeOk, offsetOk, longestPage};
 ghost use Rattle.page_rules.specs.Reading.{maskLengthOk, stripeTable};
 ghost use Rattle.read_field.specs.Judged.{judgedOf};
 use answers::Answer;
@@ -50,7 +50,7 @@ fn mask_length_ok(t: u8, n: u32) -> bool
 
 // An offset is one field of eight octets.
 pub fn judge_stripe(s: &[u8], hd: Head, left: u32, at: u32) -> Judged
-    requires { ⌜ at ≤ 16777215 ⌝ }
+    requires { ⌜ at ≤ longestPage ⌝ }
     ensures { λ r. ⌜ r ≡ judgedOf (fields (stripeTable hd left) [] (now (s .entry)) at) ⌝ }
 {
     let t = read_field::octet(s, at);

@@ -25,7 +25,7 @@ use Rattle.jpeg_rules.proofs.Within.{walk-within, placeOf as placeOfFault}
 use Rattle.jpeg_walk.proofs.Ahead.{Reaches, walk-inside}
 use Rattle.page_rules.specs.declared.LayerData.{LayerData}
 use Rattle.page_rules.specs.declared.LayerData.the-variants.{There, Absent}
-use Rattle.page_rules.specs.Kinds.{hasBack, hasFore}
+use Rattle.page_rules.specs.Kinds.{hasBack, hasFore, longestPage}
 use Rattle.page_rules.specs.Reading.{spanOf, faultOf, onWalk, walked}
 use Rattle.read_layers.specs.declared.Layer.{Layer}
 use Rattle.read_layers.specs.declared.Layer.the-variants.{Known}
@@ -34,7 +34,7 @@ use Rattle.read_layers.specs.declared.Layers.the-variants.{Read}
 use Rattle.read_layers.specs.Layers.{Inside, layerOf, foreOf, layersIn}
 
 -- ---- fault_answer
-pub fault-fits : (f g : Fault) → placeOf (faultOf f) ≤ 16777215 → f ≡ g → Fits w32 (placeOf (faultOf g))
+pub fault-fits : (f g : Fault) → placeOf (faultOf f) ≤ longestPage → f ≡ g → Fits w32 (placeOf (faultOf g))
 fault-fits f g h e = let l = rw e at h in record { fits = omega arith }
 
 pub fault-told : (f g : Fault) → f ≡ g → faultOf g ≡ faultOf f
@@ -64,7 +64,7 @@ place-same (BadRes p) = refl
 place-same (BadLayer p) = refl
 
 module _ (s : List ℕ) (main at : ℕ) (i : Inside s at) {w : Walk} (e : w ≡ walkOf s at main) where
-  pub fault-small : (f : Fault) → w ≡ Walk.Refused f → placeOf (faultOf f) ≤ 16777215
+  pub fault-small : (f : Fault) → w ≡ Walk.Refused f → placeOf (faultOf f) ≤ longestPage
   fault-small f z =
       let h = walk-within s at main (i .within) f (sym e ∙ z) in
       let l = i .small in
@@ -128,7 +128,7 @@ mask-inside s at mask i y z = record { within = leb-true _ _ (sym y ∙ z); smal
 pub mask-fits : (s : List ℕ) (at mask : ℕ) {f : Bool} → Inside s at → f ≡ leb (at + mask) (length s) → f ≡ true → Fits w32 (at + mask)
 mask-fits s at mask i y z = let l = i .small in let w = leb-true (at + mask) (length s) (sym y ∙ z) in record { fits = omega arith }
 
--- the place behind an image layer is one of the page, and not before it
+-- the place after an image layer is one of the page, and not before it
 pub walked-between : (s : List ℕ) (main : ℕ) (b : Bool) (at : ℕ) (c : LayerData) (n : ℕ) → at ≤ length s → walked s main b at ≡ ok c n → (at ≤ n) × (n ≤ length s)
 unfolding walked onWalk
 walked-between s main true at c n h e = by (walkOf s at main) (walk-inside s at main) e

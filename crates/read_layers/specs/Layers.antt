@@ -2,14 +2,14 @@
 --
 --   Inside s at              a place of a page that is not too long
 --   layerOf r                an image layer's reading
---   foreOf s main t back at  the foreground, behind a background
+--   foreOf s main t back at  the foreground, after a background
 --   layersIn s main t mask at  all of them, from the mask's first octet on
 use Prim.Native.Nat.{ℕ, _≤_}
 use mathlib.Core.List.{List}
 use lib.ListN.{length}
 use Rattle.field_rules.specs.Field.{Res, ok, no}
 use Rattle.page_rules.specs.declared.LayerData.{LayerData}
-use Rattle.page_rules.specs.Kinds.{hasBack, hasFore}
+use Rattle.page_rules.specs.Kinds.{hasBack, hasFore, longestPage}
 use Rattle.page_rules.specs.Reading.{spanOf, walked}
 use Rattle.read_layers.specs.declared.Layer.{Layer}
 use Rattle.read_layers.specs.declared.Layer.the-variants.{Known}
@@ -18,7 +18,7 @@ use Rattle.read_layers.specs.declared.Layers.the-variants.{Read}
 
 pub record Inside (s : List ℕ) (at : ℕ) : Type 0 where
   pub within : at ≤ length s
-  pub small : length s ≤ 16777215
+  pub small : length s ≤ longestPage
 
 unfoldable pub layerOf : Res LayerData → Layer
 layerOf (ok c n) = Known c n

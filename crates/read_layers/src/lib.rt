@@ -3,19 +3,20 @@ ghost use mathlib.Core.Path.{_≡_};
 ghost use Prim.Native.Nat.{_+_, _≤_};
 ghost use Rattle.answers.specs.Answers.{placeOf};
 ghost use Rattle.page_rules.specs.Reading.{faultOf, walked};
+ghost use Rattle.page_rules.specs.Kinds.{longestPage};
 ghost use Rattle.read_layers.specs.Layers.{Inside, layerOf, foreOf, layersIn};
 use answers::Answer;
 use jpeg_rules::Fault;
 use jpeg_rules::Walk;
 use page_rules::LayerData;
 
-// An image layer, or none where the type names none, and the place behind it; or why it is refused.
+// An image layer, or none where the type names none, and the place after it; or why it is refused.
 pub enum Layer {
     Known { coded: LayerData, next: u32 },
     Refused(Answer),
 }
 
-// Both image layers of a stripe, and the place behind its last layer; or why one is refused.
+// Both image layers of a stripe, and the place after its last layer; or why one is refused.
 pub enum Layers {
     Read {
         back: LayerData,
@@ -27,7 +28,7 @@ pub enum Layers {
 
 // A place of a page fits the answer.
 fn fault_answer(f: Fault) -> Answer
-    requires { ⌜ placeOf (faultOf f) ≤ 16777215 ⌝ }
+    requires { ⌜ placeOf (faultOf f) ≤ longestPage ⌝ }
     ensures { λ r. ⌜ r ≡ faultOf f ⌝ }
 {
     match f {
@@ -70,7 +71,7 @@ fn layer_at(s: &[u8], main: u16, present: bool, at: u32) -> Layer
     }
 }
 
-// The foreground behind the background.
+// The foreground after the background.
 fn fore_behind(s: &[u8], main: u16, t: u8, back: LayerData, at: u32) -> Layers
     requires { ⌜ Inside (now s) at ⌝ }
     ensures { λ r. ⌜ r ≡ foreOf (now (s .entry)) main t back at ⌝ }

@@ -12,13 +12,15 @@ use borrow.Author.Tests.{lt-ltb, le-ltb}
 use Rattle.laws.proofs.Cases.{clash}
 use Rattle.octets.specs.Octets.{Octets, putAt}
 use Rattle.octets.proofs.Laws.{put-back, put-length}
+use Rattle.octets.proofs.Entries.{joined-length}
+use Rattle.page_rules.specs.Kinds.{longestPage, pageSheet, stripeSheet}
+use Rattle.sheet_rules.proofs.Cut.{record-entry}
 use Rattle.answers.specs.declared.Answer.{Answer}
 use Rattle.answers.specs.declared.Answer.the-variants.{Done, NoRoom, TooLong}
 use Rattle.field_rules.specs.Field.{Res, ok, no, bind, fields}
 use Rattle.field_rules.proofs.Refused.{rowsSize, fields-end}
 use Rattle.sheet_rules.specs.declared.Record.{Record}
-use Rattle.sheet_rules.specs.Record.{sheetOf}
-use Rattle.sheet_rules.proofs.Cut.{sheet-length}
+use Rattle.sheet_rules.specs.Record.{sheetOf, recordSize}
 use Rattle.page_rules.specs.declared.Head.{Head}
 use Rattle.page_rules.specs.Reading.{startTable, zerosOf, endTable, pageOf, roomOf, readOf, intoOf, readInto, Reads}
 use Rattle.read_field.specs.declared.Judged.the-variants.{Fine}
@@ -37,7 +39,7 @@ use Rattle.read_body.proofs.Stripe.{judged-no, judged-ok}
 
 -- ---- judge_rest
 
--- what the end comes to does not hang on the records that stand before it
+-- what the end comes to does not depend on the records that stand before it
 module _ {A : Type 0} (s : List ℕ) (m : ℕ) (rs : A) where
   abbrev ended : Res A
   ended = bind (fields endTable [] s m) (λ (es : List ℕ) (e : ℕ). bind (zerosOf (drop e s) e) (λ (z end : ℕ). ok rs end))
@@ -123,46 +125,46 @@ module _ (s : List ℕ) {j : Judged} (e : j ≡ judgedOf (fields startTable [] s
 pub ruleset opening = (needs, page-refused, page-opened)
 
 -- ---- emit
-module _ (laid : List ℕ) (stripes : ℕ) (d : List ℕ) (size : ℕ) (e : size ≡ stripes * 84) where
+module _ (laid : List ℕ) (stripes : ℕ) (d : List ℕ) (size : ℕ) (e : size ≡ stripes * stripeSheet) where
   pub emit-none : length d < size → Emits laid stripes d NoRoom d
-  emit-none l = record { answers = simp (lt-ltb (length d) (stripes * 84) (omega arith)); holds = simp (lt-ltb (length d) (stripes * 84) (omega arith)) }
+  emit-none l = record { answers = simp (lt-ltb (length d) (stripes * stripeSheet) (omega arith)); holds = simp (lt-ltb (length d) (stripes * stripeSheet) (omega arith)) }
 
   pub emit-all : size ≤ length d → (d′ : List ℕ) → d′ ≡ putAt d 0 (take size (drop 0 laid)) → Emits laid stripes d (Done (stripes * 3)) d′
   emit-all l d′ h =
       record {
-        answers = simp (le-ltb (length d) (stripes * 84) (omega arith));
-        holds = h ∙ rw e (simp (le-ltb (length d) (stripes * 84) (omega arith)));
+        answers = simp (le-ltb (length d) (stripes * stripeSheet) (omega arith));
+        holds = h ∙ rw e (simp (le-ltb (length d) (stripes * stripeSheet) (omega arith)));
       }
 
 pub ruleset emitting = (needs, emit-none, emit-all)
 
 -- ---- read_page
 module _ (s d : List ℕ) where
-  pub read-long : 16777215 < length s → Reads s d TooLong d
+  pub read-long : longestPage < length s → Reads s d TooLong d
   unfolding readOf readInto
-  read-long l = record { answers = simp (lt-ltb 16777215 (length s) l); holds = simp (lt-ltb 16777215 (length s) l) }
+  read-long l = record { answers = simp (lt-ltb longestPage (length s) l); holds = simp (lt-ltb longestPage (length s) l) }
 
-  module _ (l : length s ≤ 16777215) (out out′ : List ℕ) (v : Verdict) (t : Judges (pageOf s) out v out′) where
+  module _ (l : length s ≤ longestPage) (out out′ : List ℕ) (v : Verdict) (t : Judges (pageOf s) out v out′) where
     pub read-bad : (a : Answer) → v ≡ Verdict.Refused a → Reads s d a d
     unfolding readOf readInto roomOf intoOf
-    read-bad a e = let q = rw e at t in record { answers = simp (le-ltb 16777215 (length s) l, q); holds = simp (le-ltb 16777215 (length s) l, q) }
+    read-bad a e = let q = rw e at t in record { answers = simp (le-ltb longestPage (length s) l, q); holds = simp (le-ltb longestPage (length s) l, q) }
 
-    module _ (r : length out ≡ 5376) (stripes : ℕ) (e : v ≡ Sheet stripes) where
+    module _ (r : length out ≡ pageSheet) (stripes : ℕ) (e : v ≡ Sheet stripes) where
       j : PageRead (pageOf s) out stripes out′
       j = rw e at t
 
-      size-is : length (j .records) * 28 ≡ stripes * 84
+      size-is : length (j .records) * recordSize ≡ stripes * stripeSheet
       size-is = let c = j .counted in omega arith
 
-      octets-are : length (sheetOf (j .records)) ≡ stripes * 84
-      octets-are = sheet-length (j .records) ∙ size-is
+      octets-are : length (sheetOf (j .records)) ≡ stripes * stripeSheet
+      octets-are = joined-length record-entry (j .records) ∙ size-is
 
-      laid-is : take (stripes * 84) out′ ≡ sheetOf (j .records)
+      laid-is : take (stripes * stripeSheet) out′ ≡ sheetOf (j .records)
       laid-is =
-          ap (take (stripes * 84)) (j .laid) ∙ ap (λ (k : ℕ). take k (putAt out 0 (sheetOf (j .records)))) (sym octets-are)
+          ap (take (stripes * stripeSheet)) (j .laid) ∙ ap (λ (k : ℕ). take k (putAt out 0 (sheetOf (j .records)))) (sym octets-are)
           ∙ put-back out 0 (sheetOf (j .records)) (omega arith)
 
-      pub read-laid : stripes * 84 ≤ length out′
+      pub read-laid : stripes * stripeSheet ≤ length out′
       read-laid =
           let f = j .few in
           let o = octets-are in
@@ -176,11 +178,11 @@ module _ (s d : List ℕ) where
             answers =
                 m .answers
                 ∙ sym
-                (simp (le-ltb 16777215 (length s) l, j .same) (ap₂ (λ (x y : ℕ). cond (ltb (length d) x) NoRoom (Done y)) size-is (sym (j .counted))));
+                (simp (le-ltb longestPage (length s) l, j .same) (ap₂ (λ (x y : ℕ). cond (ltb (length d) x) NoRoom (Done y)) size-is (sym (j .counted))));
             holds =
                 m .holds
                 ∙ sym
-                (simp (le-ltb 16777215 (length s) l, j .same)
+                (simp (le-ltb longestPage (length s) l, j .same)
                 (ap₂ (λ (x : ℕ) (o : List ℕ). cond (ltb (length d) x) d (putAt d 0 o)) size-is (sym laid-is)));
           }
 

@@ -1,7 +1,7 @@
--- A page behind its start, and the sheet: what each step is promised to come to, in the words of `page_rules`.
+-- A page after its start, and the sheet: what each step is promised to come to, in the words of `page_rules`.
 --
 --   Lent out s               a page that is not too long, and the scratch
---   restOf hd s              the page behind its start
+--   restOf hd s              the page after its start
 --   Judges x out r out′      the verdict is that of a reading x, and its records are laid in front
 --   Emits laid n d a e       so many stripes of what is laid, put in front of a sheet that has room for them
 use Prim.Native.Nat.{ℕ, _*_, _≤_}
@@ -11,6 +11,7 @@ use mathlib.Core.List.{List, []}
 use lib.ListN.{length, take, drop}
 use lib.Dec.{ltb}
 use Rattle.octets.specs.Octets.{putAt}
+use Rattle.page_rules.specs.Kinds.{longestPage, pageSheet, stripeSheet}
 use Rattle.answers.specs.declared.Answer.{Answer}
 use Rattle.answers.specs.declared.Answer.the-variants.{Done, NoRoom}
 use Rattle.field_rules.specs.Field.{Res, ok, no, bind, fields}
@@ -22,8 +23,8 @@ use Rattle.read_page.specs.declared.Verdict.{Verdict}
 use Rattle.read_page.specs.declared.Verdict.the-variants.{Sheet, Refused}
 
 pub record Lent (out s : List ℕ) : Type 0 where
-  pub small : length s ≤ 16777215
-  pub room : length out ≡ 5376
+  pub small : length s ≤ longestPage
+  pub room : length out ≡ pageSheet
 
 unfoldable pub restOf : Head → List ℕ → Res (List Record)
 unfolding bind
@@ -44,5 +45,5 @@ Judges x out (Sheet stripes) out′ = PageRead x out stripes out′
 Judges x out (Refused a) out′ = x ≡ no a
 
 pub record Emits (laid : List ℕ) (stripes : ℕ) (d : List ℕ) (a : Answer) (e : List ℕ) : Type 0 where
-  pub answers : a ≡ cond (ltb (length d) (stripes * 84)) NoRoom (Done (stripes * 3))
-  pub holds : e ≡ cond (ltb (length d) (stripes * 84)) d (putAt d 0 (take (stripes * 84) laid))
+  pub answers : a ≡ cond (ltb (length d) (stripes * stripeSheet)) NoRoom (Done (stripes * 3))
+  pub holds : e ≡ cond (ltb (length d) (stripes * stripeSheet)) d (putAt d 0 (take (stripes * stripeSheet) laid))

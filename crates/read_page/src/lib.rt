@@ -5,8 +5,12 @@ ghost use lib.ListN.{length};
 ghost use Rattle.page_rules.specs.Reading.{pageOf, Reads};
 ghost use Rattle.read_start.specs.Start.{headAt};
 ghost use Rattle.read_body.specs.Steps.{Opened};
+ghost use Rattle.page_rules.specs.Kinds.{stripeSheet};
 ghost use Rattle.read_page.specs.Steps.{restOf, Judges, Lent, Emits};
 use answers::Answer;
+use page_rules::LONGEST_PAGE;
+use page_rules::PAGE_SHEET;
+use page_rules::STRIPE_SHEET;
 use read_body::Body;
 use read_field::Judged;
 
@@ -16,7 +20,7 @@ pub enum Verdict {
     Refused(Answer),
 }
 
-// Behind a start that is fine: the body, the second FF D9 of the end, and zero octets only.
+// After a start that is fine: the body, the second FF D9 of the end, and zero octets only.
 fn judge_rest(out: &mut [u8], s: &[u8]) -> Verdict
     requires { ⌜ Opened (now out) (now s) ⌝ }
     ensures { λ r. ⌜ Judges (restOf (headAt (now (s .entry))) (now (s .entry))) (now (out .entry)) r (now (out .exit)) ⌝ }
@@ -43,10 +47,10 @@ fn judge_page(out: &mut [u8], s: &[u8]) -> Verdict
 
 // The sheet has room for all of it, or stays as it was.
 fn emit(sheet: &mut [u8], laid: &[u8], stripes: u16) -> Answer
-    requires { ⌜ stripes * 84 ≤ length (now laid) ⌝ }
+    requires { ⌜ stripes * stripeSheet ≤ length (now laid) ⌝ }
     ensures { λ r. ⌜ Emits (now (laid .entry)) stripes (now (sheet .entry)) r (now (sheet .exit)) ⌝ }
 {
-    let size = stripes as usize * 84;
+    let size = stripes as usize * STRIPE_SHEET;
     if sheet.len() < size {
         return Answer::NoRoom;
     }
@@ -57,11 +61,10 @@ fn emit(sheet: &mut [u8], laid: &[u8], stripes: u16) -> Answer
 pub fn read_page(page: &[u8], sheet: &mut [u8]) -> Answer
     ensures { λ r. ⌜ Reads (now (page .entry)) (now (sheet .entry)) r (now (sheet .exit)) ⌝ }
 {
-    if 16777215 < page.len() {
+    if LONGEST_PAGE < page.len() {
         return Answer::TooLong;
     }
-    // room for 64 stripes of three records
-    let mut laid = [0u8; 5376];
+    let mut laid = [0u8; PAGE_SHEET];
     match judge_page(&mut laid, page) {
         Verdict::Refused(a) => a,
         Verdict::Sheet { stripes } => emit(sheet, &laid, stripes),

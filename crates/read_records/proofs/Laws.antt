@@ -9,13 +9,14 @@ use lib.ListN.{length, getD, length-append}
 use borrow.Author.Needs.{needs}
 use Rattle.octets.specs.Octets.{be32At, putAt}
 use Rattle.octets.proofs.Laws.{put-put}
+use Rattle.octets.specs.Entries.{joined}
 use Rattle.sheet_rules.specs.declared.Record.{Record}
-use Rattle.sheet_rules.specs.Record.{encode, sheetOf}
+use Rattle.sheet_rules.specs.Record.{encode, sheetOf, recordSize}
 use Rattle.sheet_rules.proofs.Cut.{length-encode}
 use Rattle.page_rules.specs.declared.Head.{Head}
 use Rattle.page_rules.specs.declared.LayerData.{LayerData}
 use Rattle.page_rules.specs.declared.LayerData.the-variants.{There, Absent}
-use Rattle.page_rules.specs.Kinds.{hasMask, imageRecord, maskRecord}
+use Rattle.page_rules.specs.Kinds.{hasMask, imageRecord, maskRecord, stripeSheet}
 use Rattle.page_rules.specs.Grammar.{recordsOf}
 use Rattle.read_records.specs.Places.{Room, fieldsAt}
 use Rattle.sheet_rules.specs.Record.{colourAt}
@@ -76,26 +77,26 @@ pub ruleset mask-laws = (needs, mask-here)
 
 -- ---- put_stripe
 put-three : (d : List ℕ) (i : ℕ) (r1 r2 r3 : Record) → i ≤ length d
-    → putAt (putAt (putAt d i (encode r1)) (i + 28) (encode r2)) (i + 56) (encode r3) ≡ putAt d i (sheetOf (r1 ∷ r2 ∷ r3 ∷ []))
-unfolding sheetOf
+    → putAt (putAt (putAt d i (encode r1)) (i + recordSize) (encode r2)) (i + 2 * recordSize) (encode r3) ≡ putAt d i (sheetOf (r1 ∷ r2 ∷ r3 ∷ []))
+unfolding joined
 put-three d i r1 r2 r3 h =
     let l1 = length-encode r1 in
     let l2 = length-encode r2 in
     let l12 = length-append (encode r1) (encode r2) in
-    let a : i + 28 ≡ i + length (encode r1) = omega arith in
-    let b : i + 56 ≡ i + length (encode r1 ++ encode r2) = omega arith in
-    ap (λ (j : ℕ). putAt (putAt (putAt d i (encode r1)) j (encode r2)) (i + 56) (encode r3)) a
-    ∙ ap (λ (l : List ℕ). putAt l (i + 56) (encode r3)) (put-put d i (encode r1) (encode r2) h)
+    let a : i + recordSize ≡ i + length (encode r1) = omega arith in
+    let b : i + 2 * recordSize ≡ i + length (encode r1 ++ encode r2) = omega arith in
+    ap (λ (j : ℕ). putAt (putAt (putAt d i (encode r1)) j (encode r2)) (i + 2 * recordSize) (encode r3)) a
+    ∙ ap (λ (l : List ℕ). putAt l (i + 2 * recordSize) (encode r3)) (put-put d i (encode r1) (encode r2) h)
     ∙ ap (λ (j : ℕ). putAt (putAt d i (encode r1 ++ encode r2)) j (encode r3)) b
     ∙ put-put d i (encode r1 ++ encode r2) (encode r3) h
     ∙ ap (putAt d i) (append-assoc (encode r1) (encode r2) (encode r3) ∙ ap (λ (l : List ℕ). encode r1 ++ (encode r2 ++ l)) (sym (append-nil (encode r3))))
 
-pub stripe-put : (out s : List ℕ) (hd : Head) (k at i : ℕ) (back fore : LayerData) {r1 r2 r3 : Record} {o1 o2 o3 : List ℕ} → Room out k at → i ≡ k * 84
+pub stripe-put : (out s : List ℕ) (hd : Head) (k at i : ℕ) (back fore : LayerData) {r1 r2 r3 : Record} {o1 o2 o3 : List ℕ} → Room out k at → i ≡ k * stripeSheet
     → r1 ≡ imageRecord hd k 1 (colourAt s (at + 1)) (be32At s (at + 7) % 65536) (be32At s (at + 7 + 4) % 65536) back
     → r2 ≡ maskRecord hd k (be32At s (at + 23) % 65536) (cond (hasMask (getD s at 0)) (hd .mask) 0) (cond (hasMask (getD s at 0)) (at + 31) 0) (be32At s (at + 27))
     → r3 ≡ imageRecord hd k 3 (colourAt s (at + 4)) (be32At s (at + 15) % 65536) (be32At s (at + 15 + 4) % 65536) fore
-    → o1 ≡ putAt out i (encode r1) → o2 ≡ putAt o1 (i + 28) (encode r2) → o3 ≡ putAt o2 (i + 56) (encode r3)
-    → o3 ≡ putAt out (k * 84) (sheetOf (recordsOf hd k (fieldsAt s at) (at + 31) back fore))
+    → o1 ≡ putAt out i (encode r1) → o2 ≡ putAt o1 (i + recordSize) (encode r2) → o3 ≡ putAt o2 (i + 2 * recordSize) (encode r3)
+    → o3 ≡ putAt out (k * stripeSheet) (sheetOf (recordsOf hd k (fieldsAt s at) (at + 31) back fore))
 stripe-put out s hd k at i back fore m e a b c x y z =
     let l = m .holds in
-    rw (z, y, x, e, a, b, c) (put-three out (k * 84) _ _ _ (omega arith))
+    rw (z, y, x, e, a, b, c) (put-three out (k * stripeSheet) _ _ _ (omega arith))

@@ -7,7 +7,7 @@ use Prim.Native.Nat.{ℕ, _+_, _*_, _%_, _≤_}
 use mathlib.Core.List.{List}
 use lib.ListN.{length, getD}
 use Rattle.octets.specs.Octets.{be32At}
-use Rattle.page_rules.specs.Kinds.{Fields}
+use Rattle.page_rules.specs.Kinds.{Fields, longestPage, stripeSheet}
 use Rattle.sheet_rules.specs.Record.{colourAt}
 
 pub record Near (base offset : ℕ) : Type 0 where
@@ -15,8 +15,8 @@ pub record Near (base offset : ℕ) : Type 0 where
   pub far : offset ≤ 16777300
 
 pub record Room (out : List ℕ) (k at : ℕ) : Type 0 where
-  pub holds : k * 84 + 84 ≤ length out
-  pub near : at ≤ 16777215
+  pub holds : k * stripeSheet + stripeSheet ≤ length out
+  pub near : at ≤ longestPage
 
 abbrev pub fieldsAt : List ℕ → ℕ → Fields
 fieldsAt s at =

@@ -9,13 +9,16 @@ ghost use lib.ListN.{getD};
 ghost use Rattle.octets.specs.Octets.{be32At, putAt};
 ghost use Rattle.sheet_rules.specs.Record.{sheetOf};
 ghost use Rattle.page_rules.specs.declared.LayerData.the-variants.{Absent};
-ghost use Rattle.page_rules.specs.Kinds.{hasMask, imageRecord, maskRecord};
+ghost use Rattle.page_rules.specs.Kinds.{hasMask, imageRecord, maskRecord, longestPage, stripeSheet};
 ghost use Rattle.page_rules.specs.Grammar.{recordsOf};
 ghost use Rattle.read_records.specs.Places.{Near, Room, fieldsAt};
 ghost use Rattle.sheet_rules.specs.Record.{colourAt};
 use page_rules::Head;
 use page_rules::LayerData;
+use page_rules::STRIPE_SHEET;
+use sheet_rules::RECORD_SIZE;
 use sheet_rules::Record;
+use sheet_rules::TWO_RECORDS;
 
 fn low16(v: u32) -> u16
     ensures { λ r. ⌜ r ≡ v % 65536 ⌝ }
@@ -129,7 +132,7 @@ fn mask_record(hd: Head, k: u16, t: u8, height: u32, start: u32, len: u32) -> Re
 }
 
 fn mask_at(s: &[u8], hd: Head, k: u16, at: u32) -> Record
-    requires { ⌜ at ≤ 16777215 ⌝ }
+    requires { ⌜ at ≤ longestPage ⌝ }
     ensures { λ r. ⌜ r ≡ maskRecord hd k (be32At (now (s .entry)) (at + 23) % 65536) (cond (hasMask (getD (now (s .entry)) at 0)) (hd .mask) 0) (cond (hasMask (getD (now (s .entry)) at 0)) (at + 31) 0) (be32At (now (s .entry)) (at + 27)) ⌝ }
 {
     let t = read_field::octet(s, at);
@@ -149,13 +152,13 @@ pub fn put_stripe(
     fore: LayerData,
 )
     requires { ⌜ Room (now out) k at ⌝ }
-    ensures { λ _. ⌜ now (out .exit) ≡ putAt (now (out .entry)) (k * 84) (sheetOf (recordsOf hd k (fieldsAt (now (s .entry)) at) (at + 31) back fore)) ⌝ }
+    ensures { λ _. ⌜ now (out .exit) ≡ putAt (now (out .entry)) (k * stripeSheet) (sheetOf (recordsOf hd k (fieldsAt (now (s .entry)) at) (at + 31) back fore)) ⌝ }
 {
-    let i = k as usize * 84;
+    let i = k as usize * STRIPE_SHEET;
     let r1 = image_record(s, hd, k, 1, at + 1, at + 7, back);
     let r2 = mask_at(s, hd, k, at);
     let r3 = image_record(s, hd, k, 3, at + 4, at + 15, fore);
     sheet_record::put_record(out, i, r1);
-    sheet_record::put_record(out, i + 28, r2);
-    sheet_record::put_record(out, i + 56, r3);
+    sheet_record::put_record(out, i + RECORD_SIZE, r2);
+    sheet_record::put_record(out, i + TWO_RECORDS, r3);
 }

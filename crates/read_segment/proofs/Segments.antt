@@ -1,4 +1,4 @@
--- A segment behind the start: for each way out of its reader one law.
+-- A segment after the start: for each way out of its reader one law.
 -- Assumes nothing.
 use Prim.Native.Nat.{ℕ, suc, _+_, _-_, _≤_, _<_}
 use native.Mathlib.Omega.{arith}

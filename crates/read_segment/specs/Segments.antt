@@ -1,4 +1,4 @@
--- A segment behind the start of page, as the caller of its reader sees it.
+-- A segment after the start of page, as the caller of its reader sees it.
 --
 --   optionalAt k s at      an ident that an optional segment has, before stripe k
 --   identOf k s at size    what the ident at a place makes of a segment of such a length
@@ -16,7 +16,7 @@ use Rattle.page_rules.specs.Reading.{is, identOk, mrc, segmentTable, spanOf}
 use Rattle.read_segment.specs.declared.Segment.{Segment}
 use Rattle.read_segment.specs.declared.Segment.the-variants.{End, Stripe, Optional, Refused}
 
--- an ident is due here, behind a length that is long enough
+-- an ident is due here, after a length that is long enough
 pub record Behind (at size : ℕ) : Type 0 where
   pub near : at ≤ 16777219
   pub long : 6 ≤ size

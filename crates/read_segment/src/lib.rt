@@ -1,9 +1,10 @@
-// A segment behind the start of page (`segmentTable` and `endTable` of `page_rules`), and the end. It is met up to two million times in a page, so that it
+// A segment after the start of page (`segmentTable` and `endTable` of `page_rules`), and the end. It is met up to two million times in a page, so that it
 // branches where a table of fields has one way out.
 ghost use mathlib.Core.Path.{_≡_};
 ghost use Prim.Native.Nat.{_+_, _≤_, _<_};
 ghost use lib.ListN.{length};
 ghost use Rattle.page_rules.specs.Reading.{spanOf};
+ghost use Rattle.page_rules.specs.Kinds.{longestPage};
 ghost use Rattle.read_segment.specs.Ends.{zerosFrom, closeOf};
 ghost use Rattle.read_segment.specs.Segments.{Behind, optionalAt, onSpan, identOf, lengthOf, segmentOf};
 use answers::Answer;
@@ -13,8 +14,8 @@ use page_rules::MRC;
 use page_rules::STRIPE;
 use read_field::Judged;
 
-// What stands behind the start of page: the first FF D9 of the end; a stripe, by the length that it tells; an optional segment, with the place
-// behind it; or what is wrong.
+// What stands after the start of page: the first FF D9 of the end; a stripe, by the length that it tells; an optional segment, with the place
+// after it; or what is wrong.
 pub enum Segment {
     End,
     Stripe { size: u16 },
@@ -43,7 +44,7 @@ fn skip(s: &[u8], at: u32, body: u32) -> Segment
     }
 }
 
-// Behind the marker and a length that is long enough: the ident, and what it makes of the segment.
+// After the marker and a length that is long enough: the ident, and what it makes of the segment.
 fn by_ident(s: &[u8], k: u32, at: u32, size: u16) -> Segment
     requires { ⌜ Behind at size ⌝ }
     ensures { λ r. ⌜ r ≡ identOf k (now (s .entry)) at size ⌝ }
@@ -62,7 +63,7 @@ fn by_ident(s: &[u8], k: u32, at: u32, size: u16) -> Segment
     }
 }
 
-// Behind the marker: a length below 6 at once.
+// After the marker: a length below 6 at once.
 fn by_length(s: &[u8], k: u32, at: u32) -> Segment
     requires { ⌜ at ≤ 16777217 ⌝ }
     ensures { λ r. ⌜ r ≡ lengthOf k (now (s .entry)) at ⌝ }
@@ -79,7 +80,7 @@ fn by_length(s: &[u8], k: u32, at: u32) -> Segment
 }
 
 pub fn segment_at(s: &[u8], k: u32, at: u32) -> Segment
-    requires { ⌜ at ≤ 16777215 ⌝ }
+    requires { ⌜ at ≤ longestPage ⌝ }
     ensures { λ r. ⌜ r ≡ segmentOf k (now (s .entry)) at ⌝ }
 {
     if read_field::fits(s, at, 2) {
@@ -99,7 +100,7 @@ pub fn segment_at(s: &[u8], k: u32, at: u32) -> Segment
 // ---- the end of page (9.4): its second FF D9, then zero octets only
 
 fn trailing(s: &[u8], from: usize) -> Judged
-    requires { ⌜ length (now s) ≤ 16777215 ⌝ }
+    requires { ⌜ length (now s) ≤ longestPage ⌝ }
     ensures { λ r. ⌜ r ≡ zerosFrom (now (s .entry)) from ⌝ }
 {
     let mut i = from;
@@ -113,7 +114,7 @@ fn trailing(s: &[u8], from: usize) -> Judged
 }
 
 pub fn judge_end(s: &[u8], at: u32) -> Judged
-    requires { ⌜ length (now s) ≤ 16777215 ⌝ }
+    requires { ⌜ length (now s) ≤ longestPage ⌝ }
     ensures { λ r. ⌜ r ≡ closeOf (now (s .entry)) at ⌝ }
 {
     let mark = octets::stands_at(s, at as usize, &EOI);

@@ -26,7 +26,7 @@ fn image_coder(c: u8) -> bool
     (c == 0) | (c == 1)
 }
 
-// The length is judged twice: below 6 at once, and against 16 behind the ident that it depends on.
+// The length is judged twice: below 6 at once, and against 16 after the ident that it depends on.
 pub fn judge_start(s: &[u8]) -> Judged
     ensures { λ r. ⌜ r ≡ judgedOf (fields startTable [] (now (s .entry)) 0) ⌝ }
 {
@@ -116,7 +116,7 @@ pub fn judge_start(s: &[u8]) -> Judged
     )
 }
 
-// Behind a start that is fine the width is below 65,536, and nothing is cut off.
+// After a start that is fine the width is below 65,536, and nothing is cut off.
 pub fn head_at(s: &[u8]) -> Head
     ensures { λ r. ⌜ r ≡ headAt (now (s .entry)) ⌝ }
 {

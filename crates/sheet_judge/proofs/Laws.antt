@@ -1,7 +1,7 @@
 -- One law for each way out of the judge's functions: its premises are what is known there.
 -- Assumes nothing.
 use mathlib.Core.Path.{_≡_, sym, ap, ap₂, _∙_}
-use Prim.Native.Nat.{ℕ, suc, _+_, _-_, _/_, _≤_, _<_}
+use Prim.Native.Nat.{ℕ, _+_, _-_, _/_, _≤_, _<_}
 use native.Mathlib.Omega.{arith}
 use mathlib.Core.Bool.{Bool, true, false, _&&_}
 use mathlib.Core.List.{List}
@@ -9,6 +9,7 @@ use lib.ListN.{length}
 use lib.Dec.{eqb}
 use borrow.Author.Tests.{eq-eqb, ne-eqb}
 use borrow.Author.Needs.{needs}
+use Rattle.octets.proofs.Entries.{entries-next, entries-none}
 use Rattle.answers.specs.declared.Answer.the-variants.{Done, BadSheet}
 use Rattle.sheet_rules.specs.declared.Record.{Record}
 use Rattle.sheet_rules.specs.declared.State.{State}
@@ -20,7 +21,7 @@ use Rattle.sheet_rules.specs.Record.{recordSize, recordAt, recordsFrom, rest}
 use Rattle.sheet_rules.specs.Judge.{closes, keeps, begin, after, after1, after2, after3, stepOf, endOf, onStep, walk, judge, judgeOf, answerOf, sheetAnswer}
 use Rattle.sheet_rules.proofs.Theorems.{refused-few}
 
--- ---- the state behind a record
+-- ---- the state after a record
 
 module _ (st t : State) (r : Record) where
   pub after-one : r .layer ≡ 1 → t ≡ after1 st r → t ≡ after st r
@@ -70,12 +71,11 @@ module _ (s : List ℕ) where
   module _ (n i : ℕ) (st : State) (r : Record) (x : Step) (j : judgeOf s ≡ walk st i (recordsFrom s (n - i) i) (rest s)) (h : i < n)
       (e : r ≡ recordAt s i) (k : x ≡ stepOf st r) where
     walk-opened : judgeOf s ≡ onStep x (Refused i) (λ (t : State). walk t (i + 1) (recordsFrom s (n - (i + 1)) (i + 1)) (rest s))
-    unfolding walk recordsFrom onStep
+    unfolding walk onStep
     walk-opened =
-        let z : n - i ≡ suc (n - (i + 1)) = omega arith in
         let q : stepOf st (recordAt s i) ≡ x = ap (stepOf st) (sym e) ∙ sym k in
         j
-        ∙ ap (λ (m : ℕ). walk st i (recordsFrom s m i) (rest s)) z
+        ∙ ap (λ (rs : List Record). walk st i rs (rest s)) (entries-next (recordAt s) n i h)
         ∙ ap (λ (y : Step). onStep y (Refused i) (λ (t : State). walk t (i + 1) (recordsFrom s (n - (i + 1)) (i + 1)) (rest s))) q
 
     pub walk-on : (t : State) → x ≡ Next t → judgeOf s ≡ walk t (i + 1) (recordsFrom s (n - (i + 1)) (i + 1)) (rest s)
@@ -87,11 +87,10 @@ module _ (s : List ℕ) where
     walk-off q = sym (walk-opened ∙ ap (λ (y : Step). onStep y (Refused i) (λ (t : State). walk t (i + 1) (recordsFrom s (n - (i + 1)) (i + 1)) (rest s))) q)
 
   pub walk-end : (n i : ℕ) (st : State) (v : Verdict) → judgeOf s ≡ walk st i (recordsFrom s (n - i) i) (rest s) → i ≤ n → n ≤ i → v ≡ endOf st n (rest s) → v ≡ judgeOf s
-  unfolding walk recordsFrom
+  unfolding walk
   walk-end n i st v j h g e =
-      let z : n - i ≡ 0 = omega arith in
       let y : i ≡ n = omega arith in
-      e ∙ sym (j ∙ ap (λ (m : ℕ). walk st i (recordsFrom s m i) (rest s)) z ∙ ap (λ (k : ℕ). endOf st k (rest s)) y)
+      e ∙ sym (j ∙ ap (λ (rs : List Record). walk st i rs (rest s)) (entries-none (recordAt s) n i g) ∙ ap (λ (k : ℕ). endOf st k (rest s)) y)
 
 -- ---- the answer
 

@@ -92,7 +92,7 @@ pub fn step_one(st: State, r: Record) -> Step
     }
 }
 
-// The end, after n records with `part` octets of a part record behind them.
+// The end, after n records with `part` octets of a part record left.
 pub fn finish(st: State, n: usize, part: usize) -> Verdict
     ensures { λ v. ⌜ v ≡ endOf st n part ⌝ }
 {

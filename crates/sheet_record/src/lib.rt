@@ -9,7 +9,7 @@ use sheet_rules::Record;
 
 // The record of the 28 octets from `at`.
 pub fn record_from(s: &[u8], at: usize) -> Record
-    requires { ⌜ at + 28 ≤ length (now s) ⌝ }
+    requires { ⌜ at + recordSize ≤ length (now s) ⌝ }
     ensures { λ r. ⌜ r ≡ recordFrom (now (s .entry)) at ⌝ }
 {
     Record {
@@ -53,7 +53,7 @@ pub fn top32(v: u32) -> u8
 }
 
 // The 28 octets of a record.
-pub fn encoded(r: Record) -> [u8; 28]
+pub fn encoded(r: Record) -> [u8; RECORD_SIZE]
     ensures { λ b. ⌜ b ≡ encode r ⌝ }
 {
     [
@@ -90,7 +90,7 @@ pub fn encoded(r: Record) -> [u8; 28]
 
 // Puts a record from `at` on.
 pub fn put_record(d: &mut [u8], at: usize, r: Record)
-    requires { ⌜ at + 28 ≤ length (now d) ⌝ }
+    requires { ⌜ at + recordSize ≤ length (now d) ⌝ }
     ensures { λ _. ⌜ now (d .exit) ≡ putAt (now (d .entry)) at (encode r) ⌝ }
 {
     let b = encoded(r);

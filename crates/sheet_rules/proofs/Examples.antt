@@ -7,7 +7,7 @@ use mathlib.Core.List.{List, [], _∷_}
 use Rattle.sheet_rules.specs.declared.Record.{Record}
 use Rattle.sheet_rules.proofs.Make.{made}
 use Rattle.sheet_rules.specs.declared.Verdict.the-variants.{Good, Refused}
-use Rattle.sheet_rules.specs.Record.{recordAt, recordsFrom, records}
+use Rattle.sheet_rules.specs.Record.{recordAt, records}
 use Rattle.sheet_rules.specs.Judge.{keeps, after, after1, after2, after3, stepOf, endOf, onStep, walk, judge, judgeOf}
 use Rattle.octets.specs.Octets.{be16At, be32At}
 
@@ -22,7 +22,7 @@ example =
     ∷ 0x00 ∷ 0x80 ∷ 0x60 ∷ 0x00 ∷ 0x00 ∷ 0x00 ∷ 0x00 ∷ 0x00 ∷ 0x00 ∷ 0x00 ∷ 0x00 ∷ 0x00 ∷ 0x00 ∷ 0x00 ∷ []
 
 pub example-accepted : judgeOf example ≡ Good 3 1
-unfolding judgeOf judge walk onStep stepOf keeps after after1 after2 after3 endOf records recordsFrom recordAt be16At be32At example
+unfolding judgeOf judge walk onStep stepOf keeps after after1 after2 after3 endOf records recordAt be16At be32At example
 example-accepted = refl
 
 -- a record of these sheets: stripe, layer, coder, offsets, size, resolution, coded data

@@ -104,7 +104,7 @@ walk-next st t i (p ∷ ps) qs part e =
     (λ k h. stop-next h)
     e
 
--- where the fold stops, what stands behind does not matter
+-- where the fold stops, what comes after does not matter
 pub walk-stop : (st : State) (i : ℕ) (ps qs : List Record) (part part′ : ℕ) → run st ps ≡ Stop → walk st i (ps ++ qs) part ≡ walk st i ps part′
 unfolding run walk onStep
 walk-stop st i [] qs part part′ e = stop-next (sym e)

@@ -14,7 +14,7 @@ use Rattle.sheet_rules.specs.declared.State.{State}
 use Rattle.sheet_rules.specs.declared.Verdict.the-variants.{Good}
 use Rattle.sheet_rules.specs.declared.FoundStripe.the-variants.{Has, NoStripe}
 use Rattle.sheet_rules.specs.declared.FoundLayer.the-variants.{At}
-use Rattle.sheet_rules.specs.Record.{recordSize, recordAt, recordsFrom, records, nth, heightIn}
+use Rattle.sheet_rules.specs.Record.{recordSize, recordAt, recordsFrom, records, nth, heightIn, mostRecords}
 use Rattle.laws.specs.Tests.{only}
 use Rattle.sheet_rules.specs.Judge.{judgeOf}
 use Rattle.sheet_rules.specs.Sentences.{Closing, Sheet, stripeCount}
@@ -24,7 +24,7 @@ use Rattle.sheet_rules.proofs.Agrees.{Agrees}
 use Rattle.sheet_rules.proofs.Fold.{begun-holds, unbroken-begun}
 use Rattle.sheet_rules.proofs.Extents.{LayerCount, Extents, extents-begin, extents-more, first-next, top-next, first-none, top-none, first-mono}
 use Rattle.sheet_rules.proofs.Among.{nth-among, sum-more}
-use Rattle.sheet_rules.proofs.Cut.{length-records, nth-records}
+use Rattle.sheet_rules.proofs.Cut.{records-count, record-nth}
 use Rattle.sheet_rules.proofs.Theorems.{sheet-accepted, sheet-few}
 
 -- rows are counted record by record
@@ -147,7 +147,7 @@ few-all : (s : List ℕ) (n m : ℕ) → judgeOf s ≡ Good n m → few s ≡ re
 unfolding few records
 few-all s n m e =
     let f = sheet-few s n m e in
-    let z : min (length s / recordSize) 960 ≡ length s / recordSize = omega arith in
+    let z : min (length s / recordSize) mostRecords ≡ length s / recordSize = omega arith in
     ap (λ (k : ℕ). recordsFrom s k 0) z
 
 module _ (s : List ℕ) (n m : ℕ) (e : judgeOf s ≡ Good n m) where
@@ -177,14 +177,12 @@ module _ (s : List ℕ) (n m : ℕ) (e : judgeOf s ≡ Good n m) where
       × (recordAt s (extentOf k (records s) .first + (l - 1)) .stripe ≡ k)
       × (recordAt s (extentOf k (records s) .first + (l - 1)) .layer ≡ l)
       × (extentOf k (records s) .first + (l - 1) < n)
-  unfolding findLayer records
+  unfolding findLayer
   layer-found k l a b =
       let f = tabled .found k l a b in
       let i : ℕ = extentOf k (records s) .first + (l - 1) in
       let c = within-count-of k l a b in
-      let w = nth-records s (length s / recordSize) 0 i (omega (arith, c, length-records s (length s / recordSize) 0)) in
-      let z : 0 + i ≡ i = omega arith in
-      let q = w ∙ ap (recordAt s) z in
+      let q = record-nth s i (omega (arith, c, records-count s)) in
       let cnt = sheet-accepted s n m .0 e .count in
       (simp (le-leb 1 l a, le-leb l (extentOf k (records s) .layers) b), ap (λ (r : Record). r .stripe) (sym q) ∙ f .0, ap (λ (r : Record). r .layer) (sym q) ∙ f .1, omega arith)
     where

@@ -7,6 +7,7 @@ use mathlib.Core.Logic.{_↔_, inl, inr}
 use mathlib.Core.List.{List, _++_}
 use lib.ListN.{length, take}
 use lib.Seq.{length-take-le}
+use Rattle.octets.proofs.Entries.{length-entries, entries-split, entries-take}
 use Rattle.answers.specs.declared.Answer.{Answer}
 use Rattle.answers.specs.declared.Answer.the-variants.{Done, BadSheet}
 use Rattle.sheet_rules.specs.declared.Record.{Record}
@@ -14,14 +15,14 @@ use Rattle.sheet_rules.specs.declared.Step.{Step}
 use Rattle.sheet_rules.specs.declared.Step.the-variants.{Next, Stop}
 use Rattle.sheet_rules.specs.declared.Verdict.{Verdict}
 use Rattle.sheet_rules.specs.declared.Verdict.the-variants.{Good, Refused}
-use Rattle.sheet_rules.specs.Record.{recordSize, recordsFrom, records, rest, nth}
+use Rattle.sheet_rules.specs.Record.{recordSize, recordAt, recordsFrom, records, rest, nth, decisiveSize, mostRecords}
 use Rattle.sheet_rules.specs.Judge.{begin, run, walk, judge, judgeOf, answerOf, sheetAnswer}
 use Rattle.sheet_rules.specs.Sentences.{Unbroken, stripeCount, FaultAt, GoodSheet, BadSheetAt, Judges, good, no-sheet}
 use Rattle.sheet_rules.specs.StripeTable.{few}
 use Rattle.sheet_rules.proofs.Fold.{begun-unbroken, unbroken-begun, walk-stop}
 use Rattle.sheet_rules.proofs.Judged.{judge-answers, fault-once, fault-no-sheet}
 use Rattle.sheet_rules.proofs.Among.{nth-among}
-use Rattle.sheet_rules.proofs.Cut.{length-records, records-split, records-take}
+use Rattle.sheet_rules.proofs.Cut.{record-entry, records-count}
 
 good-bad : {A : Type 0} {n m i : ℕ} → Good n m ≡ Refused i → A
 good-bad e = absurd (let z : _≡_ {A = ℕ} 0 1 = cc in omega arith)
@@ -71,7 +72,7 @@ sheet-exactly s a = (λ e. subst (Judges s) e (by (judgeOf s) refl), back a)
 
 -- ---- at most 64 stripes and 960 records, and nothing but whole records
 
-pub unbroken-few : (rs : List Record) → Unbroken rs → length rs ≤ 960
+pub unbroken-few : (rs : List Record) → Unbroken rs → length rs ≤ mostRecords
 unbroken-few rs u =
     let b = unbroken-begun rs u in
     let g = begun-unbroken rs (b .0) (b .1) .1 in
@@ -80,13 +81,12 @@ unbroken-few rs u =
     omega arith
 
 pub sheet-few : (s : List ℕ) (n m : ℕ) → judgeOf s ≡ Good n m
-    → (n ≤ 960) × (1 ≤ m) × (m ≤ 64) × (length s ≡ n * recordSize)
-unfolding records
+    → (n ≤ mostRecords) × (1 ≤ m) × (m ≤ 64) × (length s ≡ n * recordSize)
 sheet-few s n m e =
     let g = sheet-accepted s n m .0 e in
     let u = g .sheet .unbroken in
     let f = unbroken-few (records s) u in
-    let l = length-records s (length s / recordSize) 0 in
+    let l = records-count s in
     let c = g .sheet .complete .count in
     let k = u .few (nth (records s) (length (records s) - 1)) (nth-among (records s) (length (records s) - 1) (omega arith)) in
     let w = g .whole in
@@ -94,27 +94,26 @@ sheet-few s n m e =
     let st = g .stripes in
     (omega arith, omega arith, omega arith, omega arith)
 
--- a record at fault is one of the first 960, or the one due behind them
-pub refused-few : (s : List ℕ) (i : ℕ) → judgeOf s ≡ Refused i → (i ≤ 960) × (i ≤ length s / recordSize)
-unfolding records
+-- a record at fault is one of the first 960, or the one due after them
+pub refused-few : (s : List ℕ) (i : ℕ) → judgeOf s ≡ Refused i → (i ≤ mostRecords) × (i ≤ length s / recordSize)
 refused-few s i e = go (sheet-refused s i .0 e)
   where
-    go : FaultAt (records s) (rest s) i → (i ≤ 960) × (i ≤ length s / recordSize)
+    go : FaultAt (records s) (rest s) i → (i ≤ mostRecords) × (i ≤ length s / recordSize)
     go (inl b) =
         let f = unbroken-few (take i (records s)) (b .before) in
         let w = b .within in
         let t = length-take-le i (records s) (omega arith) in
-        let l = length-records s (length s / recordSize) 0 in
+        let l = records-count s in
         (omega arith, omega arith)
     go (inr b) =
         let f = unbroken-few (records s) (b .before) in
-        let l = length-records s (length s / recordSize) 0 in
+        let l = records-count s in
         let d = b .due in
         (omega arith, omega arith)
 
 -- ---- the judge of the first 26,908 octets is the judge of all where there are more
 
-judge-front : (ps qs : List Record) (part part′ : ℕ) → 960 < length ps → judge (ps ++ qs) part ≡ judge ps part′
+judge-front : (ps qs : List Record) (part part′ : ℕ) → mostRecords < length ps → judge (ps ++ qs) part ≡ judge ps part′
 unfolding judge
 judge-front ps qs part part′ h = go (run begin ps) refl
   where
@@ -122,16 +121,16 @@ judge-front ps qs part part′ h = go (run begin ps) refl
     go (Next t) e = let f = unbroken-few ps (begun-unbroken ps t e .0) in absurd (omega arith)
     go Stop e = walk-stop begin 0 ps qs part part′ e
 
-pub sheet-cut : (s : List ℕ) → 26908 ≤ length s → judgeOf (take 26908 s) ≡ judgeOf s
+pub sheet-cut : (s : List ℕ) → decisiveSize ≤ length s → judgeOf (take decisiveSize s) ≡ judgeOf s
 unfolding judgeOf records
 sheet-cut s h =
-    let l = length-take-le 26908 s h in
-    let a : length (take 26908 s) / recordSize ≡ 961 = omega arith in
-    let m : ℕ = length s / recordSize - 961 in
-    let b : length s / recordSize ≡ 961 + m = omega arith in
-    let c = length-records s 961 0 in
-    ap (λ (k : ℕ). judge (recordsFrom (take 26908 s) k 0) (rest (take 26908 s))) a
-    ∙ ap (λ (x : List Record). judge x (rest (take 26908 s))) (records-take 26908 s 961 (omega arith))
-    ∙ sym (judge-front (recordsFrom s 961 0) (recordsFrom s m (0 + 961)) (rest s) (rest (take 26908 s)) (omega arith))
-    ∙ ap (λ (x : List Record). judge x (rest s)) (sym (records-split s 961 m 0))
+    let l = length-take-le decisiveSize s h in
+    let a : length (take decisiveSize s) / recordSize ≡ mostRecords + 1 = omega arith in
+    let m : ℕ = length s / recordSize - (mostRecords + 1) in
+    let b : length s / recordSize ≡ mostRecords + 1 + m = omega arith in
+    let c = length-entries (recordAt s) (mostRecords + 1) 0 in
+    ap (λ (k : ℕ). judge (recordsFrom (take decisiveSize s) k 0) (rest (take decisiveSize s))) a
+    ∙ ap (λ (x : List Record). judge x (rest (take decisiveSize s))) (entries-take record-entry decisiveSize s (mostRecords + 1) (omega arith))
+    ∙ sym (judge-front (recordsFrom s (mostRecords + 1) 0) (recordsFrom s m (0 + (mostRecords + 1))) (rest s) (rest (take decisiveSize s)) (omega arith))
+    ∙ ap (λ (x : List Record). judge x (rest s)) (sym (entries-split (recordAt s) (mostRecords + 1) m 0))
     ∙ ap (λ (k : ℕ). judge (recordsFrom s k 0) (rest s)) (sym b)

@@ -3,7 +3,7 @@
 --
 --   begin     the state before the first record
 --   keeps     the record, with those before it, breaks no rule
---   after     the state behind a record
+--   after     the state after a record
 --   stepOf    one record: the next state, or stop
 --   endOf     the end: good with its counts, or a fault where the next record was due
 --   run       the fold over records; walk: the same, counted and ended
@@ -109,7 +109,7 @@ abbrev pub begin : State
 begin =
     record { stripe = 0; layer = 0; coded1 = false; coded2 = false; res1 = 0; main = 0; width = 0; left = 65535 }
 
--- the state behind a record of layer 1, of layer 2 and of a higher layer
+-- the state after a record of layer 1, of layer 2 and of a higher layer
 unfoldable pub after1 : State → Record → State
 after1 st r =
     record {
@@ -155,7 +155,7 @@ after st r = cond (eqb (r .layer) 1) (after1 st r) (cond (eqb (r .layer) 2) (aft
 unfoldable pub stepOf : State → Record → Step
 stepOf st r = cond (keeps st r) (Next (after st r)) Stop
 
--- after n records, with so many octets of a part record behind them
+-- after n records, with so many octets of a part record left
 unfoldable pub endOf : State → ℕ → ℕ → Verdict
 endOf st n part = cond (closes (st .layer) && eqb part 0) (Good n (st .stripe + 1)) (Refused n)
 

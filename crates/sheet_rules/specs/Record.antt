@@ -1,28 +1,38 @@
 -- The sheet's records: their octets, their values, and a sheet cut into records (01, "The sheet").
 --
 --   recordSize    the octets of a record
+--   mostRecords   how many records a good sheet has at most
+--   decisiveSize  so many octets of a sheet decide its verdict: those of one record more
 --   colourAt      the colour of the three octets from a place on
 --   recordFrom    the record of the 28 octets from a place on
 --   recordAt      the record of a number in a sheet
 --   encode        the 28 octets of a record
---   sheetOf       the octets of records, one behind the other
+--   sheetOf       the octets of records, one after the other
 --   recordsFrom   so many records of a sheet from a number on
 --   records       all whole records of a sheet, in order
---   rest          the octets behind them: a part record
+--   rest          how many octets are left after them: a part record
 --   blank         the record of 28 zeros, and nth: the record of a number in a list, blank past its end
 --   sumOf         a number of each record, added up
 --   heightIn      what a record adds to the page's height: that of layer 2
-use Prim.Native.Nat.{ℕ, zero, suc, _+_, _*_, _/_, _%_}
+use Prim.Native.Nat.{ℕ, _+_, _*_, _%_}
 use mathlib.Core.List.{List, [], _∷_, _++_}
 use lib.ListN.{length, getD}
 use lib.Dec.{eqb}
 use Rattle.laws.specs.Tests.{only}
 use Rattle.octets.specs.Octets.{be16At, be32At, octets16, octets32}
+use Rattle.octets.specs.Entries.{entriesFrom, wholeEntries, joined}
 use Rattle.sheet_rules.specs.declared.Colour.{Colour}
 use Rattle.sheet_rules.specs.declared.Record.{Record}
 
 abbrev pub recordSize : ℕ
 recordSize = 28
+
+-- 64 stripes of 15 layers
+abbrev pub mostRecords : ℕ
+mostRecords = 960
+
+abbrev pub decisiveSize : ℕ
+decisiveSize = (mostRecords + 1) * recordSize
 
 abbrev pub colourAt : List ℕ → ℕ → Colour
 colourAt s at = record { c0 = getD s at 0; c1 = getD s (at + 1) 0; c2 = getD s (at + 2) 0 }
@@ -62,17 +72,15 @@ encode r =
     ++ (octets16 (r .res)
     ++ (r .base0 ∷ r .base1 ∷ r .base2 ∷ r .octet17 ∷ octets32 (r .start) ++ (octets32 (r .len) ++ octets16 (r .octets26))))))))
 
-unfoldable pub sheetOf : List Record → List ℕ
-sheetOf [] = []
-sheetOf (r ∷ rs) = encode r ++ sheetOf rs
+abbrev pub sheetOf : List Record → List ℕ
+sheetOf rs = joined encode rs
 
-unfoldable pub recordsFrom : List ℕ → ℕ → ℕ → List Record
-recordsFrom s zero i = []
-recordsFrom s (suc k) i = recordAt s i ∷ recordsFrom s k (i + 1)
+abbrev pub recordsFrom : List ℕ → ℕ → ℕ → List Record
+recordsFrom s k i = entriesFrom (recordAt s) k i
 
 unfoldable pub records : List ℕ → List Record
-unfolding recordsFrom
-records s = recordsFrom s (length s / recordSize) 0
+unfolding entriesFrom
+records s = wholeEntries recordSize recordAt s
 
 abbrev pub rest : List ℕ → ℕ
 rest s = length s % recordSize

@@ -41,7 +41,7 @@ Above r q = (q .stripe ≡ r .stripe) × (q .layer ≡ r .layer + 1)
 abbrev pub Closing : Record → Type 0
 Closing r = (r .layer % 2 ≡ 1) × (3 ≤ r .layer)
 
--- q begins the stripe behind that of r, which may stop there
+-- q begins the stripe after that of r, which may stop there
 abbrev pub Opening : Record → Record → Type 0
 Opening r q = (q .stripe ≡ r .stripe + 1) × (q .layer ≡ 1) × Closing r
 
@@ -112,7 +112,7 @@ pub record Breaks (rs : List Record) (i : ℕ) : Type 0 where
   pub before : Unbroken (take i rs)
   pub broken : Unbroken (take (i + 1) rs) → ⊥
 
--- with so many octets of a part record behind them
+-- with so many octets of a part record left
 pub record StopsBadly (rs : List Record) (part i : ℕ) : Type 0 where
   pub due : i ≡ length rs
   pub before : Unbroken rs

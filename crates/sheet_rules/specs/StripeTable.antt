@@ -4,6 +4,7 @@
 --   withRecord        an extent with one more record counted in
 --   few s             the sheet's first 960 records: of a good sheet all
 --   findStripe s k    stripe k of a sheet; none where no record has its number
+--   layerRecord       the record of a layer of a stripe; mainRes: the main resolution, that of layer 2
 --   findLayer e l     layer l of a stripe: its record's number
 --   entering          the judge's state where stripe k begins, with so much height left, on a page of this width and resolution
 use Prim.Native.Nat.{ℕ, zero, suc, _+_, _-_, _/_, min}
@@ -11,6 +12,7 @@ use mathlib.Core.Bool.{false, _&&_, cond}
 use mathlib.Core.List.{List}
 use lib.ListN.{length}
 use lib.Dec.{leb, ltb, eqb}
+use Rattle.octets.specs.Entries.{entriesFrom}
 use Rattle.sheet_rules.specs.declared.Record.{Record}
 use Rattle.sheet_rules.specs.declared.State.{State}
 use Rattle.sheet_rules.specs.declared.Extent.{Extent}
@@ -18,7 +20,7 @@ use Rattle.sheet_rules.specs.declared.FoundStripe.{FoundStripe}
 use Rattle.sheet_rules.specs.declared.FoundStripe.the-variants.{Has, NoStripe}
 use Rattle.sheet_rules.specs.declared.FoundLayer.{FoundLayer}
 use Rattle.sheet_rules.specs.declared.FoundLayer.the-variants.{At, NoLayer}
-use Rattle.sheet_rules.specs.Record.{recordSize, recordsFrom, sumOf, heightIn}
+use Rattle.sheet_rules.specs.Record.{recordSize, recordAt, recordsFrom, sumOf, heightIn, mostRecords}
 use Rattle.laws.specs.Tests.{only}
 use Rattle.sheet_rules.specs.Judge.{begin}
 
@@ -44,8 +46,8 @@ withRecord k extent r =
     }
 
 unfoldable pub few : List ℕ → List Record
-unfolding recordsFrom
-few s = recordsFrom s (min (length s / recordSize) 960) 0
+unfolding entriesFrom
+few s = recordsFrom s (min (length s / recordSize) mostRecords) 0
 
 unfoldable pub foundExtent : Extent → FoundStripe
 foundExtent extent = cond (eqb (extent .layers) 0) NoStripe (Has extent)
@@ -53,6 +55,13 @@ foundExtent extent = cond (eqb (extent .layers) 0) NoStripe (Has extent)
 unfoldable pub findStripe : List ℕ → ℕ → FoundStripe
 unfolding foundExtent extentOf few
 findStripe s k = foundExtent (extentOf k (few s))
+
+-- layer 1 has the stripe's first record
+unfoldable pub layerRecord : List ℕ → Extent → ℕ → Record
+layerRecord s extent l = recordAt s (extent .first + (l - 1))
+
+abbrev pub mainRes : List ℕ → Extent → ℕ
+mainRes s extent = layerRecord s extent 2 .res
 
 unfoldable pub findLayer : Extent → ℕ → FoundLayer
 findLayer extent l = cond (leb 1 l && leb l (extent .layers)) (At (extent .first + (l - 1))) NoLayer

@@ -3,6 +3,15 @@
 // How many octets a record has.
 pub const RECORD_SIZE: usize = 28;
 
+// The octets of a sheet's first two records; the second has the page's width and main resolution.
+pub const TWO_RECORDS: usize = 2 * RECORD_SIZE;
+
+// No good sheet has more records: 64 stripes of 15 layers.
+pub const MOST_RECORDS: usize = 960;
+
+// So many octets of a sheet decide its verdict.
+pub const DECISIVE_SIZE: usize = (MOST_RECORDS + 1) * RECORD_SIZE;
+
 // Three CIELAB code octets, carried as they stand.
 pub struct Colour {
     pub c0: u8,

@@ -10,15 +10,16 @@ use lib.ListN.{length}
 use lib.Dec.{eqb, ltb, leb}
 use borrow.Author.Tests.{eq-eqb, ne-eqb, lt-ltb, le-ltb, le-leb, lt-leb}
 use borrow.Author.Needs.{needs}
+use Rattle.octets.specs.Entries.{entriesFrom}
+use Rattle.octets.proofs.Entries.{entries-one-more}
 use Rattle.sheet_rules.specs.declared.Record.{Record}
 use Rattle.sheet_rules.specs.declared.Extent.{Extent}
 use Rattle.sheet_rules.specs.declared.FoundStripe.{FoundStripe}
 use Rattle.sheet_rules.specs.declared.FoundStripe.the-variants.{Has, NoStripe}
 use Rattle.sheet_rules.specs.declared.FoundLayer.the-variants.{At, NoLayer}
-use Rattle.sheet_rules.specs.Record.{recordSize, recordAt, recordsFrom, heightIn}
+use Rattle.sheet_rules.specs.Record.{recordSize, recordAt, recordsFrom, heightIn, mostRecords}
 use Rattle.laws.specs.Tests.{only}
 use Rattle.sheet_rules.specs.StripeTable.{extentOf, withRecord, few, foundExtent, findStripe, findLayer}
-use Rattle.sheet_rules.proofs.Cut.{records-one-more}
 use Rattle.sheet_rules.proofs.Table.{extent-none, extent-more}
 
 -- ---- a layer of a stripe
@@ -58,7 +59,7 @@ module _ (r : Record) where
   pub height-else : (r .layer ≡ 2 → ⊥) → 0 ≡ heightIn r
   height-else d = simp (ne-eqb (r .layer) 2 d)
 
--- ---- one more record: of a stripe before, of the stripe itself, of one behind
+-- ---- one more record: of a stripe before, of the stripe itself, of one after it
 
 module _ (k : ℕ) (extent : Extent) (r : Record) where
   pub more-before : (h : ℕ) → r .stripe < k → h ≡ heightIn r
@@ -86,7 +87,7 @@ pub record Counted (s : List ℕ) (k i : ℕ) (extent : Extent) : Type 0 where
   pub height : extent .height ≤ i * 65535
 
 pub counted-begin : (s : List ℕ) (k : ℕ) → Counted s k 0 (record { first = 0; layers = 0; top = 0; height = 0 })
-unfolding recordsFrom
+unfolding entriesFrom
 counted-begin s k = record { extent-is = sym (extent-none k); first = omega arith; layers = omega arith; top = omega arith; height = omega arith }
 
 only-most : (b : Bool) (n m : ℕ) → n ≤ m → only b n ≤ m
@@ -113,18 +114,18 @@ counted-more s k i extent t r c e h q =
     record {
       extent-is =
           q ∙ ap₂ (withRecord k) (c .extent-is) e
-          ∙ sym (ap (extentOf k) (records-one-more s i) ∙ extent-more k (recordsFrom s i 0) (recordAt s i));
+          ∙ sym (ap (extentOf k) (entries-one-more (recordAt s) i) ∙ extent-more k (recordsFrom s i 0) (recordAt s i));
       first = omega arith;
       layers = omega arith;
       top = omega arith;
       height = omega arith;
     }
 
-pub counted-end : (s : List ℕ) (k n i : ℕ) (extent : Extent) (f : FoundStripe) → n ≡ min (length s / recordSize) 960 → Counted s k i extent → i ≤ n → n ≤ i
+pub counted-end : (s : List ℕ) (k n i : ℕ) (extent : Extent) (f : FoundStripe) → n ≡ min (length s / recordSize) mostRecords → Counted s k i extent → i ≤ n → n ≤ i
     → f ≡ foundExtent extent → f ≡ findStripe s k
 unfolding findStripe few
 counted-end s k n i extent f e c h g q =
-    let z : i ≡ min (length s / recordSize) 960 = omega arith in
+    let z : i ≡ min (length s / recordSize) mostRecords = omega arith in
     q ∙ ap foundExtent (c .extent-is) ∙ ap (λ (m : ℕ). foundExtent (extentOf k (recordsFrom s m 0))) z
 
 pub ruleset finding = (needs, layer-zero, layer-past, layer-at, extent-missing, extent-there, height-two, height-else, more-before, more-in, more-behind, counted-begin, counted-more, counted-end)

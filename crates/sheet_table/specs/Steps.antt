@@ -1,4 +1,4 @@
--- What is known of a sheet behind its judge, and of a stripe behind its finding: the steps of a line and of coded data begin so.
+-- What is known of a sheet once it is judged, and of a stripe once it is found: the steps of a line and of coded data begin so.
 --
 --   JudgedGood s     the judge takes the sheet
 --   Whole s extent    the stripe's records are there, and few
@@ -8,7 +8,7 @@ use mathlib.Core.List.{List}
 use lib.ListN.{length}
 use Rattle.sheet_rules.specs.declared.Extent.{Extent}
 use Rattle.sheet_rules.specs.declared.Verdict.the-variants.{Good}
-use Rattle.sheet_rules.specs.Record.{recordSize}
+use Rattle.sheet_rules.specs.Record.{recordSize, mostRecords}
 use Rattle.sheet_rules.specs.Judge.{judgeOf}
 
 pub record JudgedGood (s : List ℕ) : Type 0 where
@@ -18,4 +18,4 @@ pub record JudgedGood (s : List ℕ) : Type 0 where
 
 pub record Whole (s : List ℕ) (extent : Extent) : Type 0 where
   pub records : extent .first + extent .layers ≤ length s / recordSize
-  pub few : extent .first + extent .layers ≤ 960
+  pub few : extent .first + extent .layers ≤ mostRecords

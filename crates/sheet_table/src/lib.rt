@@ -6,11 +6,9 @@ ghost use Rattle.sheet_rules.specs.StripeTable.{withRecord, foundExtent, findSt
 use sheet_rules::Extent;
 use sheet_rules::FoundLayer;
 use sheet_rules::FoundStripe;
+use sheet_rules::MOST_RECORDS;
 use sheet_rules::RECORD_SIZE;
 use sheet_rules::Record;
-
-// No good sheet has more records, and sums over so many fit.
-const MOST_RECORDS: usize = 960;
 
 // What a record adds to the page's height: that of layer 2.
 pub fn height_in(r: Record) -> u32

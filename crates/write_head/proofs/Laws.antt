@@ -1,4 +1,4 @@
--- The octets of a stripe, put one behind the other are put together.
+-- The octets of a stripe, put one after the other are put together.
 -- Assumes nothing.
 use Prim.Native.Nat.{ℕ, _+_, _≤_}
 use native.Mathlib.Omega.{arith}

@@ -1,4 +1,4 @@
--- The parts in which the head of a stripe is put: its segment up to its ident, and behind it.
+-- The parts in which the head of a stripe is put: its segment up to its ident, and after it.
 use Prim.Native.Nat.{ℕ}
 use mathlib.Core.List.{List, [], _∷_, _++_}
 use Rattle.octets.specs.Octets.{octets32}

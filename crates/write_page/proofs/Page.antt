@@ -10,12 +10,13 @@ use borrow.Author.Tests.{lt-ltb, le-ltb}
 use Rattle.laws.proofs.Cases.{clash}
 use Rattle.octets.specs.Octets.{Octets, putAt}
 use Rattle.octets.proofs.Laws.{put-length}
+use Rattle.page_rules.specs.Kinds.{longestPage}
 use Rattle.answers.specs.declared.Answer.{Answer}
 use Rattle.answers.specs.declared.Answer.the-variants.{Done, NoRoom, TooLong}
 use Rattle.field_rules.specs.Field.{Res, ok, no}
 use Rattle.sheet_rules.specs.declared.Record.{Record}
 use Rattle.sheet_rules.specs.Record.{recordSize, recordAt, records, nth}
-use Rattle.sheet_rules.proofs.Cut.{length-records, nth-records, second-blank, second-read}
+use Rattle.sheet_rules.proofs.Cut.{records-count, record-nth, second-blank, second-read}
 use Rattle.sheet_rules.proofs.Among.{nth-among}
 use Rattle.page_rules.specs.declared.Head.{Head}
 use Rattle.page_rules.specs.Grammar.{startOf}
@@ -35,11 +36,11 @@ use Rattle.write_page.specs.Steps.{Lined, Sound, Fitting}
 abbrev headWith : Tally → Record → Head
 headWith t r = record { mask = t .mask; image = t .image; main = r .res; width = r .width }
 
-pub head-none : (s : List ℕ) (t : Tally) → length s < 56
+pub head-none : (s : List ℕ) (t : Tally) → length s < 2 * recordSize
     → _≡_ {A = Head} (record { mask = t .mask; image = t .image; main = 0; width = 0 }) (headBy (records s) t)
 head-none s t l = ap (headWith t) (second-blank s l)
 
-pub head-read : (s : List ℕ) (t : Tally) {r : Record} → 56 ≤ length s → r ≡ recordAt s 1
+pub head-read : (s : List ℕ) (t : Tally) {r : Record} → 2 * recordSize ≤ length s → r ≡ recordAt s 1
     → _≡_ {A = Head} (record { mask = t .mask; image = t .image; main = r .res; width = r .width }) (headBy (records s) t)
 head-read s t l e = ap (headWith t) (second-read s l e)
 
@@ -79,13 +80,12 @@ module _ (out s d : List ℕ) (t : Tally) (os : Octets s) (od : Octets d) (f : F
     long1 = let r = start-room in let a = length-start hd in ap length e1 ∙ put-length out 0 (startOf hd) (omega arith)
 
     pub page-lined : (n : ℕ) → n ≡ length s / recordSize → Lined o1 s d n
-    unfolding records
     page-lined n w =
         let a = accepted in
         let th = threes d od (records s) t (a .sheet) (a .three) (records-sized s os) (a .passed) in
         let i = thirds th in
         let j = i .1 in
-        let k = length-records s (length s / recordSize) 0 in
+        let k = records-count s in
         let p = parts-length in
         let r = f .room in
         let l = long1 in
@@ -94,9 +94,7 @@ module _ (out s d : List ℕ) (t : Tally) (os : Octets s) (od : Octets d) (f : F
           stripes = i .0;
           threes = omega arith;
           there = λ x y.
-              let q = nth-records s (length s / recordSize) 0 x (omega arith) in
-              let z : 0 + x ≡ x = omega arith in
-              subst (λ (v : Record). v .start + v .len ≤ length d) (q ∙ ap (recordAt s) z) (a .passed .inside (nth (records s) x) (nth-among (records s) x (omega arith)));
+              subst (λ (v : Record). v .start + v .len ≤ length d) (record-nth s x (omega arith)) (a .passed .inside (nth (records s) x) (nth-among (records s) x (omega arith)));
           room = omega arith;
         }
 
@@ -120,25 +118,25 @@ module _ (out s d : List ℕ) (t : Tally) (os : Octets s) (od : Octets d) (f : F
 
 -- ---- write_sound and write_page
 module _ (s d p : List ℕ) (t : Tally) (v : Sound s d t) where
-  pub write-long : 16777215 < t .size → Writes s d p TooLong p
+  pub write-long : longestPage < t .size → Writes s d p TooLong p
   unfolding writeOf answerBy sizeAnswer writeInto intoBy
-  write-long l = record { answers = simp (v .verdict, lt-ltb 16777215 (t .size) l); holds = simp (v .verdict, lt-ltb 16777215 (t .size) l) }
+  write-long l = record { answers = simp (v .verdict, lt-ltb longestPage (t .size) l); holds = simp (v .verdict, lt-ltb longestPage (t .size) l) }
 
-  module _ (l : t .size ≤ 16777215) where
+  module _ (l : t .size ≤ longestPage) where
     pub write-none : length p < t .size → Writes s d p NoRoom p
     unfolding writeOf answerBy sizeAnswer writeInto intoBy
     write-none r =
         record {
-          answers = simp (v .verdict, le-ltb 16777215 (t .size) l, lt-ltb (length p) (t .size) r);
-          holds = simp (v .verdict, le-ltb 16777215 (t .size) l, lt-ltb (length p) (t .size) r);
+          answers = simp (v .verdict, le-ltb longestPage (t .size) l, lt-ltb (length p) (t .size) r);
+          holds = simp (v .verdict, le-ltb longestPage (t .size) l, lt-ltb (length p) (t .size) r);
         }
 
     pub write-done : t .size ≤ length p → (p′ : List ℕ) → p′ ≡ putAt p 0 (pageBy d (records s) t) → Writes s d p (Done (t .size)) p′
     unfolding writeOf answerBy sizeAnswer writeInto intoBy
     write-done r p′ e =
         record {
-          answers = simp (v .verdict, le-ltb 16777215 (t .size) l, le-ltb (length p) (t .size) r);
-          holds = e ∙ simp (v .verdict, le-ltb 16777215 (t .size) l, le-ltb (length p) (t .size) r);
+          answers = simp (v .verdict, le-ltb longestPage (t .size) l, le-ltb (length p) (t .size) r);
+          holds = e ∙ simp (v .verdict, le-ltb longestPage (t .size) l, le-ltb (length p) (t .size) r);
         }
 
 pub write-fits : (s d p : List ℕ) (t : Tally) → Sound s d t → t .size ≤ length p → Fitting p s d t

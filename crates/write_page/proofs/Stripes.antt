@@ -8,9 +8,10 @@ use lib.ListN.{length, length-append}
 use borrow.Author.Needs.{needs}
 use Rattle.octets.specs.Octets.{putAt}
 use Rattle.octets.proofs.Laws.{put-put, put-nothing, put-length}
+use Rattle.octets.specs.Entries.{entriesFrom}
+use Rattle.octets.proofs.Entries.{length-entries, entries-split}
 use Rattle.sheet_rules.specs.declared.Record.{Record}
 use Rattle.sheet_rules.specs.Record.{recordSize, recordAt, recordsFrom, records}
-use Rattle.sheet_rules.proofs.Cut.{length-records, records-split}
 use Rattle.write_rules.specs.Writing.{stripeBy, stripesBy}
 use Rattle.write_stripe.specs.Parts.{Placed}
 use Rattle.write_stripe.proofs.Laws.{stripe-length}
@@ -34,12 +35,12 @@ module _ (s d : List ℕ) where
   next-stripe i = stripeBy d (recordAt s i) (recordAt s (i + 1)) (recordAt s (i + 1 + 1))
 
   upto-more : (k i : ℕ) → i ≡ k * 3 → upto (i + 3) ≡ upto i ++ stripeBy d (recordAt s i) (recordAt s (i + 1)) (recordAt s (i + 2))
-  unfolding recordsFrom stripesBy
+  unfolding entriesFrom stripesBy
   upto-more k i h =
-      let n = length-records s i 0 in
+      let n = length-entries (recordAt s) i 0 in
       let z : 0 + i ≡ i = omega arith in
       let y : i + 1 + 1 ≡ i + 2 = omega arith in
-      ap (stripesBy d) (records-split s i 3 0) ∙ stripes-append d k (recordsFrom s i 0) (recordsFrom s 3 (0 + i)) (omega arith)
+      ap (stripesBy d) (entries-split (recordAt s) i 3 0) ∙ stripes-append d k (recordsFrom s i 0) (recordsFrom s 3 (0 + i)) (omega arith)
       ∙ ap (λ (j : ℕ). upto i ++ stripesBy d (recordsFrom s 3 j)) z
       ∙ ap (λ (j : ℕ). upto i ++ (stripeBy d (recordAt s i) (recordAt s (i + 1)) (recordAt s j) ++ [])) y
       ∙ ap (λ (l : List ℕ). upto i ++ l) (append-nil (stripeBy d (recordAt s i) (recordAt s (i + 1)) (recordAt s (i + 2))))
@@ -47,10 +48,10 @@ module _ (s d : List ℕ) where
   upto-part : (k i n : ℕ) → i ≡ k * 3 → i ≤ n → n ≡ length s / recordSize → length (upto i) ≤ length (stripesBy d (records s))
   unfolding records
   upto-part k i n h l w =
-      let m = length-records s i 0 in
+      let m = length-entries (recordAt s) i 0 in
       let p : length s / recordSize ≡ i + (n - i) = omega arith in
       let e : stripesBy d (recordsFrom s (length s / recordSize) 0) ≡ upto i ++ stripesBy d (recordsFrom s (n - i) (0 + i)) =
-      ap (λ (j : ℕ). stripesBy d (recordsFrom s j 0)) p ∙ ap (stripesBy d) (records-split s i (n - i) 0) ∙ stripes-append d k (recordsFrom s i 0) (recordsFrom s (n - i) (0 + i)) (omega arith) in
+      ap (λ (j : ℕ). stripesBy d (recordsFrom s j 0)) p ∙ ap (stripesBy d) (entries-split (recordAt s) i (n - i) 0) ∙ stripes-append d k (recordsFrom s i 0) (recordsFrom s (n - i) (0 + i)) (omega arith) in
       let q = ap length e in
       let a = length-append (upto i) (stripesBy d (recordsFrom s (n - i) (0 + i))) in
       omega arith
@@ -64,7 +65,7 @@ pub record Lining (out₀ s d : List ℕ) (n i at : ℕ) (out : List ℕ) : Type
 
 module _ (out₀ s d : List ℕ) (n : ℕ) (l : Lined out₀ s d n) where
   pub line-begun : Lining out₀ s d n 0 22 out₀
-  unfolding recordsFrom stripesBy
+  unfolding entriesFrom stripesBy
   line-begun = record { count = 0; third = refl; within = omega arith; laid = sym (put-nothing out₀ 22); here = refl }
 
   module _ (i at : ℕ) (out : List ℕ) (g : Lining out₀ s d n i at out) where

@@ -11,11 +11,13 @@ ghost use Rattle.write_page.specs.Steps.{Lined, Fitting, Sound};
 use answers::Answer;
 use page_rules::EOI;
 use page_rules::Head;
+use page_rules::LONGEST_PAGE;
 use sheet_rules::RECORD_SIZE;
+use sheet_rules::TWO_RECORDS;
 use write_rules::Tally;
 use write_verdict::Pass;
 
-// Three records a stripe; answers the place behind the last.
+// Three records a stripe; answers the place after the last.
 fn put_stripes(out: &mut [u8], s: &[u8], d: &[u8], n: usize) -> usize
     requires { ⌜ Lined (now out) (now s) (now d) n ⌝ }
     ensures put { λ _. ⌜ now (out .exit) ≡ putAt (now (out .entry)) 22 (stripesBy (now (d .entry)) (records (now (s .entry)))) ⌝ }
@@ -37,7 +39,7 @@ fn put_stripes(out: &mut [u8], s: &[u8], d: &[u8], n: usize) -> usize
 fn head_of(s: &[u8], t: Tally) -> Head
     ensures { λ r. ⌜ r ≡ headBy (records (now (s .entry))) t ⌝ }
 {
-    if s.len() < 56 {
+    if s.len() < TWO_RECORDS {
         return Head {
             mask: t.mask,
             image: t.image,
@@ -74,13 +76,13 @@ fn emit_page(out: &mut [u8], s: &[u8], d: &[u8], t: Tally)
     put_end(out, at);
 }
 
-// Behind the verdict: TooLong, then NoRoom, then the page.
+// After the verdict: TooLong, then NoRoom, then the page.
 fn write_sound(s: &[u8], d: &[u8], page: &mut [u8], t: Tally) -> Answer
     requires { ⌜ Sound (now s) (now d) t ⌝ }
     ensures { λ r. ⌜ Writes (now (s .entry)) (now (d .entry)) (now (page .entry)) r (now (page .exit)) ⌝ }
 {
     let size = t.size;
-    if 16777215 < size {
+    if (LONGEST_PAGE as u64) < size {
         return Answer::TooLong;
     }
     if (page.len() as u64) < size {

@@ -1,13 +1,12 @@
 -- A page in the writer's form, lent with its sheet, is written octet for octet.
 -- Assumes nothing.
-use Prim.Native.Nat.{ℕ, _+_, _-_, _≤_}
+use Prim.Native.Nat.{ℕ, _+_, _≤_}
 use native.Mathlib.Omega.{arith}
 use mathlib.Core.Path.{_≡_, refl, sym, ap, ap₂, subst, _∙_}
 use mathlib.Core.Logic.{inl, inr, _≢_, ⊎-elim}
 use mathlib.Core.Bool.{Bool, false, cond}
-use mathlib.Core.List.{List, [], _∷_, _++_, append-assoc}
-use lib.ListN.{length, drop, length-append, length-drop, replicate}
-use Rattle.octets.proofs.Laws.{drop-next}
+use mathlib.Core.List.{List, [], _∷_, _++_}
+use lib.ListN.{length, drop, replicate}
 use Rattle.laws.proofs.Says.{says-eq, says-else}
 use Rattle.sheet_rules.specs.declared.Record.{Record}
 use Rattle.sheet_rules.specs.Judge.{coded}
@@ -17,14 +16,14 @@ use Rattle.page_rules.specs.declared.LayerData.{LayerData as Data}
 use Rattle.page_rules.specs.Kinds.{hasBack, hasMask, hasFore, Fields, imageRecord, maskRecord}
 use Rattle.sheet_rules.specs.declared.Colour.{Colour}
 use Rattle.page_rules.specs.Grammar.{startOf, ImageCoder, headOf, TypeOf, Image, there, absent, Stripe, Stripes, last, next}
-use Rattle.page_rules.proofs.There.{length-start}
-use Rattle.page_rules.proofs.Named.{at-mask, at-back, at-fore}
+use Rattle.page_rules.proofs.Parts.{backIn, maskIn, foreIn, back-octets, mask-octets, fore-octets, stripes-onward, closing, page-stripes, page-within}
 use Rattle.write_rules.specs.declared.Tally.{Tally}
 use Rattle.write_rules.specs.Layer.{layerOctets}
-use Rattle.write_rules.specs.Writing.{begun, sheetMain, typeBy, colourBy, fieldsBy, stripeBy, stripesBy, headBy, pageBy}
+use Rattle.write_rules.specs.Sentences.{sheetMain}
+use Rattle.write_rules.specs.Writing.{begun, typeBy, colourBy, fieldsBy, stripeBy, stripesBy, headBy, pageBy}
 use Rattle.write_rules.specs.Form.{TrimStripe, Trim, UsedMask, UsedImage, Formed}
 use Rattle.write_rules.proofs.Passed.{Passed}
-use Rattle.write_rules.proofs.Lent.{Lent, stripes-lent, stripes-main, coded-image, coded-mask, image-data, mask-data}
+use Rattle.write_rules.proofs.Lent.{Lent, stripes-lent, stripes-main, coded-image, coded-mask}
 
 -- ---- a stripe
 
@@ -61,75 +60,48 @@ fields-same f g e1 e2 e3 e4 e5 e6 e7 e8 e9 = let all : whole f ≡ whole g = cc 
           maskLength = f .maskLength;
         }
 
-module _ (hd : Head) (s : List ℕ) (k left at : ℕ) (l tail : List ℕ) (height : ℕ) (rs : List Record) (z : Stripe hd k left at l height rs) (t : TrimStripe z)
-    (e : drop at s ≡ l ++ tail) (h : at ≤ length s) where
-  r1 : Record
-  r1 = imageRecord hd k 1 (z .fields .back) (z .fields .backX) (z .fields .backY) (z .backIs)
-
-  r2 : Record
-  r2 = maskRecord hd k (z .fields .height) (cond (hasMask (z .fields .type)) (hd .mask) 0) (cond (hasMask (z .fields .type)) (at + 39) 0) (z .fields .maskLength)
-
-  r3 : Record
-  r3 = imageRecord hd k 3 (z .fields .fore) (z .fields .foreX) (z .fields .foreY) (z .foreIs)
-
-  fields-again : fieldsBy r1 r2 r3 ≡ z .fields
-  unfolding r1 r2 r3 maskRecord
+module _ {hd : Head} {k left at : ℕ} {l : List ℕ} {height : ℕ} {rs : List Record} (z : Stripe hd k left at l height rs) (t : TrimStripe z) where
+  fields-again : fieldsBy (backIn z) (maskIn z) (foreIn z) ≡ z .fields
+  unfolding maskRecord
   fields-again =
       let f = z .fields in
       let b =
       image-again hd k 1 (at + 39 + length (z .mask)) (f .back) (f .backX) (f .backY) (hasBack (f .type)) (z .back) (z .backIs) (z .backThere) (t .back) in
       let c =
       image-again hd k 3 (at + 39 + length (z .mask) + length (z .back)) (f .fore) (f .foreX) (f .foreY) (hasFore (f .type)) (z .fore) (z .foreIs) (z .foreThere) (t .fore) in
-      fields-same (fieldsBy r1 r2 r3) f type-is (b .0) (c .0) (b .1) (b .2) (c .1) (c .2) refl refl
+      fields-same (fieldsBy (backIn z) (maskIn z) (foreIn z)) f type-is (b .0) (c .0) (b .1) (b .2) (c .1) (c .2) refl refl
     where
-      type-is : typeBy (coded r1) (coded r2) (coded r3) ≡ z .fields .type
+      type-is : typeBy (coded (backIn z)) (coded (maskIn z)) (coded (foreIn z)) ≡ z .fields .type
       type-is =
           let f = z .fields in
-          ap (λ (b : Bool). typeBy b (coded r2) (coded r3))
+          ap (λ (b : Bool). typeBy b (coded (maskIn z)) (coded (foreIn z)))
           (coded-image hd k 1 (at + 39 + length (z .mask)) (f .back) (f .backX) (f .backY) (hasBack (f .type)) (z .back) (z .backIs) (z .backThere))
-          ∙ ap (λ (b : Bool). typeBy (hasBack (f .type)) b (coded r3))
+          ∙ ap (λ (b : Bool). typeBy (hasBack (f .type)) b (coded (foreIn z)))
           (coded-mask hd k (f .height) (cond (hasMask (f .type)) (hd .mask) 0) (cond (hasMask (f .type)) (at + 39) 0) (f .maskLength) (hasMask (f .type)) (z .good .mask))
           ∙ ap (λ (b : Bool). typeBy (hasBack (f .type)) (hasMask (f .type)) b)
           (coded-image hd k 3 (at + 39 + length (z .mask) + length (z .back)) (f .fore) (f .foreX) (f .foreY) (hasFore (f .type)) (z .fore) (z .foreIs) (z .foreThere))
           ∙ type-again (f .type) (z .good .type)
 
-  stripe-again : stripeBy s r1 r2 r3 ≡ l
-  unfolding stripeBy r1 r2 r3
-  stripe-again =
-      ap (λ (f : Fields). headOf f ++ (layerOctets s r2 ++ (layerOctets s r1 ++ layerOctets s r3))) fields-again
-      ∙ ap (λ (x : List ℕ). headOf (z .fields) ++ (x ++ (layerOctets s r1 ++ layerOctets s r3))) mask-is
-      ∙ ap (λ (x : List ℕ). headOf (z .fields) ++ (z .mask ++ (x ++ layerOctets s r3))) back-is
-      ∙ ap (λ (x : List ℕ). headOf (z .fields) ++ (z .mask ++ (z .back ++ x))) fore-is
+  stripe-again : (s tail : List ℕ) → drop at s ≡ l ++ tail → stripeBy s (backIn z) (maskIn z) (foreIn z) ≡ l
+  unfolding stripeBy
+  stripe-again s tail e =
+      ap (λ (f : Fields). headOf f ++ (layerOctets s (maskIn z) ++ (layerOctets s (backIn z) ++ layerOctets s (foreIn z)))) fields-again
+      ∙ ap (λ (x : List ℕ). headOf (z .fields) ++ (x ++ (layerOctets s (backIn z) ++ layerOctets s (foreIn z)))) (mask-octets z s tail e)
+      ∙ ap (λ (x : List ℕ). headOf (z .fields) ++ (z .mask ++ (x ++ layerOctets s (foreIn z)))) (back-octets z s tail e)
+      ∙ ap (λ (x : List ℕ). headOf (z .fields) ++ (z .mask ++ (z .back ++ x))) (fore-octets z s tail e)
       ∙ sym (z .octets)
-    where
-      mask-is : layerOctets s r2 ≡ z .mask
-      mask-is =
-          mask-data hd s k (z .fields .height) (cond (hasMask (z .fields .type)) (hd .mask) 0) (at + 39) (z .fields .maskLength) (hasMask (z .fields .type)) (z .mask)
-          (z .back ++ (z .fore ++ tail)) (z .size) (z .good .mask .1) (at-mask hd s k left at l tail height rs z e h)
 
-      back-is : layerOctets s r1 ≡ z .back
-      back-is =
-          image-data hd s k 1 (at + 39 + length (z .mask)) (z .fields .back) (z .fields .backX) (z .fields .backY) (hasBack (z .fields .type)) (z .back) (z .fore ++ tail) (z .backIs) (z .backThere)
-          (at-back hd s k left at l tail height rs z e h)
-
-      fore-is : layerOctets s r3 ≡ z .fore
-      fore-is =
-          image-data hd s k 3 (at + 39 + length (z .mask) + length (z .back)) (z .fields .fore) (z .fields .foreX) (z .fields .foreY) (hasFore (z .fields .type)) (z .fore) tail (z .foreIs) (z .foreThere)
-          (at-fore hd s k left at l tail height rs z e h)
-
-  pub front-again : (sr : List Record) → stripesBy s (rs ++ sr) ≡ l ++ stripesBy s sr
-  unfolding stripesBy r1 r2 r3
-  front-again sr = ap (λ (x : List Record). stripesBy s (x ++ sr)) (z .records) ∙ ap (λ (x : List ℕ). x ++ stripesBy s sr) stripe-again
+  front-again : (s tail : List ℕ) → drop at s ≡ l ++ tail → (sr : List Record) → stripesBy s (rs ++ sr) ≡ l ++ stripesBy s sr
+  unfolding stripesBy
+  front-again s tail e sr = ap (λ (x : List Record). stripesBy s (x ++ sr)) (z .records) ∙ ap (λ (x : List ℕ). x ++ stripesBy s sr) (stripe-again s tail e)
 
 pub stripes-again : {hd : Head} {k left at : ℕ} {l : List ℕ} {rs : List Record} (z : Stripes hd k left at l rs) → Trim z → (s tail : List ℕ) → drop at s ≡ l ++ tail → at ≤ length s
     → stripesBy s rs ≡ l
 unfolding stripesBy Trim
 stripes-again (last some) t s tail e h = refl
-stripes-again {hd} {k} {left} {at} (next {l = l} {more = more} {rs = rs} {sr = sr} height few z rest) t s tail e h =
-    let e′ : drop at s ≡ l ++ (more ++ tail) = e ∙ append-assoc l more tail in
-    let n : length s - at ≡ length l + length (more ++ tail) = sym (length-drop at s) ∙ ap length e′ ∙ length-append l (more ++ tail) in
-    let i = stripes-again rest (t .1) s tail (drop-next s l (more ++ tail) at e′) (omega arith) in
-    front-again hd s k left at l (more ++ tail) height rs z (t .0) e′ h sr ∙ ap (λ (x : List ℕ). l ++ x) i
+stripes-again {at = at} (next {l = l} {more = more} {sr = sr} height few z rest) t s tail e h =
+    let o = stripes-onward s at l more tail e h in
+    front-again z (t .0) s (more ++ tail) (o .here) sr ∙ ap (λ (x : List ℕ). l ++ x) (stripes-again rest (t .1) s tail (o .further) (o .within))
 
 -- ---- the start of page
 
@@ -183,12 +155,7 @@ module _ (s : List ℕ) (rs : List Record) (f : Formed s rs) (u : Tally) (p : Pa
   pub page-again : pageBy s rs u ≡ s
   unfolding pageBy
   page-again =
-      let ls = length-start (f .page .head) in
-      let lo : length (f .page .optionals) ≡ 0 = ap length (f .optionals) in
-      let e = drop-next s (startOf (f .page .head)) (f .page .stripes ++ (0xFF ∷ 0xD9 ∷ 0xFF ∷ 0xD9 ∷ [])) 0 octets-again in
-      let n : 0 + length (startOf (f .page .head)) ≡ 22 + length (f .page .optionals) = omega arith in
-      let a = ap length octets-again in
-      let b = length-append (startOf (f .page .head)) (f .page .stripes ++ (0xFF ∷ 0xD9 ∷ 0xFF ∷ 0xD9 ∷ [])) in
+      let w = page-within s rs (f .page) in
       ap₂ (λ (h : Head) (x : List ℕ). startOf h ++ (x ++ (0xFF ∷ 0xD9 ∷ 0xFF ∷ 0xD9 ∷ []))) head-again
-      (stripes-again (f .page .striped) (f .offsets) s (0xFF ∷ 0xD9 ∷ 0xFF ∷ 0xD9 ∷ []) (ap (λ (j : ℕ). drop j s) (sym n) ∙ e) (omega arith))
+      (stripes-again (f .page .striped) (f .offsets) s (closing s rs (f .page)) (page-stripes s rs (f .page)) (omega arith))
       ∙ sym octets-again

@@ -28,8 +28,8 @@ use Rattle.sheet_rules.proofs.Theorems.{sheet-accepted, sheet-refused}
 use Rattle.jpeg_rules.specs.Grammar.{Layer}
 use Rattle.write_rules.specs.declared.Tally.{Tally}
 use Rattle.write_rules.specs.Layer.{layerOctets}
-use Rattle.write_rules.specs.Writing.{modeFrom, begun, recordsPass, sheetMain, verdictBy, verdictOf}
-use Rattle.write_rules.specs.Sentences.{Fine, Low, ModeAt, ShortAt, MismatchAt, Sound, Gives, no-sheet, above-3, passing, differing}
+use Rattle.write_rules.specs.Writing.{modeFrom, begun, recordsPass, verdictBy, verdictOf}
+use Rattle.write_rules.specs.Sentences.{Fine, Low, ModeAt, ShortAt, MismatchAt, Sound, Gives, no-sheet, above-3, passing, differing, sheetMain}
 use Rattle.write_rules.specs.Form.{UsedMask}
 use Rattle.write_rules.proofs.Agreed.{Meets, says-matches, step-cases}
 use Rattle.write_rules.proofs.Passed.{Plain, coder-nonzero, Passed, pass-back, pass-there, passed-fine, pass-stops, pass-fault}

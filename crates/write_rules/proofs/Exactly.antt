@@ -7,25 +7,26 @@ use lib.ListN.{length}
 use lib.Dec.{ltb}
 use borrow.Author.Tests.{le-ltb, lt-ltb, ltb-true, ltb-false}
 use Rattle.octets.specs.Octets.{Octets}
+use Rattle.page_rules.specs.Kinds.{longestPage}
 use Rattle.laws.proofs.Cases.{cond-with}
 use Rattle.answers.specs.declared.Answer.{Answer}
 use Rattle.answers.specs.declared.Answer.the-variants.{Done, Short, BadMode, NoRoom, BadSheet, Mismatch, TooLong}
 use Rattle.field_rules.specs.Field.{Res, ok, no}
 use Rattle.sheet_rules.specs.Record.{records}
 use Rattle.write_rules.specs.declared.Tally.{Tally}
-use Rattle.write_rules.specs.Writing.{sheetMain, verdictOf, sizeAnswer, answerBy, writeOf}
-use Rattle.write_rules.specs.Sentences.{sizeOf, Sound, Gives, no-sheet, above-3, passing, differing, too-long, no-room, written}
+use Rattle.write_rules.specs.Writing.{verdictOf, sizeAnswer, answerBy, writeOf}
+use Rattle.write_rules.specs.Sentences.{sizeOf, Sound, Gives, no-sheet, above-3, passing, differing, too-long, no-room, written, sheetMain}
 use Rattle.write_rules.proofs.Answered.{verdict-back, accepted-sound, sheet-plain, verdict-sheet, verdict-mode, verdict-passes, verdict-there, short-there, mismatch-there, verdict-refused}
 use Rattle.write_rules.proofs.Into.{tally-size}
 
--- behind the verdict: the size
+-- after the verdict: the size
 size-gives : (s d : List ℕ) (room : ℕ) → Sound s d → Gives s d room (sizeAnswer room (sizeOf (records s)))
 unfolding sizeAnswer
 size-gives s d room k =
-    cond-with (Gives s d room) (ltb 16777215 (sizeOf (records s))) (λ t. too-long k (ltb-true 16777215 (sizeOf (records s)) t)) λ t.
+    cond-with (Gives s d room) (ltb longestPage (sizeOf (records s))) (λ t. too-long k (ltb-true longestPage (sizeOf (records s)) t)) λ t.
     cond-with (Gives s d room) (ltb room (sizeOf (records s)))
-    (λ u. no-room k (ltb-false 16777215 (sizeOf (records s)) t) (ltb-true room (sizeOf (records s)) u))
-    (λ u. written k refl (ltb-false 16777215 (sizeOf (records s)) t) (ltb-false room (sizeOf (records s)) u))
+    (λ u. no-room k (ltb-false longestPage (sizeOf (records s)) t) (ltb-true room (sizeOf (records s)) u))
+    (λ u. written k refl (ltb-false longestPage (sizeOf (records s)) t) (ltb-false room (sizeOf (records s)) u))
 
 pub write-gives : (s d : List ℕ) → Octets d → (room : ℕ) → Gives s d room (writeOf s d room)
 unfolding writeOf answerBy
@@ -54,7 +55,7 @@ gives-write s d o room (Short i) (passing a low k) =
 gives-write s d o room (Mismatch i) (differing a low k) =
     ap (answerBy room)
     (verdict-passes s d (a .0) (a .1) low ∙ mismatch-there d o (sheetMain (records s)) (records s) (sheet-plain (records s) (a .0) low) i k)
-gives-write s d o room TooLong (too-long k long) = sound-size s d o room k ∙ simp (lt-ltb 16777215 (sizeOf (records s)) long)
-gives-write s d o room NoRoom (no-room k short less) = sound-size s d o room k ∙ simp (le-ltb 16777215 (sizeOf (records s)) short, lt-ltb room (sizeOf (records s)) less)
+gives-write s d o room TooLong (too-long k long) = sound-size s d o room k ∙ simp (lt-ltb longestPage (sizeOf (records s)) long)
+gives-write s d o room NoRoom (no-room k short less) = sound-size s d o room k ∙ simp (le-ltb longestPage (sizeOf (records s)) short, lt-ltb room (sizeOf (records s)) less)
 gives-write s d o room (Done n) (written k e short fits) =
-    sound-size s d o room k ∙ ap (sizeAnswer room) (sym e) ∙ simp (le-ltb 16777215 n short, le-ltb room n fits)
+    sound-size s d o room k ∙ ap (sizeAnswer room) (sym e) ∙ simp (le-ltb longestPage n short, le-ltb room n fits)

@@ -5,9 +5,10 @@ use mathlib.Core.Path.{_≡_, refl}
 use mathlib.Core.List.{List, [], _∷_, _++_}
 use lib.ListN.{replicate, take}
 use Rattle.octets.specs.Octets.{be16At, be32At, begins, standsAt, octets16, octets32, putAt}
+use Rattle.octets.specs.Entries.{joined}
 use Rattle.answers.specs.declared.Answer.the-variants.{Done, Short, BadMode, NoRoom, BadSheet, Mismatch, TooLong}
 use Rattle.sheet_rules.specs.declared.Record.{Record}
-use Rattle.sheet_rules.specs.Record.{recordAt, encode, sheetOf, recordsFrom, records}
+use Rattle.sheet_rules.specs.Record.{recordAt, encode, sheetOf, records}
 use Rattle.sheet_rules.specs.Judge.{keeps, after, after1, after2, after3, stepOf, endOf, onStep, walk, judge, judgeOf, answerOf}
 use Rattle.jpeg_rules.specs.Marker.{classOf, markerOf}
 use Rattle.jpeg_rules.specs.Walk.{segOf, scanOf, tagOf, frameBodyOf, frameOf, scanStepOf, segmentOf, turnOf, walkOf}
@@ -37,26 +38,26 @@ none = record { c0 = 0; c1 = 0; c2 = 0 }
 -- ---- the four by two page of 01, "A listing": its sheet, with the mask's five octets at 60, gives the page that reading reads
 
 unfoldable pub example : List ℕ
-unfolding sheetOf encode octets16 octets32
+unfolding joined encode octets16 octets32
 example = sheetOf (layer 0 1 0 0 0 0 0 200 white 0 0 ∷ layer 0 2 4 0 0 4 2 200 none 60 5 ∷ layer 0 3 0 0 0 0 0 200 black 0 0 ∷ [])
 
 unfoldable pub buffer : List ℕ
 buffer = replicate 60 0 ++ coded-mask
 
 pub written : (writeOf example buffer 70 ≡ Done 70) × (writeInto example buffer (replicate 72 7) ≡ page ++ (7 ∷ 7 ∷ []))
-unfolding writeOf writeInto putAt page startOf headOf colourOf octets16 octets32 buffer example counted matches sizeAnswer judgeOf judge walk onStep stepOf keeps after after1 after2 after3 endOf records recordsFrom recordAt be16At be32At
+unfolding writeOf writeInto putAt page startOf headOf colourOf octets16 octets32 buffer example counted matches sizeAnswer judgeOf judge walk onStep stepOf keeps after after1 after2 after3 endOf records recordAt be16At be32At
 written = (refl, refl)
 
 pub no-room : writeOf example buffer 69 ≡ NoRoom
-unfolding writeOf buffer example counted matches sizeAnswer judgeOf judge walk onStep stepOf keeps after after1 after2 after3 endOf records recordsFrom recordAt be16At be32At
+unfolding writeOf buffer example counted matches sizeAnswer judgeOf judge walk onStep stepOf keeps after after1 after2 after3 endOf records recordAt be16At be32At
 no-room = refl
 
 pub short : writeOf example (take 64 buffer) 70 ≡ Short 1
-unfolding writeOf buffer example counted matches sizeAnswer judgeOf judge walk onStep stepOf keeps after after1 after2 after3 endOf records recordsFrom recordAt be16At be32At
+unfolding writeOf buffer example counted matches sizeAnswer judgeOf judge walk onStep stepOf keeps after after1 after2 after3 endOf records recordAt be16At be32At
 short = refl
 
 pub bad-sheet : writeOf (take 83 example) buffer 70 ≡ BadSheet 2
-unfolding writeOf buffer example counted matches sizeAnswer judgeOf judge walk onStep stepOf keeps after after1 after2 after3 endOf records recordsFrom recordAt be16At be32At answerOf
+unfolding writeOf buffer example counted matches sizeAnswer judgeOf judge walk onStep stepOf keeps after after1 after2 after3 endOf records recordAt be16At be32At answerOf
 bad-sheet = refl
 
 -- too long is said before the room
@@ -103,14 +104,14 @@ second =
 pub two-stripes : writeInto (sheetOf (layers 8 8)) (picture ++ coded-mask) (replicate 193 7)
     ≡ startOf (record { mask = 8; image = 1; main = 400; width = 100 })
     ++ (headOf first ++ (coded-mask ++ (picture ++ (picture ++ (headOf second ++ ((2 ∷ 3 ∷ 4 ∷ 5 ∷ []) ++ (0xFF ∷ 0xD9 ∷ 0xFF ∷ 0xD9 ∷ [])))))))
-unfolding writeInto putAt startOf headOf colourOf octets16 octets32 sheetOf encode layers picture counted matches agrees judgeOf judge walk onStep stepOf keeps after after1 after2 after3 endOf records recordsFrom recordAt be16At be32At walkOf turnOf markerOf classOf segOf scanOf tagOf frameOf frameBodyOf scanStepOf segmentOf W.endOf standsAt begins
+unfolding writeInto putAt startOf headOf colourOf octets16 octets32 joined encode layers picture counted matches agrees judgeOf judge walk onStep stepOf keeps after after1 after2 after3 endOf records recordAt be16At be32At walkOf turnOf markerOf classOf segOf scanOf tagOf frameOf frameBodyOf scanStepOf segmentOf W.endOf standsAt begins
 two-stripes = refl
 
 -- a width that the layer does not have, at its record, before the mask that is cut; another mask coder, at the later mask; a fifth layer
 pub mismatch : (writeOf (sheetOf (layers 9 8)) picture 193 ≡ Mismatch 0) × (writeOf (sheetOf (layers 8 4)) (picture ++ coded-mask) 193 ≡ Mismatch 4)
-unfolding writeOf octets16 octets32 sheetOf encode layers picture counted matches agrees judgeOf judge walk onStep stepOf keeps after after1 after2 after3 endOf records recordsFrom recordAt be16At be32At walkOf turnOf markerOf classOf segOf scanOf tagOf frameOf frameBodyOf scanStepOf segmentOf W.endOf standsAt begins
+unfolding writeOf octets16 octets32 joined encode layers picture counted matches agrees judgeOf judge walk onStep stepOf keeps after after1 after2 after3 endOf records recordAt be16At be32At walkOf turnOf markerOf classOf segOf scanOf tagOf frameOf frameBodyOf scanStepOf segmentOf W.endOf standsAt begins
 mismatch = (refl, refl)
 
 pub bad-mode : writeOf (sheetOf (layers 8 8 ++ (layer 1 4 0 0 0 0 0 400 none 0 0 ∷ layer 1 5 0 0 0 0 0 400 white 0 0 ∷ []))) [] 0 ≡ BadMode 6
-unfolding writeOf octets16 octets32 sheetOf encode layers judgeOf judge walk onStep stepOf keeps after after1 after2 after3 endOf records recordsFrom recordAt be16At be32At
+unfolding writeOf octets16 octets32 joined encode layers judgeOf judge walk onStep stepOf keeps after after1 after2 after3 endOf records recordAt be16At be32At
 bad-mode = refl

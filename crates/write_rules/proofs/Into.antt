@@ -10,6 +10,7 @@ use lib.Dec.{ltb}
 use borrow.Author.Tests.{le-ltb, ltb-false}
 use Rattle.octets.specs.Octets.{Octets, putAt}
 use Rattle.octets.proofs.Laws.{put-rest, put-length}
+use Rattle.page_rules.specs.Kinds.{longestPage}
 use Rattle.laws.proofs.Cases.{cond-with, clash}
 use Rattle.answers.specs.declared.Answer.the-variants.{Done}
 use Rattle.field_rules.specs.Field.{Res, ok, no}
@@ -32,18 +33,18 @@ pub tally-size : (s d : List ℕ) (u : Tally) → Tallied s d u → u .size ≡ 
 tally-size s d u k =
     k .passed .size ∙ size-threes (sheet-threes (records s) (k .sheet) (k .three) (headBy (records s) u) refl refl) (k .sheet .complete .count)
 
-pub size-done : (room size n : ℕ) → sizeAnswer room size ≡ Done n → (n ≡ size) × (size ≤ 16777215) × (size ≤ room)
+pub size-done : (room size n : ℕ) → sizeAnswer room size ≡ Done n → (n ≡ size) × (size ≤ longestPage) × (size ≤ room)
 unfolding sizeAnswer
 size-done room size n =
-    cond-with (λ x. x ≡ Done n → (n ≡ size) × (size ≤ 16777215) × (size ≤ room)) (ltb 16777215 size) (λ t q. clash cc) λ t.
-    cond-with (λ x. x ≡ Done n → (n ≡ size) × (size ≤ 16777215) × (size ≤ room)) (ltb room size) (λ u q. clash cc)
-    (λ u q. let z : size ≡ n = cc in (sym z, ltb-false 16777215 size t, ltb-false room size u))
+    cond-with (λ x. x ≡ Done n → (n ≡ size) × (size ≤ longestPage) × (size ≤ room)) (ltb longestPage size) (λ t q. clash cc) λ t.
+    cond-with (λ x. x ≡ Done n → (n ≡ size) × (size ≤ longestPage) × (size ≤ room)) (ltb room size) (λ u q. clash cc)
+    (λ u q. let z : size ≡ n = cc in (sym z, ltb-false longestPage size t, ltb-false room size u))
 
 pub record Into (s d p : List ℕ) (n : ℕ) : Type 0 where
   pub u : Tally
   pub accepted : Tallied s d u
   pub size : u .size ≡ n
-  pub short : n ≤ 16777215
+  pub short : n ≤ longestPage
   pub fits : n ≤ length p
   pub into : writeInto s d p ≡ putAt p 0 (pageBy d (records s) u)
 
@@ -63,7 +64,7 @@ done-into s d p o n = by (verdictOf s d) refl
           size = sym z0;
           short = omega arith;
           fits = omega arith;
-          into = ap (intoBy p d (records s)) e ∙ simp (le-ltb 16777215 (u .size) z1, le-ltb (length p) (u .size) z2);
+          into = ap (intoBy p d (records s)) e ∙ simp (le-ltb longestPage (u .size) z1, le-ltb (length p) (u .size) z2);
         }
     by (no a) e q = absurd (verdict-refused s d o (length p) a e .not-done n q)
 

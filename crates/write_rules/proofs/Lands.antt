@@ -17,7 +17,7 @@ use Rattle.jpeg_rules.specs.Grammar.{Layer}
 use Rattle.page_rules.specs.declared.Head.{Head}
 use Rattle.page_rules.specs.Kinds.{hasBack, hasMask, hasFore, maskRecord}
 use Rattle.page_rules.specs.Grammar.{headOf, Widths, GoodFields, Image, recordsOf, Stripe, Stripes, last, next}
-use Rattle.page_rules.proofs.Accepted.{length-head}
+use Rattle.page_rules.proofs.Parts.{length-head}
 use Rattle.write_rules.specs.Layer.{layerOctets}
 use Rattle.write_rules.specs.Writing.{typeBy, fieldsBy, stripeBy, stripesBy}
 use Rattle.write_rules.specs.Form.{bare, TrimStripe, Trim}

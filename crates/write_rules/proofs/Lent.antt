@@ -5,9 +5,8 @@ use native.Mathlib.Omega.{arith}
 use mathlib.Core.Path.{_≡_, refl, sym, ap, subst, _∙_}
 use mathlib.Core.Logic.{inl, inr, _≢_, ⊎-elim}
 use mathlib.Core.Bool.{Bool, true, false, not, cond}
-use mathlib.Core.List.{List, [], _∷_, _++_, List·Memᴰ·cases-cons, List·Memᴰ·not-nil, List·Memᴰ·append-cases}
-use lib.ListN.{length, take, drop, length-append}
-use lib.Seq.{take-at}
+use mathlib.Core.List.{List, _++_, List·Memᴰ·not-nil, List·Memᴰ·append-cases}
+use lib.ListN.{length, length-append}
 use borrow.Author.Tests.{eq-eqb, ne-eqb}
 use Rattle.sheet_rules.specs.declared.Record.{Record}
 use Rattle.sheet_rules.specs.Record.{nth, sumOf}
@@ -16,12 +15,10 @@ use Rattle.sheet_rules.specs.Sentences.{Among, Coded}
 use Rattle.sheet_rules.proofs.Among.{sum-append}
 use Rattle.page_rules.specs.declared.Head.{Head}
 use Rattle.page_rules.specs.declared.LayerData.{LayerData}
-use Rattle.page_rules.specs.declared.LayerData.the-variants.{There, Absent}
 use Rattle.page_rules.specs.Kinds.{hasBack, hasMask, hasFore, imageRecord, maskRecord}
 use Rattle.sheet_rules.specs.declared.Colour.{Colour}
-use Rattle.page_rules.specs.Grammar.{headOf, Image, there, absent, Stripe, Stripes, last, next}
-use Rattle.page_rules.proofs.Accepted.{length-head}
-use Rattle.write_rules.specs.Layer.{layerOctets}
+use Rattle.page_rules.specs.Grammar.{Image, there, absent, Stripe, Stripes, last, next}
+use Rattle.page_rules.proofs.Parts.{backIn, foreIn, stripe-each, stripe-length, image-place}
 use Rattle.write_rules.proofs.Passed.{sizeIn}
 use Rattle.write_rules.proofs.Sizes.{size-first, size-other}
 
@@ -49,36 +46,22 @@ mask-lent hd k height at n true z =
 mask-lent hd k height at n false z =
     record { low = omega arith; mask = λ d e. absurd (d (z refl)); image = λ d e. absurd (e refl); base = (omega arith, omega arith, omega arith); offset = (omega arith, omega arith) }
 
-stripe-lent : (hd : Head) (k left at : ℕ) (l : List ℕ) (height : ℕ) (rs : List Record) → Stripe hd k left at l height rs → (r : Record) → Among r rs → Lent hd r
-stripe-lent hd k left at l height rs z r m =
+stripe-lent : {hd : Head} {k left at : ℕ} {l : List ℕ} {height : ℕ} {rs : List Record} → Stripe hd k left at l height rs → (r : Record) → Among r rs → Lent hd r
+stripe-lent {hd} {k} {left} {at} z =
     let f = z .fields in
     let g = z .good in
     let w = z .widths in
-    let m′ = subst (λ (x : List Record). Among r x) (z .records) m in
-    ⊎-elim
-    (λ (y : r ≡ imageRecord hd k 1 (f .back) (f .backX) (f .backY) (z .backIs)).
-    subst (Lent hd) (sym y)
+    stripe-each z (Lent hd)
     (image-lent hd k 1 (at + 39 + length (z .mask)) (f .back) (f .backX) (f .backY) (hasBack (f .type)) (z .back) (z .backIs) (z .backThere) (omega arith) (λ e. omega arith)
-    (λ e. g .imageCoder (inl e)) (w .back) (g .back)))
-    (λ m2.
-    ⊎-elim
-    (λ (y : r ≡ maskRecord hd k (f .height) (cond (hasMask (f .type)) (hd .mask) 0) (cond (hasMask (f .type)) (at + 39) 0) (f .maskLength)).
-    subst (Lent hd) (sym y) (mask-lent hd k (f .height) (at + 39) (f .maskLength) (hasMask (f .type)) (g .mask .1)))
-    (λ m3.
-    ⊎-elim
-    (λ (y : r ≡ imageRecord hd k 3 (f .fore) (f .foreX) (f .foreY) (z .foreIs)).
-    subst (Lent hd) (sym y)
+    (λ e. g .imageCoder (inl e)) (w .back) (g .back))
+    (mask-lent hd k (f .height) (at + 39) (f .maskLength) (hasMask (f .type)) (g .mask .1))
     (image-lent hd k 3 (at + 39 + length (z .mask) + length (z .back)) (f .fore) (f .foreX) (f .foreY) (hasFore (f .type)) (z .fore) (z .foreIs) (z .foreThere) (omega arith)
-    (λ e. omega arith) (λ e. g .imageCoder (inr e)) (w .fore) (g .fore)))
-    (λ m4. absurd (List·Memᴰ·not-nil m4))
-    (List·Memᴰ·cases-cons m3))
-    (List·Memᴰ·cases-cons m2))
-    (List·Memᴰ·cases-cons m′)
+    (λ e. omega arith) (λ e. g .imageCoder (inr e)) (w .fore) (g .fore))
 
 pub stripes-lent : {hd : Head} {k left at : ℕ} {l : List ℕ} {rs : List Record} → Stripes hd k left at l rs → (r : Record) → Among r rs → Lent hd r
 stripes-lent (last some) r m = absurd (List·Memᴰ·not-nil m)
-stripes-lent {hd} {k} {left} {at} (next {l = l} {rs = rs} height few z rest) r m =
-    ⊎-elim (λ m1. stripe-lent hd k left at l height rs z r m1) (λ m2. stripes-lent rest r m2) (List·Memᴰ·append-cases rs m)
+stripes-lent (next {rs = rs} height few z rest) r m =
+    ⊎-elim (λ m1. stripe-lent z r m1) (λ m2. stripes-lent rest r m2) (List·Memᴰ·append-cases rs m)
 
 -- ---- the second record is layer 2 of the first stripe: it has the page's main resolution and width
 
@@ -104,22 +87,6 @@ unfolding maskRecord
 coded-mask hd k height c at n true m = ap not (ne-eqb n 0 (m .0 refl))
 coded-mask hd k height c at n false m = ap not (eq-eqb n 0 (m .1 refl))
 
-pub image-data : (hd : Head) (s : List ℕ) (k l at : ℕ) (base : Colour) (x y : ℕ) (b : Bool) (o more : List ℕ) (c : LayerData) → Image (hd .main) at b o c → drop at s ≡ o ++ more
-    → layerOctets s (imageRecord hd k l base x y c) ≡ o
-unfolding imageRecord
-image-data hd s k l at base x y b o more c (there z) e = ap (take (length o)) e ∙ take-at o more (length o) refl
-image-data hd s k l at base x y b o more c absent e = refl
-
-no-octets : (o : List ℕ) → length o ≡ 0 → [] ≡ o
-no-octets [] e = refl
-no-octets (x ∷ o) e = absurd (omega arith)
-
-pub mask-data : (hd : Head) (s : List ℕ) (k height c at n : ℕ) (b : Bool) (o more : List ℕ) → length o ≡ n → (b ≡ false → n ≡ 0) → drop at s ≡ o ++ more
-    → layerOctets s (maskRecord hd k height c (cond b at 0) n) ≡ o
-unfolding maskRecord
-mask-data hd s k height c at n true o more l z e = ap (take n) e ∙ take-at o more n l
-mask-data hd s k height c at n false o more l z e = ap (λ (j : ℕ). take j s) (z refl) ∙ no-octets o (l ∙ z refl)
-
 -- ---- their octets are as many as the writer counts
 
 image-size : (hd : Head) (k l at : ℕ) (base : Colour) (x y : ℕ) (b : Bool) (o : List ℕ) (c : LayerData) → Image (hd .main) at b o c → imageRecord hd k l base x y c .len ≡ length o
@@ -127,28 +94,17 @@ unfolding imageRecord
 image-size hd k l at base x y b o c (there z) = refl
 image-size hd k l at base x y b o c absent = refl
 
-image-layer : (hd : Head) (k l : ℕ) (base : Colour) (x y : ℕ) (c : LayerData) → imageRecord hd k l base x y c .layer ≡ l
-unfolding imageRecord
-image-layer hd k l base x y (There a n w h r) = refl
-image-layer hd k l base x y Absent = refl
-
 stripe-size : (hd : Head) (k left at : ℕ) (l : List ℕ) (height : ℕ) (rs : List Record) → Stripe hd k left at l height rs → sumOf sizeIn rs ≡ length l
 unfolding sumOf maskRecord
 stripe-size hd k left at l height rs z =
     let f = z .fields in
-    let r1 : Record = imageRecord hd k 1 (f .back) (f .backX) (f .backY) (z .backIs) in
-    let r3 : Record = imageRecord hd k 3 (f .fore) (f .foreX) (f .foreY) (z .foreIs) in
-    let l3 = image-layer hd k 3 (f .fore) (f .foreX) (f .foreY) (z .foreIs) in
-    let s1 = size-first r1 (image-layer hd k 1 (f .back) (f .backX) (f .backY) (z .backIs)) in
-    let s3 = size-other r3 (λ e. omega arith) in
+    let l3 = image-place hd k 3 (f .fore) (f .foreX) (f .foreY) (z .foreIs) .1 in
+    let s1 = size-first (backIn z) (image-place hd k 1 (f .back) (f .backX) (f .backY) (z .backIs) .1) in
+    let s3 = size-other (foreIn z) (λ e. omega arith) in
     let e1 = image-size hd k 1 (at + 39 + length (z .mask)) (f .back) (f .backX) (f .backY) (hasBack (f .type)) (z .back) (z .backIs) (z .backThere) in
     let e3 = image-size hd k 3 (at + 39 + length (z .mask) + length (z .back)) (f .fore) (f .foreX) (f .foreY) (hasFore (f .type)) (z .fore) (z .foreIs) (z .foreThere) in
     let n = z .size in
-    let a1 = ap length (z .octets) in
-    let a2 = length-append (headOf f) (z .mask ++ (z .back ++ z .fore)) in
-    let a3 = length-append (z .mask) (z .back ++ z .fore) in
-    let a4 = length-append (z .back) (z .fore) in
-    let a5 = length-head f in
+    let a = stripe-length z in
     ap (sumOf sizeIn) (z .records) ∙ omega arith
 
 pub stripes-size : {hd : Head} {k left at : ℕ} {l : List ℕ} {rs : List Record} → Stripes hd k left at l rs → sumOf sizeIn rs ≡ length l

@@ -112,7 +112,7 @@ used-mask r rs k = record { it = k .it; among = List·Memᴰ·tail (k .among); m
 used-image : (r : Record) (rs : List Record) → UsedImage rs → UsedImage (r ∷ rs)
 used-image r rs k = record { it = k .it; among = List·Memᴰ·tail (k .among); image = k .image; coded = k .coded }
 
--- what holds of the first and of each behind it holds of each
+-- what holds of the first and of each after it holds of each
 each : (r : Record) (rs : List Record) (P : Record → Type 0) → P r → ((q : Record) → Among q rs → P q) → (q : Record) → Among q (r ∷ rs) → P q
 each r rs P one more q m = ⊎-elim (λ (e : q ≡ r). subst P (sym e) one) (λ m2. more q m2) (List·Memᴰ·cases-cons m)
 

@@ -1,6 +1,6 @@
 -- What is proved of writing a page. The statements are for the reader; how each is shown stands in the files beside this one.
 -- Assumes nothing.
-use Prim.Native.Nat.{ℕ, _+_, _*_, _/_, _≤_}
+use Prim.Native.Nat.{ℕ, _+_, _*_, _≤_}
 use native.Mathlib.Omega.{arith}
 use mathlib.Core.Path.{_≡_, refl, sym, ap, subst, _∙_}
 use mathlib.Core.Logic.{_↔_, _⊎_, inl, inr}
@@ -9,6 +9,7 @@ use lib.ListN.{length, take, drop, length-map}
 use lib.Dec.{ltb}
 use borrow.Author.Tests.{le-ltb}
 use Rattle.octets.specs.Octets.{Octets, putAt}
+use Rattle.page_rules.specs.Kinds.{longestPage}
 use Rattle.laws.proofs.Cases.{cond-both}
 use Rattle.answers.specs.declared.Answer.{Answer}
 use Rattle.answers.specs.declared.Answer.the-variants.{Done, Short, BadMode, NoRoom, BadSheet, Mismatch, TooLong}
@@ -17,17 +18,17 @@ use Rattle.field_rules.specs.Field.{Res, ok, no}
 use Rattle.sheet_rules.specs.declared.Record.{Record}
 use Rattle.sheet_rules.specs.Record.{recordSize, records, sheetOf}
 use Rattle.sheet_rules.specs.Sentences.{Sheet}
-use Rattle.sheet_rules.proofs.Cut.{length-records, sheet-back, sheet-whole}
+use Rattle.sheet_rules.proofs.Cut.{sheet-back, sheet-whole, records-count}
 use Rattle.sheet_rules.proofs.Theorems.{sheet-refused, refused-few}
 use Rattle.page_rules.specs.Grammar.{Page}
 use Rattle.page_rules.specs.Reading.{pageOf, roomOf, readOf, intoOf, readInto}
 use Rattle.page_rules.proofs.There.{page-there}
 use Rattle.page_rules.proofs.Back.{page-back}
 use Rattle.write_rules.specs.declared.Tally.{Tally}
-use Rattle.write_rules.specs.Writing.{begun, sheetMain, verdictOf, pageBy, sizeAnswer, answerBy, writeOf, intoBy, writeInto}
+use Rattle.write_rules.specs.Writing.{begun, verdictOf, pageBy, sizeAnswer, answerBy, writeOf, intoBy, writeInto}
 use Rattle.write_rules.specs.Layer.{layerOctets}
 use Rattle.write_rules.specs.Form.{bare, Lands, Formed}
-use Rattle.write_rules.specs.Sentences.{Fine, Low, sizeOf, Sound, Gives, no-sheet, above-3, passing, differing, too-long, no-room, written}
+use Rattle.write_rules.specs.Sentences.{Fine, Low, sizeOf, Sound, Gives, no-sheet, above-3, passing, differing, too-long, no-room, written, sheetMain}
 use Rattle.write_rules.proofs.Passed.{Passed}
 use Rattle.write_rules.proofs.Exactly.{write-gives, gives-write}
 use Rattle.write_rules.proofs.Written.{records-sized}
@@ -48,10 +49,10 @@ pub record WriteRefusal (n : ℕ) (a : Answer) : Type 0 where
   pub place : placeOf a ≤ n
 
 gives-refusal : (s d : List ℕ) (room : ℕ) (a : Answer) → Gives s d room a → ((n : ℕ) → a ≡ Done n → ⊥) → WriteRefusal (length (records s)) a
-unfolding placeOf records
+unfolding placeOf
 gives-refusal s d room (BadSheet i) (no-sheet k) h =
     let f = refused-few s i (sheet-refused s i .1 k) .1 in
-    let l = length-records s (length s / recordSize) 0 in
+    let l = records-count s in
     record { kind = inl refl; place = omega arith }
 gives-refusal s d room (BadMode i) (above-3 a k) h = let w = k .within in record { kind = inr (inl refl); place = omega arith }
 gives-refusal s d room (Short i) (passing a low k) h = let w = k .within in record { kind = inr (inr (inl refl)); place = omega arith }
@@ -74,7 +75,7 @@ refused-kept s d p = by (verdictOf s d)
   where
     by : (r : Res Tally) → ((n : ℕ) → answerBy (length p) r ≡ Done n → ⊥) → intoBy p d (records s) r ≡ p
     by (ok u m) =
-        cond-both (λ x y. ((n : ℕ) → x ≡ Done n → ⊥) → y ≡ p) (ltb 16777215 (u .size)) (λ t h. refl) λ t.
+        cond-both (λ x y. ((n : ℕ) → x ≡ Done n → ⊥) → y ≡ p) (ltb longestPage (u .size)) (λ t h. refl) λ t.
         cond-both (λ x y. ((n : ℕ) → x ≡ Done n → ⊥) → y ≡ p) (ltb (length p) (u .size)) (λ v h. refl) (λ v h. absurd (h (u .size) refl))
     by (no a) = λ h. refl
 
@@ -97,12 +98,12 @@ write-read s d p os o n q k t h =
     let i = done-into s d p o n q in
     let ln = into-size s d p o (records-sized s os) n i in
     let sh = i .short in
-    let small : length (take n (writeInto s d p)) ≤ 16777215 = omega arith in
+    let small : length (take n (writeInto s d p)) ≤ longestPage = omega arith in
     let same : length (k .records) ≡ length (records s) = sym (length-map (k .records) bare) ∙ ap length (k .same) ∙ length-map (records s) bare in
     let e = page-there (take n (writeInto s d p)) (k .records) (k .page) in
     let room : length (k .records) * recordSize ≤ length t = subst (λ (j : ℕ). j * recordSize ≤ length t) (sym same) h in (
-      simp (le-ltb 16777215 (length (take n (writeInto s d p))) small, e, le-ltb (length t) (length (k .records) * recordSize) room) (ap Done same),
-      simp (le-ltb 16777215 (length (take n (writeInto s d p))) small, e, le-ltb (length t) (length (k .records) * recordSize) room),
+      simp (le-ltb longestPage (length (take n (writeInto s d p))) small, e, le-ltb (length t) (length (k .records) * recordSize) room) (ap Done same),
+      simp (le-ltb longestPage (length (take n (writeInto s d p))) small, e, le-ltb (length t) (length (k .records) * recordSize) room),
     )
 
 -- ---- every page that is written has the writer's form
@@ -113,7 +114,7 @@ write-formed s d p os o n q = into-formed s d p o (records-sized s os) n (done-i
 
 -- ---- a page of at most 16,777,215 octets can be written from its sheet and itself, into a buffer as long as it is
 
-lent-done : (s : List ℕ) → Octets s → (rs : List Record) (y : Page s rs) → length s ≤ 16777215 → (room : ℕ) → length s ≤ room
+lent-done : (s : List ℕ) → Octets s → (rs : List Record) (y : Page s rs) → length s ≤ longestPage → (room : ℕ) → length s ≤ room
     → writeOf (sheetOf rs) s room ≡ Done (26 + length (y .stripes))
 lent-done s o rs y short room fits =
     let l = length-page s rs y in
@@ -129,7 +130,7 @@ lent-done s o rs y short room fits =
 
 -- a page in the writer's form comes back octet for octet
 
-pub formed-again : (s : List ℕ) → Octets s → (rs : List Record) → Formed s rs → length s ≤ 16777215 → (p : List ℕ) → length s ≤ length p
+pub formed-again : (s : List ℕ) → Octets s → (rs : List Record) → Formed s rs → length s ≤ longestPage → (p : List ℕ) → length s ≤ length p
     → (writeOf (sheetOf rs) s (length p) ≡ Done (length s)) × (writeInto (sheetOf rs) s p ≡ putAt p 0 s)
 formed-again s o rs f short p fits =
     let l = length-page s rs (f .page) in
@@ -167,7 +168,7 @@ pub record Again (s : List ℕ) (rs : List Record) (p : List ℕ) : Type 0 where
   pub same : map bare records ≡ map bare rs
   pub layers : map (layerOctets (take count (writeInto (sheetOf rs) s p))) records ≡ map (layerOctets s) rs
 
-pub read-write-read : (s : List ℕ) → Octets s → (rs : List Record) (n : ℕ) → pageOf s ≡ ok rs n → length s ≤ 16777215 → (p : List ℕ) → length s ≤ length p → Again s rs p
+pub read-write-read : (s : List ℕ) → Octets s → (rs : List Record) (n : ℕ) → pageOf s ≡ ok rs n → length s ≤ longestPage → (p : List ℕ) → length s ≤ length p → Again s rs p
 read-write-read s o rs n e short p fits =
     let y = page-back s o rs n e .0 in
     let l = length-page s rs y in

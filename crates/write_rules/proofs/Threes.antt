@@ -157,7 +157,7 @@ module _ (hd : Head) (k left : ℕ) (st : State) (rdy : Ready hd k left st) (a b
         choice = ⊎-elim (λ (e : c .layer ≢ 3). absurd (e lc)) (λ (e : ChoiceFacts (coded a) (coded b) (coded c)). e) (u .choice);
       }
 
-  -- the state behind them is ready for the next stripe
+  -- the state after them is ready for the next stripe
   pub ready-of : Ready hd (suc k) (left - b .height) (after3 (after2 (after1 st a) b) c)
   unfolding after3 after2 after1
   ready-of =

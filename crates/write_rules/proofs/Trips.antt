@@ -7,6 +7,7 @@ use mathlib.Core.Logic.{⊎-elim}
 use mathlib.Core.Bool.{true, false}
 use mathlib.Core.List.{List, _∷_, _++_}
 use lib.ListN.{length, length-append, length-replicate, replicate}
+use Rattle.page_rules.specs.Kinds.{longestPage}
 use Rattle.laws.proofs.Cases.{bool-else}
 use Rattle.sheet_rules.specs.declared.Record.{Record}
 use Rattle.sheet_rules.specs.Record.{records, sheetOf}
@@ -19,8 +20,7 @@ use Rattle.page_rules.proofs.There.{length-start}
 use Rattle.page_rules.proofs.Accepted.{page-accepted}
 use Rattle.page_rules.proofs.Named.{page-named}
 use Rattle.write_rules.specs.Layer.{layerOctets}
-use Rattle.write_rules.specs.Writing.{sheetMain}
-use Rattle.write_rules.specs.Sentences.{Fine, Low, sizeOf}
+use Rattle.write_rules.specs.Sentences.{Fine, Low, sizeOf, sheetMain}
 use Rattle.write_rules.proofs.Threes.{sheet-threes}
 use Rattle.write_rules.proofs.Sizes.{size-threes}
 use Rattle.write_rules.proofs.Placed.{uncoded-is}
@@ -40,7 +40,7 @@ length-page s rs y =
     let f = length-start (y .head) in
     omega arith
 
-module _ (s : List ℕ) (rs : List Record) (y : Page s rs) (short : length s ≤ 16777215) where
+module _ (s : List ℕ) (rs : List Record) (y : Page s rs) (short : length s ≤ longestPage) where
   lent : (r : Record) → Among r rs → Lent (y .head) r
   lent = stripes-lent (y .striped)
 

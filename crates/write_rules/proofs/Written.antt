@@ -8,6 +8,7 @@ use mathlib.Core.List.{List, [], _∷_, _++_, map, List·Memᴰ·head, List·Mem
 use lib.ListN.{length, drop, length-append}
 use Rattle.octets.specs.Octets.{Octets}
 use Rattle.octets.proofs.Laws.{drop-next, be16-bound, be32-bound, octets-append}
+use Rattle.octets.specs.Entries.{entriesFrom}
 use Rattle.laws.proofs.Cases.{clash}
 use Rattle.sheet_rules.specs.declared.Record.{Record}
 use Rattle.sheet_rules.specs.Record.{recordSize, recordAt, recordsFrom, records}
@@ -17,12 +18,12 @@ use Rattle.page_rules.specs.Grammar.{startOf, MaskCoder, GoodHead, no-more}
 use Rattle.page_rules.proofs.There.{length-start}
 use Rattle.write_rules.specs.declared.Tally.{Tally}
 use Rattle.write_rules.specs.Layer.{layerOctets}
-use Rattle.write_rules.specs.Writing.{begun, sheetMain, headBy, stripesBy, pageBy}
+use Rattle.write_rules.specs.Writing.{begun, headBy, stripesBy, pageBy}
 use Rattle.write_rules.specs.Form.{bare, UsedMask, UsedImage, Formed}
 use Rattle.write_rules.proofs.Agreed.{length-data}
 use Rattle.write_rules.proofs.Passed.{Passed}
 use Rattle.write_rules.proofs.Threes.{Threes, ended, another, sheet-threes}
-use Rattle.write_rules.specs.Sentences.{Low}
+use Rattle.write_rules.specs.Sentences.{Low, sheetMain}
 use Rattle.write_rules.proofs.Small.{close-octets, start-octets, stripes-octets}
 use Rattle.write_rules.proofs.Lands.{Sized, Ready, movedBy, stripes-land, moved-same, moved-data, length-stripes}
 
@@ -40,7 +41,7 @@ at-sized s o i =
     }
 
 from-sized : (s : List ℕ) → Octets s → (k i : ℕ) (r : Record) → Among r (recordsFrom s k i) → Sized r
-unfolding recordsFrom
+unfolding entriesFrom
 from-sized s o zero i r m = absurd (List·Memᴰ·not-nil m)
 from-sized s o (suc k) i r m = ⊎-elim (λ (e : r ≡ recordAt s i). subst Sized (sym e) (at-sized s o i)) (λ m2. from-sized s o k (i + 1) r m2) (List·Memᴰ·cases-cons m)
 

@@ -1,4 +1,4 @@
 pub mod Layer
-pub mod Writing
 pub mod Sentences
 pub mod Form
+pub mod Writing

@@ -1,5 +1,7 @@
--- Writing as sentences: when each answer is given (01, "Numbers that a call returns"), without the steps of Writing.antt.
+-- Writing as sentences: when each answer is given (01, "Numbers that a call returns"). What is written is said in Form.antt; the steps, in Writing.antt,
+-- come last.
 --
+--   sheetMain rs      the main resolution
 --   Fine main d rs    each coded record of rs has its data in the buffer d; an image layer's data is a JPEG layer of the record's width, height and
 --                     resolution; and the coded masks have one coder
 --   Low rs            no layer above 3
@@ -14,6 +16,7 @@ use mathlib.Core.Path.{_≡_}
 use mathlib.Core.Logic.{_≢_}
 use mathlib.Core.List.{List}
 use lib.ListN.{length, take}
+use Rattle.page_rules.specs.Kinds.{longestPage}
 use Rattle.answers.specs.declared.Answer.{Answer}
 use Rattle.answers.specs.declared.Answer.the-variants.{Done, Short, BadMode, NoRoom, BadSheet, Mismatch, TooLong}
 use Rattle.sheet_rules.specs.declared.Record.{Record}
@@ -21,7 +24,10 @@ use Rattle.sheet_rules.specs.Record.{records, rest, nth, sumOf}
 use Rattle.sheet_rules.specs.Sentences.{Among, Coded, Sheet, stripeCount, Accepted, BadSheetAt}
 use Rattle.jpeg_rules.specs.Grammar.{Layer}
 use Rattle.write_rules.specs.Layer.{layerOctets}
-use Rattle.write_rules.specs.Writing.{sheetMain}
+
+-- the main resolution is that of layer 2, the second record
+abbrev pub sheetMain : List Record → ℕ
+sheetMain rs = nth rs 1 .res
 
 pub record Fine (main : ℕ) (d : List ℕ) (rs : List Record) : Type 0 where
   pub fits : (r : Record) → Among r rs → Coded r → r .start + r .len ≤ length d
@@ -68,6 +74,6 @@ pub data Gives (s d : List ℕ) (room : ℕ) : Answer → Type 0 where
   above-3 : {i : ℕ} → Accepted s → ModeAt (records s) i → Gives s d room (BadMode i)
   passing : {i : ℕ} → Accepted s → Low (records s) → ShortAt (sheetMain (records s)) d (records s) i → Gives s d room (Short i)
   differing : {i : ℕ} → Accepted s → Low (records s) → MismatchAt (sheetMain (records s)) d (records s) i → Gives s d room (Mismatch i)
-  too-long : Sound s d → 16777215 < sizeOf (records s) → Gives s d room TooLong
-  no-room : Sound s d → sizeOf (records s) ≤ 16777215 → room < sizeOf (records s) → Gives s d room NoRoom
-  written : {n : ℕ} → Sound s d → n ≡ sizeOf (records s) → n ≤ 16777215 → n ≤ room → Gives s d room (Done n)
+  too-long : Sound s d → longestPage < sizeOf (records s) → Gives s d room TooLong
+  no-room : Sound s d → sizeOf (records s) ≤ longestPage → room < sizeOf (records s) → Gives s d room NoRoom
+  written : {n : ℕ} → Sound s d → n ≡ sizeOf (records s) → n ≤ longestPage → n ≤ room → Gives s d room (Done n)

@@ -1,18 +1,19 @@
--- Writing a Mode 1 page from a sheet and the buffer that its starts point into (01, the writer and its order, under "Numbers that a call returns").
+-- The steps of writing a Mode 1 page from a sheet and the buffer that its starts point into (01, the writer and its order, under "Numbers that a call
+-- returns"). Read Sentences.antt and Form.antt first, which say when each answer is given and what is written: `write-exactly` and the theorems beside it
+-- (proofs/Theorems.antt) tie these steps to them.
 --
 --   modeFrom i rs          BadMode at the first record above layer 3, the records being numbered from i
 --   begun, counted         the tally before the first record, and with one more
 --   matches d main t r     a record's data agrees with it, and its coder with that of the masks before
 --   recordStep             one record: Short before Mismatch
 --   recordsPass            each record in order
---   sheetMain rs           the main resolution
 --   verdictOf s d          the sheet, the mode, the records: what the page will be, or the refusal; verdictBy: by the judge's verdict
 --   typeBy, colourBy       a stripe's type by which of its layers are coded, and a record's base colour
 --   fieldsBy a b c         the fields of a stripe whose layers 1 to 3 have the records a, b and c
 --   stripeBy, stripesBy    a stripe with its coded layers, and all of them
 --   headBy rs t            what the start of page says
 --   pageBy d rs t          the page's octets
---   sizeAnswer room size   behind the verdict: TooLong, NoRoom, or Done
+--   sizeAnswer room size   after the verdict: TooLong, NoRoom, or Done
 --   writeOf s d room       what the call answers, where the page's buffer holds so many octets
 --   writeInto s d p        what the buffer p holds afterwards
 --   Writes s d p a e       the call's promise: it answers a, and the buffer p is then e
@@ -23,6 +24,7 @@ use mathlib.Core.List.{List, [], _∷_, _++_}
 use lib.ListN.{length}
 use lib.Dec.{eqb, ltb}
 use Rattle.octets.specs.Octets.{putAt}
+use Rattle.write_rules.specs.Sentences.{sheetMain}
 use Rattle.answers.specs.declared.Answer.{Answer}
 use Rattle.answers.specs.declared.Answer.the-variants.{Done, Short, BadMode, NoRoom, Mismatch, TooLong}
 use Rattle.field_rules.specs.Field.{Res, ok, no, bind}
@@ -33,7 +35,7 @@ use Rattle.sheet_rules.specs.Record.{records, nth}
 use Rattle.laws.specs.Tests.{only}
 use Rattle.sheet_rules.specs.Judge.{coded, judgeOf, answerOf}
 use Rattle.page_rules.specs.declared.Head.{Head}
-use Rattle.page_rules.specs.Kinds.{Fields}
+use Rattle.page_rules.specs.Kinds.{Fields, longestPage}
 use Rattle.sheet_rules.specs.declared.Colour.{Colour}
 use Rattle.page_rules.specs.Grammar.{startOf, headOf}
 use Rattle.write_rules.specs.declared.Tally.{Tally}
@@ -83,10 +85,6 @@ recordsPass d main t i [] = ok t i
 recordsPass d main t i (r ∷ rs) = bind (recordStep d main t i r) (λ (u : Tally) (n : ℕ). recordsPass d main u n rs)
 
 -- ---- the verdict: BadSheet, BadMode, each record
-
--- the main resolution is that of layer 2, the second record
-abbrev pub sheetMain : List Record → ℕ
-sheetMain rs = nth rs 1 .res
 
 unfoldable pub verdictBy : Verdict → List ℕ → List Record → Res Tally
 unfolding bind modeFrom recordsPass
@@ -142,10 +140,10 @@ unfoldable pub pageBy : List ℕ → List Record → Tally → List ℕ
 unfolding stripesBy
 pageBy d rs t = startOf (headBy rs t) ++ (stripesBy d rs ++ (0xFF ∷ 0xD9 ∷ 0xFF ∷ 0xD9 ∷ []))
 
--- ---- the call: behind the verdict TooLong, then NoRoom
+-- ---- the call: after the verdict TooLong, then NoRoom
 
 unfoldable pub sizeAnswer : ℕ → ℕ → Answer
-sizeAnswer room size = cond (ltb 16777215 size) TooLong (cond (ltb room size) NoRoom (Done size))
+sizeAnswer room size = cond (ltb longestPage size) TooLong (cond (ltb room size) NoRoom (Done size))
 
 unfoldable pub answerBy : ℕ → Res Tally → Answer
 unfolding sizeAnswer
@@ -159,7 +157,7 @@ writeOf s d room = answerBy room (verdictOf s d)
 -- the page in front, and the octets past it as they were; a refusal changes nothing
 unfoldable pub intoBy : List ℕ → List ℕ → List Record → Res Tally → List ℕ
 unfolding pageBy
-intoBy p d rs (ok t n) = cond (ltb 16777215 (t .size)) p (cond (ltb (length p) (t .size)) p (putAt p 0 (pageBy d rs t)))
+intoBy p d rs (ok t n) = cond (ltb longestPage (t .size)) p (cond (ltb (length p) (t .size)) p (putAt p 0 (pageBy d rs t)))
 intoBy p d rs (no a) = p
 
 unfoldable pub writeInto : List ℕ → List ℕ → List ℕ → List ℕ

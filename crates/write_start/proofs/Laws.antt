@@ -1,4 +1,4 @@
--- Octets put one behind the other are put together.
+-- Octets put one after the other are put together.
 -- Assumes nothing.
 use Prim.Native.Nat.{ℕ, _+_, _≤_}
 use native.Mathlib.Omega.{arith}
@@ -12,7 +12,7 @@ use Rattle.page_rules.specs.declared.Head.{Head}
 use Rattle.page_rules.specs.Grammar.{startOf}
 use Rattle.write_start.specs.Parts.{startMark, startFields}
 
--- what was put from a place on, and one more behind it
+-- what was put from a place on, and one more after it
 pub put-more : (d : List ℕ) (at : ℕ) (l : List ℕ) {e f : List ℕ} (p : ℕ) (v : List ℕ) → at ≤ length d → e ≡ putAt d at l → p ≡ at + length l → f ≡ putAt e p v
     → f ≡ putAt d at (l ++ v)
 put-more d at l p v h e q f = f ∙ rw (e, q) (put-put d at l v h)

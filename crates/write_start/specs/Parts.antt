@@ -1,4 +1,4 @@
--- The parts in which the start of page is put: up to its ident, and behind it.
+-- The parts in which the start of page is put: up to its ident, and after it.
 use mathlib.Core.List.{List, [], _∷_, _++_}
 use Prim.Native.Nat.{ℕ}
 use Rattle.octets.specs.Octets.{octets16, octets32}

@@ -1,4 +1,4 @@
--- A stripe's head and its layers, put one behind the other, are the stripe put.
+-- A stripe's head and its layers, put one after the other, are the stripe put.
 -- Assumes nothing.
 use Prim.Native.Nat.{ℕ, _+_, _≤_}
 use native.Mathlib.Omega.{arith}

@@ -15,7 +15,7 @@ fn put_layer(out: &mut [u8], at: usize, d: &[u8], r: Record)
     octets_put::copy_range(out, at, d, r.start as usize, r.len as usize);
 }
 
-// 01: the coded layers present stand in the order mask, background, foreground; of an absent one there are no octets. Answers the place behind them.
+// 01: the coded layers present stand in the order mask, background, foreground; of an absent one there are no octets. Answers the place after them.
 pub fn put_stripe(out: &mut [u8], at: usize, d: &[u8], a: Record, b: Record, c: Record) -> usize
     requires { ⌜ Placed (now out) at (now d) a b c ⌝ }
     ensures put { λ _. ⌜ now (out .exit) ≡ putAt (now (out .entry)) at (stripeBy (now (d .entry)) a b c) ⌝ }

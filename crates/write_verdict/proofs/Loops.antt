@@ -1,6 +1,6 @@
 -- The loops over the records: what is to come, from here on, is the whole.
 -- Assumes nothing.
-use Prim.Native.Nat.{ℕ, suc, _+_, _-_, _*_, _/_, _≤_, _<_}
+use Prim.Native.Nat.{ℕ, _+_, _-_, _*_, _/_, _≤_, _<_}
 use native.Mathlib.Omega.{arith}
 use mathlib.Core.Path.{_≡_, refl, sym, ap, subst, _∙_}
 use mathlib.Core.List.{List, [], _∷_}
@@ -13,6 +13,7 @@ use mir.Val.{Fits}
 use Rattle.laws.proofs.Cases.{cond-with, clash}
 use Rattle.octets.specs.Octets.{Octets, be32At}
 use Rattle.octets.proofs.Laws.{be32-bound}
+use Rattle.octets.proofs.Entries.{entries-next, entries-none}
 use Rattle.answers.specs.declared.Answer.{Answer}
 use Rattle.answers.specs.declared.Answer.the-variants.{BadMode, BadSheet}
 use Rattle.answers.specs.Answers.{placeOf}
@@ -26,21 +27,14 @@ use Rattle.sheet_rules.specs.Judge.{judgeOf, answerOf}
 use Rattle.sheet_rules.proofs.Cut.{second-blank, second-read}
 use Rattle.sheet_rules.proofs.Theorems.{sheet-few, refused-few}
 use Rattle.write_rules.specs.declared.Tally.{Tally}
-use Rattle.write_rules.specs.Writing.{counted, matches, recordStep, modeFrom, begun, sheetMain, recordsPass, verdictBy, verdictOf}
+use Rattle.write_rules.specs.Sentences.{sheetMain}
+use Rattle.write_rules.specs.Writing.{counted, matches, recordStep, modeFrom, begun, recordsPass, verdictBy, verdictOf}
 use Rattle.write_verdict.specs.declared.Pass.{Pass}
 use Rattle.write_verdict.specs.declared.Pass.the-variants.{Next}
 use Rattle.write_verdict.specs.declared.Mode.{Mode}
 use Rattle.write_verdict.specs.declared.Mode.the-variants.{Low, Above}
 use Rattle.write_verdict.specs.Pass.{passOf, modeOf, Few, Taken, acceptedOf}
 use Rattle.write_verdict.proofs.Laws.{only-small}
-
-records-more : (s : List ℕ) (n i : ℕ) → i < n → recordsFrom s (n - i) i ≡ recordAt s i ∷ recordsFrom s (n - (i + 1)) (i + 1)
-unfolding recordsFrom
-records-more s n i h = let p : n - i ≡ suc (n - (i + 1)) = omega arith in ap (λ (k : ℕ). recordsFrom s k i) p
-
-records-none : (s : List ℕ) (n i : ℕ) → n ≤ i → recordsFrom s (n - i) i ≡ []
-unfolding recordsFrom
-records-none s n i h = let p : n - i ≡ 0 = omega arith in ap (λ (k : ℕ). recordsFrom s k i) p
 
 all-records : (s : List ℕ) (n : ℕ) → Few s n → records s ≡ recordsFrom s (n - 0) 0
 unfolding records
@@ -62,12 +56,12 @@ module _ (s d : List ℕ) (main n : ℕ) (f : Few s n) where
 
     pub pass-over : n ≤ i → Next t ≡ passOf (recordsPass d main begun 0 (records s))
     unfolding recordsPass passOf
-    pass-over l = sym (ap passOf (p .same ∙ ap (recordsPass d main t i) (records-none s n i l)))
+    pass-over l = sym (ap passOf (p .same ∙ ap (recordsPass d main t i) (entries-none (recordAt s) n i l)))
 
     module _ (l : i < n) {r : Record} (e : r ≡ recordAt s i) {x : Pass} (g : x ≡ passOf (recordStep d main t i r)) where
       on : recordsPass d main begun 0 (records s) ≡ bind (recordStep d main t i r) (λ (u : Tally) (k : ℕ). recordsPass d main u k (recordsFrom s (n - (i + 1)) (i + 1)))
       unfolding recordsPass
-      on = p .same ∙ ap (recordsPass d main t i) (records-more s n i l) ∙ rw e refl
+      on = p .same ∙ ap (recordsPass d main t i) (entries-next (recordAt s) n i l) ∙ rw e refl
 
       by-wrong : (y : Res Tally) (a : Answer) → recordStep d main t i r ≡ y → passOf y ≡ Pass.Refused a → recordsPass d main begun 0 (records s) ≡ no a
       unfolding passOf bind
@@ -116,14 +110,14 @@ module _ (s : List ℕ) (n : ℕ) (f : Few s n) where
   module _ (i : ℕ) (p : Looking s n i) where
     pub mode-low : n ≤ i → Low ≡ modeOf (modeFrom 0 (records s))
     unfolding modeFrom modeOf
-    mode-low l = sym (ap modeOf (p .same ∙ ap (modeFrom i) (records-none s n i l)))
+    mode-low l = sym (ap modeOf (p .same ∙ ap (modeFrom i) (entries-none (recordAt s) n i l)))
 
     module _ (l : i < n) {r : Record} (e : r ≡ recordAt s i) where
       pub mode-on : r .layer ≤ 3 → Looking s n (i + 1)
       unfolding modeFrom
       mode-on h =
           record {
-            same = p .same ∙ ap (modeFrom i) (records-more s n i l) ∙ simp (ap (λ (x : Record). ltb 3 (x .layer)) (sym e) ∙ le-ltb 3 (r .layer) h);
+            same = p .same ∙ ap (modeFrom i) (entries-next (recordAt s) n i l) ∙ simp (ap (λ (x : Record). ltb 3 (x .layer)) (sym e) ∙ le-ltb 3 (r .layer) h);
             within = omega arith;
           }
 
@@ -131,15 +125,15 @@ module _ (s : List ℕ) (n : ℕ) (f : Few s n) where
       unfolding modeFrom modeOf placeOf
       mode-above h =
           let q : modeFrom i (recordAt s i ∷ recordsFrom s (n - (i + 1)) (i + 1)) ≡ no (BadMode i) = simp (ap (λ (x : Record). ltb 3 (x .layer)) (sym e) ∙ lt-ltb 3 (r .layer) h) in
-          sym (ap modeOf (p .same ∙ ap (modeFrom i) (records-more s n i l) ∙ q))
+          sym (ap modeOf (p .same ∙ ap (modeFrom i) (entries-next (recordAt s) n i l) ∙ q))
 
 pub ruleset mode-laws = (needs, mode-begun, mode-fits, mode-low, mode-on, mode-above)
 
 -- ---- main_of
-pub main-none : (s : List ℕ) → length s < 56 → 0 ≡ sheetMain (records s)
+pub main-none : (s : List ℕ) → length s < 2 * recordSize → 0 ≡ sheetMain (records s)
 main-none s l = ap (λ (x : Record). x .res) (second-blank s l)
 
-pub main-read : (s : List ℕ) {r : Record} → 56 ≤ length s → r ≡ recordAt s 1 → r .res ≡ sheetMain (records s)
+pub main-read : (s : List ℕ) {r : Record} → 2 * recordSize ≤ length s → r ≡ recordAt s 1 → r .res ≡ sheetMain (records s)
 main-read s l e = ap (λ (x : Record). x .res) (second-read s l e)
 
 -- ---- judge_records and judge_write

@@ -12,10 +12,11 @@ use lib.ListN.{length}
 use Rattle.answers.specs.Answers.{placeOf}
 use Rattle.field_rules.specs.Field.{Res, ok, no, bind}
 use Rattle.sheet_rules.specs.declared.Verdict.the-variants.{Good}
-use Rattle.sheet_rules.specs.Record.{recordSize, records}
+use Rattle.sheet_rules.specs.Record.{recordSize, records, mostRecords}
 use Rattle.sheet_rules.specs.Judge.{judgeOf}
 use Rattle.write_rules.specs.declared.Tally.{Tally}
-use Rattle.write_rules.specs.Writing.{modeFrom, begun, sheetMain, recordsPass}
+use Rattle.write_rules.specs.Sentences.{sheetMain}
+use Rattle.write_rules.specs.Writing.{modeFrom, begun, recordsPass}
 use Rattle.write_verdict.specs.declared.Pass.{Pass}
 use Rattle.write_verdict.specs.declared.Pass.the-variants.{Next, Refused}
 use Rattle.write_verdict.specs.declared.Mode.{Mode}
@@ -31,7 +32,7 @@ modeOf (no a) = Above (placeOf a)
 
 pub record Few (s : List ℕ) (n : ℕ) : Type 0 where
   pub whole : n ≡ length s / recordSize
-  pub few : n ≤ 960
+  pub few : n ≤ mostRecords
 
 pub record Taken (s : List ℕ) (n : ℕ) : Type 0 where
   pub stripes : ℕ

@@ -6,10 +6,12 @@ ghost use lib.Dec.{eqb, leb};
 ghost use lib.ListN.{length};
 ghost use Rattle.sheet_rules.specs.Record.{records};
 ghost use Rattle.laws.specs.Tests.{only};
-ghost use Rattle.write_rules.specs.Writing.{counted, matches, recordStep, modeFrom, begun, sheetMain, recordsPass, verdictOf};
+ghost use Rattle.write_rules.specs.Sentences.{sheetMain};
+ghost use Rattle.write_rules.specs.Writing.{counted, matches, recordStep, modeFrom, begun, recordsPass, verdictOf};
 ghost use Rattle.write_verdict.specs.Pass.{passOf, modeOf, Few, Taken, acceptedOf};
 use answers::Answer;
 use sheet_rules::Record;
+use sheet_rules::TWO_RECORDS;
 use sheet_rules::Verdict;
 use write_rules::Tally;
 
@@ -138,7 +140,7 @@ fn first_above(s: &[u8], n: usize) -> Mode
 fn main_of(s: &[u8]) -> u16
     ensures { λ r. ⌜ r ≡ sheetMain (records (now (s .entry))) ⌝ }
 {
-    if s.len() < 56 {
+    if s.len() < TWO_RECORDS {
         return 0;
     }
     let r = sheet_record::record_at(s, 1);

@@ -1,60 +1,64 @@
 use Rattle.line_fetch.proofs.Laws.{rows}
+use borrow.Author.Needs.{needs}
 use Rattle.line_fetch.proofs.row_at.Statement.{statement}
 use Rattle.line_fetch.proofs.row_at.Tie as tie
 
+sub-b : tie.Need-sub-b
+sub-b c = search needs
+
 mul-b : tie.Need-mul-b
-mul-b c = search rows
+mul-b c = search needs
 
 mul-t4 : tie.Need-mul-t4
-mul-t4 c = search rows
+mul-t4 c = search needs
 
 shared-slice-read-t6 : tie.Need-shared-slice-read-t6
-shared-slice-read-t6 c = search rows
+shared-slice-read-t6 c = search needs
 
 add-t7 : tie.Need-add-t7
-add-t7 c = search rows
+add-t7 c = search needs
 
 mul-t8 : tie.Need-mul-t8
-mul-t8 c = search rows
+mul-t8 c = search needs
 
 shared-slice-read-t10 : tie.Need-shared-slice-read-t10
-shared-slice-read-t10 c = search rows
+shared-slice-read-t10 c = search needs
 
 add-t11 : tie.Need-add-t11
-add-t11 c = search rows
+add-t11 c = search needs
 
 mul-t12 : tie.Need-mul-t12
-mul-t12 c = search rows
+mul-t12 c = search needs
 
 shared-slice-read-t14 : tie.Need-shared-slice-read-t14
-shared-slice-read-t14 c = search rows
+shared-slice-read-t14 c = search needs
 
 add-t15 : tie.Need-add-t15
-add-t15 c = search rows
+add-t15 c = search needs
 
 mul-t16 : tie.Need-mul-t16
-mul-t16 c = search rows
+mul-t16 c = search needs
 
 shared-slice-read-t18 : tie.Need-shared-slice-read-t18
-shared-slice-read-t18 c = search rows
+shared-slice-read-t18 c = search needs
 
 add-t19 : tie.Need-add-t19
-add-t19 c = search rows
+add-t19 c = search needs
 
 mul-t20 : tie.Need-mul-t20
-mul-t20 c = search rows
+mul-t20 c = search needs
 
 shared-slice-read-t22 : tie.Need-shared-slice-read-t22
-shared-slice-read-t22 c = search rows
+shared-slice-read-t22 c = search needs
 
 add-t23 : tie.Need-add-t23
-add-t23 c = search rows
+add-t23 c = search needs
 
 mul-t24 : tie.Need-mul-t24
-mul-t24 c = search rows
+mul-t24 c = search needs
 
 shared-slice-read-t26 : tie.Need-shared-slice-read-t26
-shared-slice-read-t26 c = search rows
+shared-slice-read-t26 c = search needs
 
 returns : tie.Need-returns
 returns c = search rows
@@ -63,6 +67,7 @@ pub row-at-spec : {M : Type 1} → statement M
 row-at-spec =
     tie.close
     (tie.spec
+    sub-b
     mul-b
     mul-t4
     shared-slice-read-t6

@@ -7,10 +7,10 @@ use Rattle.line_pixel.proofs.pixel.Statement.{statement}
 use Rattle.line_pixel.proofs.pixel.Tie as tie
 
 abbrev Inv-loop : tie.InvT-loop
-Inv-loop s d rows pairs x cur₀ k₀ cur k = (k ≤ pairs) × (cur ≡ decide (rowStack s d rows x) k)
+Inv-loop s d rows pairs x cur₀ j₀ cur j = (j ≤ pairs) × (cur ≡ decide (rowStack s d rows x) j)
 
 abbrev μ-loop : tie.MeasureT-loop
-μ-loop s d rows pairs x cur₀ k₀ cur k = pairs - k
+μ-loop s d rows pairs x cur₀ j₀ cur j = pairs - j
 
 row-at-requires : tie.Need-row-at-requires Inv-loop μ-loop
 row-at-requires c κs = search deciding
@@ -21,11 +21,11 @@ image-at-requires c κs = search deciding
 loop-holds : tie.Need-loop-holds Inv-loop μ-loop
 loop-holds c = search deciding
 
+add-j : tie.Need-add-j Inv-loop μ-loop
+add-j c = search deciding
+
 pair-at-requires : tie.Need-pair-at-requires Inv-loop μ-loop
 pair-at-requires c κs = search deciding
-
-add-k : tie.Need-add-k Inv-loop μ-loop
-add-k c = search deciding
 
 loop-less : tie.Need-loop-less Inv-loop μ-loop
 loop-less c = search deciding
@@ -45,8 +45,8 @@ pixel-spec =
     row-at-requires
     image-at-requires
     loop-holds
+    add-j
     pair-at-requires
-    add-k
     loop-less
     loop-again
     returns)

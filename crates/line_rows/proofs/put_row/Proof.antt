@@ -4,6 +4,9 @@ use lib.ListN.{length-set}
 use Rattle.line_rows.proofs.put_row.Statement.{statement}
 use Rattle.line_rows.proofs.put_row.Tie as tie
 
+sub-b : tie.Need-sub-b
+sub-b c = search filling
+
 mul-b : tie.Need-mul-b
 mul-b c = search filling
 
@@ -68,6 +71,7 @@ pub put-row-spec : {M : Type 1} → statement M
 put-row-spec =
     tie.close
     (tie.spec
+    sub-b
     mul-b
     mul-rows
     slice-write-rows

@@ -5,10 +5,10 @@ use Rattle.line_rows.proofs.put_rows.Statement.{statement}
 use Rattle.line_rows.proofs.put_rows.Tie as tie
 
 abbrev Inv-loop : tie.InvT-loop
-Inv-loop rows₀ sheet extent t y first n main coded3 i₀ rows i = Filling rows₀ sheet extent t y main coded3 n rows i
+Inv-loop rows₀ sheet extent t y first n main coded3 l₀ rows l = Filling rows₀ sheet extent t y main coded3 n rows l
 
 abbrev μ-loop : tie.MeasureT-loop
-μ-loop rows₀ sheet extent t y first n main coded3 i₀ rows i = n - i
+μ-loop rows₀ sheet extent t y first n main coded3 l₀ rows l = n - l
 
 cast-first : tie.Need-cast-first Inv-loop μ-loop
 cast-first c = search filling
@@ -31,17 +31,14 @@ record-at-requires-2 c κs = search filling
 loop-holds : tie.Need-loop-holds Inv-loop μ-loop
 loop-holds c = filling-none _ _ _ _ _ _ _ _ _ _ (c .before .before .before .before .before .before .before .pre .1) refl (c .before .before .record-at .ensures) (c .before .record-at2 .ensures) refl refl
 
-add-layer-row : tie.Need-add-layer-row Inv-loop μ-loop
-add-layer-row c = search filling
+add-l : tie.Need-add-l Inv-loop μ-loop
+add-l c = search filling
 
 layer-row-requires : tie.Need-layer-row-requires Inv-loop μ-loop
 layer-row-requires c κs = search filling
 
 put-row-requires : tie.Need-put-row-requires Inv-loop μ-loop
 put-row-requires c κs = search filling
-
-add-i : tie.Need-add-i Inv-loop μ-loop
-add-i c = search filling
 
 loop-less : tie.Need-loop-less Inv-loop μ-loop
 loop-less c = search filling
@@ -73,10 +70,9 @@ put-rows-spec =
     add-record-at-2
     record-at-requires-2
     loop-holds
-    add-layer-row
+    add-l
     layer-row-requires
     put-row-requires
-    add-i
     loop-less
     loop-again
     same-length

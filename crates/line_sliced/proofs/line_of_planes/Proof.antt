@@ -114,7 +114,7 @@ module _ {M : Type 1} (𝓤 : URA M) (H : Heap 𝓤) (A : Atoms 𝓤) (W : Given
   abbrev at : List Val × (List Val × (List Val × (List Val × (List Val × (List Val × Unit {0})))))
   at = (sv ∷ [], (pv ∷ [], (dv ∷ [], (vint w32 k ∷ [], (vint w32 y ∷ [], (ov ∷ [], tt))))))
 
-  -- what the callee says of the listing t, and what is promised of the slice: with the law that ties the two, all that hangs on the callee's words
+  -- what the callee says of the listing t, and what is promised of the slice: with the law that ties the two, all that depends on the callee's words
   abbrev Told : Listing → Answer → List ℕ → Type 0
   Told t r zs = Lines (s .now) (listFrom t false) (d .now) k y e r zs
 
