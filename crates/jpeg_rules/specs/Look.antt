@@ -69,7 +69,7 @@ onwardLook (Stop w) looked next = looked
 unfoldable pub walkLookFrom : ℕ → List ℕ → ℕ → Reach → ℕ
 unfolding turnLook
 walkLookFrom zero s main st = st .at
-walkLookFrom (suc k) s main st = onwardLook (turnOf s main st) (turnLook s st) (λ (t : Reach). walkLookFrom k s main t)
+walkLookFrom (suc fuel) s main st = onwardLook (turnOf s main st) (turnLook s st) (λ (t : Reach). walkLookFrom fuel s main t)
 
 unfoldable pub walkLook : List ℕ → ℕ → ℕ → ℕ
 unfolding walkLookFrom

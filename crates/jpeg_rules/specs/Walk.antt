@@ -49,11 +49,11 @@ segOf s n least =
 unfoldable pub stopsOf : ℕ → ℕ → Bool
 stopsOf a b = eqb a 0xFF && not (eqb b 0x00 || within 0xD0 0xD7 b)
 
--- the first of the k places from i on at which scan data ends
+-- the first of n places from i on at which scan data ends
 unfoldable pub scanFrom : ℕ → List ℕ → ℕ → Found
 unfolding stopsOf
 scanFrom zero s i = Nothing
-scanFrom (suc k) s i = cond (stopsOf (getD s i 0) (getD s (i + 1) 0)) (At i) (scanFrom k s (i + 1))
+scanFrom (suc n) s i = cond (stopsOf (getD s i 0) (getD s (i + 1) 0)) (At i) (scanFrom n s (i + 1))
 
 -- the first from i on that has an octet after it
 unfoldable pub scanOf : List ℕ → ℕ → Found
@@ -160,7 +160,7 @@ onTurn (Stop w) go = w
 unfoldable pub walkFrom : ℕ → List ℕ → ℕ → Reach → Walk
 unfolding turnOf
 walkFrom zero s main st = Walk.Refused (Short (st .at))
-walkFrom (suc k) s main st = onTurn (turnOf s main st) (λ (t : Reach). walkFrom k s main t)
+walkFrom (suc fuel) s main st = onTurn (turnOf s main st) (λ (t : Reach). walkFrom fuel s main t)
 
 abbrev pub begun : ℕ → Reach
 begun at = record { at = at; framed = false; scanned = false; res = 0; width = 0; height = 0 }

@@ -28,7 +28,7 @@ use Rattle.picture_rules.specs.declared.Sample.the-variants.{Known, Unknown}
 use Rattle.picture_rules.specs.Planes.{PlaneList, listOf}
 use Rattle.picture_rules.specs.Samples.{Scene, widthOf}
 use Rattle.picture_rules.specs.Decide.{decide}
-use Rattle.picture_rules.specs.Line.{unseen, fourOf, pixels, linePixels, Ruling, shows, refuses, rulingOf, lineAnswer, lineOf, lineHolds, lineInto, Lines}
+use Rattle.picture_rules.specs.Line.{unseen, fourOf, pixels, linePixels, Ruling, shows, refused, rulingOf, lineAnswer, lineOf, lineHolds, lineInto, Lines}
 use Rattle.picture_rules.proofs.Fours.{length-pixels}
 use Rattle.picture_rules.proofs.Scenes.{Stage, shows-stage, stage-layers, scene-ratio-some, scene-res}
 use Rattle.picture_rules.proofs.First.{lines-first}
@@ -176,7 +176,7 @@ module _ (s : List ℕ) (t : Listing) (part : Bool) (d : List ℕ) (k y : ℕ) w
   by-ruling : (a : Answer) (out : List ℕ) (x : Ruling) → rulingOf s (listFrom t part) d k y ≡ x → Refused a ≡ ruledOf x → Lines s (listFrom t part) d k y out a out
   unfolding ruledOf lineOf lineInto lineAnswer lineHolds
   by-ruling a out (shows v) q z = clash cc
-  by-ruling a out (refuses b) q z =
+  by-ruling a out (refused b) q z =
       let w : a ≡ b = cc in
       record { answers = w ∙ sym (ap (lineAnswer (length out)) q); holds = sym (ap (lineHolds out y) q) }
 
@@ -186,7 +186,7 @@ module _ (s : List ℕ) (t : Listing) (part : Bool) (d : List ℕ) (k y : ℕ) w
       let w : v .extent ≡ extent = cc in
       let g = shows-stage s (listFrom t part) d k y v q in
       q ∙ ap shows (λ i. record { sheet = g .sheet i; extent = w i; planes = g .planes i; samples = g .samples i })
-  ruling-by extent (refuses b) q z = clash cc
+  ruling-by extent (refused b) q z = clash cc
 
   shown-by : (extent : Extent) (x : Ruling) → rulingOf s (listFrom t part) d k y ≡ x → Shows extent ≡ ruledOf x → Showable (sceneFrom s extent t d) y
   shown-by extent x q z = record { stripe = k; part = part; ruling = ruling-by extent x q z }

@@ -16,7 +16,7 @@ use Rattle.line_planes.specs.declared.Listing.{Listing}
 use Rattle.line_planes.specs.Listing.{entriesOf}
 
 abbrev pub sceneFrom : List ℕ → Extent → Listing → List ℕ → Scene
-sceneFrom s extent t d = record { sheet = s; extent = extent; planes = entriesOf t; samples = d }
+sceneFrom s extent list d = record { sheet = s; extent = extent; planes = entriesOf list; samples = d }
 
 pub record Showable (v : Scene) (y : ℕ) : Type 0 where
   pub stripe : ℕ

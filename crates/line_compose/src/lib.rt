@@ -58,13 +58,13 @@ pub fn put_pixels(out: &mut [u8], s: &[u8], d: &[u8], rows: &[usize], pairs: usi
 pub fn show_line(
     sheet: &[u8],
     extent: Extent,
-    t: Listing,
+    list: Listing,
     samples: &[u8],
     y: u32,
     out: &mut [u8],
 ) -> Answer
-    requires { ⌜ Showable (sceneFrom (now sheet) extent t (now samples)) y ⌝ }
-    ensures { λ a. ⌜ Composed (sceneFrom (now (sheet .entry)) extent t (now (samples .entry))) y (now (out .entry)) a (now (out .exit)) ⌝ }
+    requires { ⌜ Showable (sceneFrom (now sheet) extent list (now samples)) y ⌝ }
+    ensures { λ a. ⌜ Composed (sceneFrom (now (sheet .entry)) extent list (now (samples .entry))) y (now (out .entry)) a (now (out .exit)) ⌝ }
 {
     let second = sheet_record::record_at(sheet, extent.first as usize + 1);
     let width = octets::wide16(second.width);
@@ -72,7 +72,7 @@ pub fn show_line(
         return Answer::NoRoom;
     }
     let mut rows: [usize; ROWS_SIZE] = [0; ROWS_SIZE];
-    line_rows::put_rows(&mut rows, sheet, extent, t, MainPos(y as usize));
+    line_rows::put_rows(&mut rows, sheet, extent, list, MainPos(y as usize));
     put_pixels(
         out,
         sheet,
@@ -87,18 +87,18 @@ pub fn show_line(
 // A line of stripe and line number, the plane list being parallel numbers.
 pub fn compose_line(
     sheet: &[u8],
-    t: Listing,
+    list: Listing,
     part: bool,
     samples: &[u8],
     stripe: u32,
     y: u32,
     out: &mut [u8],
 ) -> Answer
-    ensures { λ a. ⌜ Lines (now (sheet .entry)) (listFrom t part) (now (samples .entry)) stripe y (now (out .entry)) a (now (out .exit)) ⌝ }
+    ensures { λ a. ⌜ Lines (now (sheet .entry)) (listFrom list part) (now (samples .entry)) stripe y (now (out .entry)) a (now (out .exit)) ⌝ }
 {
-    match line_verdict::judge_line(sheet, t, part, samples, stripe, y) {
+    match line_verdict::judge_line(sheet, list, part, samples, stripe, y) {
         Ruled::Refused(a) => a,
-        Ruled::Shows(extent) => show_line(sheet, extent, t, samples, y, out),
+        Ruled::Shows(extent) => show_line(sheet, extent, list, samples, y, out),
     }
 }
 
@@ -113,7 +113,7 @@ pub fn line_of(
 ) -> Answer
     ensures { λ a. ⌜ Lines (now (sheet .entry)) (listOf (now (planes .entry))) (now (samples .entry)) stripe y (now (out .entry)) a (now (out .exit)) ⌝ }
 {
-    let t = line_planes::listing_of(planes);
+    let list = line_planes::listing_of(planes);
     let part = planes.len() % PLANE_SIZE != 0;
-    compose_line(sheet, t, part, samples, stripe, y, out)
+    compose_line(sheet, list, part, samples, stripe, y, out)
 }

@@ -26,7 +26,7 @@ pub row-read : (ns : List ℕ) (l : ℕ)
     → record {
       from = getD ns ((l - 1) * rowSize) 0;
       to = getD ns ((l - 1) * rowSize + 1) 0;
-      k = getD ns ((l - 1) * rowSize + 2) 0;
+      ratio = getD ns ((l - 1) * rowSize + 2) 0;
       read = getD ns ((l - 1) * rowSize + 3) 0;
       at = getD ns ((l - 1) * rowSize + 4) 0;
       other = getD ns ((l - 1) * rowSize + 5) 0;
@@ -53,12 +53,12 @@ module _ (d : List ℕ) (r : Row) (x : MainPos) where
   unfolding rowMask
   mask-unread a b e = simp (le-leb (r .from) (x .0) a, lt-ltb (x .0) (r .to) b, eq-eqb (r .read) 0 e)
 
-  pub mask-read : (m : Mask) (p : SamplePos) → r .from ≤ x .0 → x .0 < r .to → r .read ≢ 0 → p ≡ scale (r .k) (r .from) x
+  pub mask-read : (m : Mask) (p : SamplePos) → r .from ≤ x .0 → x .0 < r .to → r .read ≢ 0 → p ≡ scale (r .ratio) (r .from) x
       → m ≡ bitOf (getD d (r .at + p .0) 0) → m ≡ rowMask d r x
   unfolding rowMask
   mask-read m p a b n e f = simp (le-leb (r .from) (x .0) a, lt-ltb (x .0) (r .to) b, ne-eqb (r .read) 0 n, f, e)
 
-  pub mask-there : (p : SamplePos) → MaskFits d r → r .from ≤ x .0 → x .0 < r .to → r .read ≢ 0 → p ≡ scale (r .k) (r .from) x → r .at + p .0 < length d
+  pub mask-there : (p : SamplePos) → MaskFits d r → r .from ≤ x .0 → x .0 < r .to → r .read ≢ 0 → p ≡ scale (r .ratio) (r .from) x → r .at + p .0 < length d
   mask-there p g a b n e = rw e (g .there x a b n)
 
 module _ (s d : List ℕ) (r : Row) (x : MainPos) where
@@ -74,12 +74,12 @@ module _ (s d : List ℕ) (r : Row) (x : MainPos) where
   unfolding rowImage
   image-unread a b e = simp (le-leb (r .from) (x .0) a, lt-ltb (x .0) (r .to) b, eq-eqb (r .read) 0 e)
 
-  pub image-read : (c : Sample) (p : SamplePos) → r .from ≤ x .0 → x .0 < r .to → r .read ≢ 0 → p ≡ scale (r .k) (r .from) x
+  pub image-read : (c : Sample) (p : SamplePos) → r .from ≤ x .0 → x .0 < r .to → r .read ≢ 0 → p ≡ scale (r .ratio) (r .from) x
       → c ≡ Known (colourAt d (r .at + p .0 * 3)) → c ≡ rowImage s d r x
   unfolding rowImage
   image-read c p a b n e f = simp (le-leb (r .from) (x .0) a, lt-ltb (x .0) (r .to) b, ne-eqb (r .read) 0 n, f, e)
 
-  pub image-there : (p : SamplePos) → ImageFits s d r → r .from ≤ x .0 → x .0 < r .to → r .read ≢ 0 → p ≡ scale (r .k) (r .from) x
+  pub image-there : (p : SamplePos) → ImageFits s d r → r .from ≤ x .0 → x .0 < r .to → r .read ≢ 0 → p ≡ scale (r .ratio) (r .from) x
       → r .at + p .0 * 3 + 3 ≤ length d
   image-there p g a b n e = rw e (g .there x a b n)
 

@@ -34,14 +34,14 @@ rowAt ns l =
     record {
       from = getD ns ((l - 1) * rowSize) 0;
       to = getD ns ((l - 1) * rowSize + 1) 0;
-      k = getD ns ((l - 1) * rowSize + 2) 0;
+      ratio = getD ns ((l - 1) * rowSize + 2) 0;
       read = getD ns ((l - 1) * rowSize + 3) 0;
       at = getD ns ((l - 1) * rowSize + 4) 0;
       other = getD ns ((l - 1) * rowSize + 5) 0;
     }
 
 abbrev pub numbersOf : Row → List ℕ
-numbersOf r = r .from ∷ r .to ∷ r .k ∷ r .read ∷ r .at ∷ r .other ∷ []
+numbersOf r = r .from ∷ r .to ∷ r .ratio ∷ r .read ∷ r .at ∷ r .other ∷ []
 
 abbrev pub across : Row → MainPos → Bool
 across r x = leb (r .from) (x .0) && ltb (x .0) (r .to)
@@ -49,20 +49,20 @@ across r x = leb (r .from) (x .0) && ltb (x .0) (r .to)
 unfoldable pub rowMask : List ℕ → Row → MainPos → Mask
 rowMask d r x =
     cond (across r x)
-    (cond (eqb (r .read) 0) Hidden (bitOf (getD d (r .at + scale (r .k) (r .from) x .0) 0)))
+    (cond (eqb (r .read) 0) Hidden (bitOf (getD d (r .at + scale (r .ratio) (r .from) x .0) 0)))
     (bitOf (r .other))
 
 unfoldable pub rowImage : List ℕ → List ℕ → Row → MainPos → Sample
 rowImage s d r x =
     cond (across r x)
-    (cond (eqb (r .read) 0) Unknown (Known (colourAt d (r .at + scale (r .k) (r .from) x .0 * 3))))
+    (cond (eqb (r .read) 0) Unknown (Known (colourAt d (r .at + scale (r .ratio) (r .from) x .0 * 3))))
     (Known (colourAt s (r .other)))
 
 pub record MaskFits (d : List ℕ) (r : Row) : Type 0 where
-  pub turns : 0 < r .k
-  pub there : (x : MainPos) → r .from ≤ x .0 → x .0 < r .to → r .read ≢ 0 → r .at + scale (r .k) (r .from) x .0 < length d
+  pub turns : 0 < r .ratio
+  pub there : (x : MainPos) → r .from ≤ x .0 → x .0 < r .to → r .read ≢ 0 → r .at + scale (r .ratio) (r .from) x .0 < length d
 
 pub record ImageFits (s d : List ℕ) (r : Row) : Type 0 where
-  pub turns : 0 < r .k
-  pub there : (x : MainPos) → r .from ≤ x .0 → x .0 < r .to → r .read ≢ 0 → r .at + scale (r .k) (r .from) x .0 * 3 + 3 ≤ length d
+  pub turns : 0 < r .ratio
+  pub there : (x : MainPos) → r .from ≤ x .0 → x .0 < r .to → r .read ≢ 0 → r .at + scale (r .ratio) (r .from) x .0 * 3 + 3 ≤ length d
   pub base : r .other + 3 ≤ length s

@@ -13,12 +13,12 @@ pub const ROW_SIZE: usize = 6;
 // The numbers of the rows of 15 layers, as many as a stripe has at most.
 pub const ROWS_SIZE: usize = 15 * ROW_SIZE;
 
-// A layer in one line of the picture, worked out once a line: its main pixels `from` up to `to`, k of them a sample; whether it was read (0: not),
+// A layer in one line of the picture, worked out once a line: its main pixels `from` up to `to`, `ratio` of them a sample; whether it was read (0: not),
 // and where the line's samples then start; and what it gives elsewhere: a mask its value, an image layer the place of its base colour in the sheet.
 pub struct Row {
     pub from: usize,
     pub to: usize,
-    pub k: usize,
+    pub ratio: usize,
     pub read: usize,
     pub at: usize,
     pub other: usize,
@@ -33,7 +33,7 @@ pub fn row_at(rows: &[usize], l: usize) -> Row
     Row {
         from: rows[b],
         to: rows[b + 1],
-        k: rows[b + 2],
+        ratio: rows[b + 2],
         read: rows[b + 3],
         at: rows[b + 4],
         other: rows[b + 5],
@@ -53,7 +53,7 @@ pub fn mask_at(d: &[u8], r: Row, x: MainPos) -> Mask
     if r.read == 0 {
         return Mask::Hidden;
     }
-    line_sample::bit_at(d, r.at, line_sample::scale_pos(r.k, r.from, x))
+    line_sample::bit_at(d, r.at, line_sample::scale_pos(r.ratio, r.from, x))
 }
 
 pub fn image_at(s: &[u8], d: &[u8], r: Row, x: MainPos) -> Sample
@@ -69,5 +69,5 @@ pub fn image_at(s: &[u8], d: &[u8], r: Row, x: MainPos) -> Sample
     if r.read == 0 {
         return Sample::Unknown;
     }
-    line_sample::sample_at(d, r.at, line_sample::scale_pos(r.k, r.from, x))
+    line_sample::sample_at(d, r.at, line_sample::scale_pos(r.ratio, r.from, x))
 }

@@ -29,18 +29,18 @@ pub fn no_planes() -> Listing
 }
 
 // One entry more, after those that are there.
-pub fn with_plane(t: Listing, p: Plane) -> Listing
-    ensures { λ r. ⌜ r ≡ withPlane t p ⌝ }
+pub fn with_plane(list: Listing, p: Plane) -> Listing
+    ensures { λ r. ⌜ r ≡ withPlane list p ⌝ }
 {
-    let i = t.count;
+    let i = list.count;
     if i < 16 {
-        let mut n = t;
+        let mut n = list;
         n.count = i + 1;
         n.layers[i] = p.layer;
         n.starts[i] = p.start;
         return n;
     }
-    t
+    list
 }
 
 pub fn plane_at(s: &[u8], i: usize) -> Plane
@@ -59,43 +59,43 @@ pub fn listing_of(s: &[u8]) -> Listing
     ensures { λ r. ⌜ r ≡ listingOf (now (s .entry)) ⌝ }
 {
     let n = s.len() / PLANE_SIZE;
-    let mut t = no_planes();
+    let mut list = no_planes();
     let mut i: usize = 0;
     while i < n {
-        if t.count == 16 {
-            return t;
+        if list.count == 16 {
+            return list;
         }
-        t = with_plane(t, plane_at(s, i));
+        list = with_plane(list, plane_at(s, i));
         i += 1;
     }
-    t
+    list
 }
 
 // Entry i of a list as parallel numbers.
-pub fn entry_at(t: Listing, i: usize) -> Plane
+pub fn entry_at(list: Listing, i: usize) -> Plane
     requires { ⌜ i < 16 ⌝ }
-    ensures { λ p. ⌜ p ≡ entryOf t i ⌝ }
+    ensures { λ p. ⌜ p ≡ entryOf list i ⌝ }
 {
     Plane {
-        layer: t.layers[i],
-        start: t.starts[i],
+        layer: list.layers[i],
+        start: list.starts[i],
     }
 }
 
-pub fn entry_count(t: Listing) -> usize
-    ensures { λ n. ⌜ n ≡ min (t .count) 16 ⌝ }
+pub fn entry_count(list: Listing) -> usize
+    ensures { λ n. ⌜ n ≡ min (list .count) 16 ⌝ }
 {
-    if t.count < 16 { t.count } else { 16 }
+    if list.count < 16 { list.count } else { 16 }
 }
 
 // Where a layer's samples start, if it was read. A list has few entries, and they are looked through once a line.
-pub fn start_of(t: Listing, layer: u8) -> Start
-    ensures { λ r. ⌜ r ≡ planeStart (entriesOf t) layer ⌝ }
+pub fn start_of(list: Listing, layer: u8) -> Start
+    ensures { λ r. ⌜ r ≡ planeStart (entriesOf list) layer ⌝ }
 {
-    let n = entry_count(t);
+    let n = entry_count(list);
     let mut i: usize = 0;
     while i < n {
-        let p = entry_at(t, i);
+        let p = entry_at(list, i);
         if p.layer == layer {
             return Start::From(p.start);
         }

@@ -55,13 +55,13 @@ start-made a width l down w n ew en = ap (λ (i : ℕ). a + i) (en ∙ ap (λ (j
 
 module _ (r : Record) (k : ℕ) (y : MainPos) where
   pub in-unread : (other : ℕ) (p : Start) (from w to : ℕ) → p ≡ Unread → from ≡ r .x → w ≡ r .width → to ≡ from + w * k
-      → record { from = from; to = to; k = k; read = 0; at = 0; other = other } ≡ rowIn r k y p other
+      → record { from = from; to = to; ratio = k; read = 0; at = 0; other = other } ≡ rowIn r k y p other
   unfolding rowIn
   in-unread other p from w to e f g h = rw (e, h, f, g)
 
   pub in-read : (other : ℕ) (p : Start) (a from w to o at : ℕ) (q : SamplePos) → p ≡ From a → from ≡ r .x → w ≡ r .width → to ≡ from + w * k → o ≡ r .y → q ≡ scale k o y
       → at ≡ a + q .0 * r .width * depth (r .layer)
-      → record { from = from; to = to; k = k; read = 1; at = at; other = other } ≡ rowIn r k y p other
+      → record { from = from; to = to; ratio = k; read = 1; at = at; other = other } ≡ rowIn r k y p other
   unfolding rowIn
   in-read other p a from w to o at q e f g h eo eq ea = rw (e, h, f, g, ea, eq, eo)
 
@@ -136,11 +136,11 @@ module _ (s : List ℕ) (extent : Extent) (m : ℕ) (c : Bool) (y : MainPos) (l 
   layer-turns r k g e f = subst (λ (n : ℕ). 0 < n) (sym (f ∙ ap₂ (λ (a : ℕ) (q : Record). a / q .res) (g .main) e)) (g .turns)
 
 pub stores-row : (d : List ℕ) (l : ℕ) (w : Row) → 1 ≤ l → l * rowSize ≤ length d
-    → set (set (set (set (set (set d ((l - 1) * rowSize) (w .from)) ((l - 1) * rowSize + 1) (w .to)) ((l - 1) * rowSize + 2) (w .k)) ((l - 1) * rowSize + 3) (w .read)) ((l - 1) * rowSize + 4) (w .at)) ((l - 1) * rowSize + 5) (w .other)
+    → set (set (set (set (set (set d ((l - 1) * rowSize) (w .from)) ((l - 1) * rowSize + 1) (w .to)) ((l - 1) * rowSize + 2) (w .ratio)) ((l - 1) * rowSize + 3) (w .read)) ((l - 1) * rowSize + 4) (w .at)) ((l - 1) * rowSize + 5) (w .other)
     ≡ putAt d ((l - 1) * rowSize) (numbersOf w)
 stores-row d l w g h = six d ((l - 1) * rowSize) (omega arith)
   where
-    six : (d : List ℕ) (b : ℕ) → b + 6 ≤ length d → set (set (set (set (set (set d b (w .from)) (b + 1) (w .to)) (b + 2) (w .k)) (b + 3) (w .read)) (b + 4) (w .at)) (b + 5) (w .other) ≡ putAt d b (numbersOf w)
+    six : (d : List ℕ) (b : ℕ) → b + 6 ≤ length d → set (set (set (set (set (set d b (w .from)) (b + 1) (w .to)) (b + 2) (w .ratio)) (b + 3) (w .read)) (b + 4) (w .at)) (b + 5) (w .other) ≡ putAt d b (numbersOf w)
     six d b h =
         let a : b + 1 ≡ suc b = omega arith in
         let c : b + 2 ≡ suc (suc b) = omega arith in

@@ -5,7 +5,7 @@
 --   otherOf              what a layer gives outside its area
 --   rowOf s extent ps y l   the row of layer l in line y
 --   rowsOf               the numbers of the rows of layers 1 to n, one after the other
---   Covered              the line crosses the layer's area, of samples of k main pixels each
+--   Covered              the line crosses the layer's area, of samples of q main pixels each
 --   Layer                the same of one layer
 --   Standing             what of an accepted sheet the rows need
 use Prim.Native.Nat.{ℕ, _+_, _-_, _*_, _/_, _%_, _≤_, _<_}
@@ -31,17 +31,17 @@ use Rattle.line_fetch.specs.declared.Row.{Row}
 use Rattle.line_fetch.specs.Rows.{numbersOf}
 
 abbrev pub rowOut : ℕ → Row
-rowOut other = record { from = 0; to = 0; k = 1; read = 0; at = 0; other = other }
+rowOut other = record { from = 0; to = 0; ratio = 1; read = 0; at = 0; other = other }
 
 unfoldable pub rowIn : Record → ℕ → MainPos → Start → ℕ → Row
-rowIn r k y Unread other =
-    record { from = r .x; to = r .x + r .width * k; k = k; read = 0; at = 0; other = other }
-rowIn r k y (From a) other =
-    record { from = r .x; to = r .x + r .width * k; k = k; read = 1; at = a + scale k (r .y) y .0 * r .width * depth (r .layer); other = other }
+rowIn r q y Unread other =
+    record { from = r .x; to = r .x + r .width * q; ratio = q; read = 0; at = 0; other = other }
+rowIn r q y (From a) other =
+    record { from = r .x; to = r .x + r .width * q; ratio = q; read = 1; at = a + scale q (r .y) y .0 * r .width * depth (r .layer); other = other }
 
 unfoldable pub rowBy : Record → ℕ → MainPos → Start → ℕ → Row
 unfolding rowIn
-rowBy r k y p other = cond (coded r && covers (r .y) (r .height) k y) (rowIn r k y p other) (rowOut other)
+rowBy r q y p other = cond (coded r && covers (r .y) (r .height) q y) (rowIn r q y p other) (rowOut other)
 
 -- a base colour stands at octet 14 of its record
 unfoldable pub otherOf : Bool → Record → ℕ → ℕ → ℕ
@@ -57,11 +57,11 @@ rowOf s extent ps y l =
 abbrev pub rowsOf : List ℕ → Extent → List Plane → MainPos → ℕ → List ℕ
 rowsOf s extent ps y n = joined numbersOf (entriesFrom (rowOf s extent ps y) n 1)
 
-pub record Covered (r : Record) (k : ℕ) (y : MainPos) : Type 0 where
-  pub some : 0 < k
-  pub small : k < 65536
+pub record Covered (r : Record) (q : ℕ) (y : MainPos) : Type 0 where
+  pub some : 0 < q
+  pub small : q < 65536
   pub high : r .height < 65536
-  pub within : covers (r .y) (r .height) k y ≡ true
+  pub within : covers (r .y) (r .height) q y ≡ true
 
 -- layer l of a stripe whose main resolution is m; c: layer 3 is coded
 pub record Layer (s : List ℕ) (extent : Extent) (m : ℕ) (c : Bool) (l : ℕ) : Type 0 where

@@ -18,20 +18,20 @@ use sheet_rules::Extent;
 use sheet_rules::RECORD_SIZE;
 use sheet_rules::Record;
 
-// Where n samples of k main pixels each end, from an offset on.
-pub fn area_end(o: usize, n: usize, k: usize) -> usize
-    requires { ⌜ (o < 65536) × (n < 65536) × (k < 65536) ⌝ }
-    ensures { λ r. ⌜ r ≡ o + n * k ⌝ }
+// Where n samples of ratio main pixels each end, from an offset on.
+pub fn area_end(o: usize, n: usize, ratio: usize) -> usize
+    requires { ⌜ (o < 65536) × (n < 65536) × (ratio < 65536) ⌝ }
+    ensures { λ r. ⌜ r ≡ o + n * ratio ⌝ }
 {
-    o + n * k
+    o + n * ratio
 }
 
 // The line crosses the layer's area.
-pub fn line_covers(o: usize, n: usize, k: usize, y: MainPos) -> bool
-    requires { ⌜ (o < 65536) × (n < 65536) × (k < 65536) ⌝ }
-    ensures { λ b. ⌜ b ≡ covers o n k y ⌝ }
+pub fn line_covers(o: usize, n: usize, ratio: usize, y: MainPos) -> bool
+    requires { ⌜ (o < 65536) × (n < 65536) × (ratio < 65536) ⌝ }
+    ensures { λ b. ⌜ b ≡ covers o n ratio y ⌝ }
 {
-    let to = area_end(o, n, k);
+    let to = area_end(o, n, ratio);
     (o <= y.0) & (y.0 < to)
 }
 
@@ -45,17 +45,17 @@ pub fn row_start(a: u32, width: u16, layer: u8, down: SamplePos) -> usize
 }
 
 // A layer that the line crosses.
-pub fn row_in(r: Record, k: usize, y: MainPos, p: Start, other: usize) -> Row
-    requires { ⌜ Covered r k y ⌝ }
-    ensures { λ w. ⌜ w ≡ rowIn r k y p other ⌝ }
+pub fn row_in(r: Record, ratio: usize, y: MainPos, p: Start, other: usize) -> Row
+    requires { ⌜ Covered r ratio y ⌝ }
+    ensures { λ w. ⌜ w ≡ rowIn r ratio y p other ⌝ }
 {
     let from = octets::wide16(r.x);
-    let to = area_end(from, octets::wide16(r.width), k);
+    let to = area_end(from, octets::wide16(r.width), ratio);
     match p {
         Start::Unread => Row {
             from: from,
             to: to,
-            k: k,
+            ratio: ratio,
             read: 0,
             at: 0,
             other: other,
@@ -63,13 +63,13 @@ pub fn row_in(r: Record, k: usize, y: MainPos, p: Start, other: usize) -> Row
         Start::From(a) => Row {
             from: from,
             to: to,
-            k: k,
+            ratio: ratio,
             read: 1,
             at: row_start(
                 a,
                 r.width,
                 r.layer,
-                line_sample::scale_pos(k, octets::wide16(r.y), y),
+                line_sample::scale_pos(ratio, octets::wide16(r.y), y),
             ),
             other: other,
         },
@@ -83,22 +83,22 @@ pub fn row_out(other: usize) -> Row
     Row {
         from: 0,
         to: 0,
-        k: 1,
+        ratio: 1,
         read: 0,
         at: 0,
         other: other,
     }
 }
 
-pub fn row_by(r: Record, k: usize, y: MainPos, p: Start, other: usize) -> Row
-    requires { ⌜ (0 < k) × (k < 65536) ⌝ }
-    ensures { λ w. ⌜ w ≡ rowBy r k y p other ⌝ }
+pub fn row_by(r: Record, ratio: usize, y: MainPos, p: Start, other: usize) -> Row
+    requires { ⌜ (0 < ratio) × (ratio < 65536) ⌝ }
+    ensures { λ w. ⌜ w ≡ rowBy r ratio y p other ⌝ }
 {
     if r.len == 0 {
         return row_out(other);
     }
-    if line_covers(octets::wide16(r.y), octets::wide16(r.height), k, y) {
-        row_in(r, k, y, p, other)
+    if line_covers(octets::wide16(r.y), octets::wide16(r.height), ratio, y) {
+        row_in(r, ratio, y, p, other)
     } else {
         row_out(other)
     }
@@ -124,7 +124,7 @@ pub fn other_of(coded3: bool, r: Record, i: usize, l: usize) -> usize
 // Main pixels a sample.
 pub fn ratio_of(main: u16, res: u16) -> usize
     requires { ⌜ 0 < res ⌝ }
-    ensures { λ k. ⌜ (k ≡ main / res) × (k < 65536) ⌝ }
+    ensures { λ ratio. ⌜ (ratio ≡ main / res) × (ratio < 65536) ⌝ }
 {
     octets::wide16(main / res)
 }
@@ -133,20 +133,20 @@ pub fn ratio_of(main: u16, res: u16) -> usize
 pub fn layer_row(
     sheet: &[u8],
     extent: Extent,
-    t: Listing,
+    list: Listing,
     main: u16,
     coded3: bool,
     y: MainPos,
     l: usize,
 ) -> Row
     requires { ⌜ Layer (now sheet) extent main coded3 l ⌝ }
-    ensures { λ w. ⌜ w ≡ rowOf (now (sheet .entry)) extent (entriesOf t) y l ⌝ }
+    ensures { λ w. ⌜ w ≡ rowOf (now (sheet .entry)) extent (entriesOf list) y l ⌝ }
 {
     let i = extent.first as usize + (l - 1);
     let r = sheet_record::record_at(sheet, i);
-    let k = ratio_of(main, r.res);
-    let p = line_planes::start_of(t, l as u8);
-    row_by(r, k, y, p, other_of(coded3, r, i, l))
+    let ratio = ratio_of(main, r.res);
+    let p = line_planes::start_of(list, l as u8);
+    row_by(r, ratio, y, p, other_of(coded3, r, i, l))
 }
 
 pub fn put_row(rows: &mut [usize], l: usize, w: Row)
@@ -156,16 +156,16 @@ pub fn put_row(rows: &mut [usize], l: usize, w: Row)
     let b = (l - 1) * ROW_SIZE;
     rows[b] = w.from;
     rows[b + 1] = w.to;
-    rows[b + 2] = w.k;
+    rows[b + 2] = w.ratio;
     rows[b + 3] = w.read;
     rows[b + 4] = w.at;
     rows[b + 5] = w.other;
 }
 
 // The rows of all layers, one after the other.
-pub fn put_rows(rows: &mut [usize], sheet: &[u8], extent: Extent, t: Listing, y: MainPos)
+pub fn put_rows(rows: &mut [usize], sheet: &[u8], extent: Extent, list: Listing, y: MainPos)
     requires { ⌜ Standing (now sheet) extent × (extent .layers * rowSize ≤ length (now rows)) ⌝ }
-    ensures { λ _. ⌜ now (rows .exit) ≡ putAt (now (rows .entry)) 0 (rowsOf (now (sheet .entry)) extent (entriesOf t) y (extent .layers)) ⌝ }
+    ensures { λ _. ⌜ now (rows .exit) ≡ putAt (now (rows .entry)) 0 (rowsOf (now (sheet .entry)) extent (entriesOf list) y (extent .layers)) ⌝ }
 {
     let first = extent.first as usize;
     let n = extent.layers as usize;
@@ -176,7 +176,7 @@ pub fn put_rows(rows: &mut [usize], sheet: &[u8], extent: Extent, t: Listing, y:
     let mut l: usize = 0;
     while l < n {
         l += 1;
-        let w = layer_row(sheet, extent, t, main, coded3, y, l);
+        let w = layer_row(sheet, extent, list, main, coded3, y, l);
         put_row(rows, l, w);
     }
 }

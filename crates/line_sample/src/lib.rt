@@ -12,13 +12,13 @@ use picture_rules::Sample;
 use picture_rules::SamplePos;
 use sheet_rules::Colour;
 
-// The one step from a main place to a sample's. It divides by constants: a division by k would cost more than all else of a pixel.
-pub fn scale_pos(k: usize, o: usize, p: MainPos) -> SamplePos
-    requires { ⌜ (0 < k) × (o ≤ p .0) ⌝ }
-    ensures { λ r. ⌜ r ≡ scale k o p ⌝ }
+// The one step from a main place to a sample's. It divides by constants: a division by the ratio would cost more than all else of a pixel.
+pub fn scale_pos(ratio: usize, o: usize, p: MainPos) -> SamplePos
+    requires { ⌜ (0 < ratio) × (o ≤ p .0) ⌝ }
+    ensures { λ r. ⌜ r ≡ scale ratio o p ⌝ }
 {
     let d = p.0 - o;
-    match k {
+    match ratio {
         1 => SamplePos(d),
         2 => SamplePos(d / 2),
         3 => SamplePos(d / 3),
@@ -26,7 +26,7 @@ pub fn scale_pos(k: usize, o: usize, p: MainPos) -> SamplePos
         6 => SamplePos(d / 6),
         12 => SamplePos(d / 12),
         _ => {
-            let i = d / k;
+            let i = d / ratio;
             SamplePos(i)
         }
     }

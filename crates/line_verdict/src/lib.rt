@@ -63,17 +63,17 @@ pub fn judge_planes(
     sheet: &[u8],
     extent: Extent,
     samples: &[u8],
-    t: Listing,
+    list: Listing,
     part: bool,
 ) -> ListVerdict
     requires { ⌜ Whole (now sheet) extent ⌝ }
-    ensures { λ j. ⌜ j ≡ planesJudged (bareScene (now (sheet .entry)) extent (now (samples .entry))) part 0 0 (entriesOf t) ⌝ }
+    ensures { λ j. ⌜ j ≡ planesJudged (bareScene (now (sheet .entry)) extent (now (samples .entry))) part 0 0 (entriesOf list) ⌝ }
 {
-    let n = line_planes::entry_count(t);
+    let n = line_planes::entry_count(list);
     let mut last: u8 = 0;
     let mut i: usize = 0;
     while i < n {
-        let p = line_planes::entry_at(t, i);
+        let p = line_planes::entry_at(list, i);
         if plane_ok(sheet, extent, samples, last, p) {
             last = p.layer;
             i += 1;
@@ -92,18 +92,18 @@ pub fn judge_planes(
 pub fn rule_line(
     sheet: &[u8],
     extent: Extent,
-    t: Listing,
+    list: Listing,
     part: bool,
     samples: &[u8],
     line: u32,
 ) -> Ruled
     requires { ⌜ Whole (now sheet) extent ⌝ }
-    ensures { λ r. ⌜ r ≡ ruledOf (lineRuling (now (sheet .entry)) (listFrom t part) (now (samples .entry)) line extent) ⌝ }
+    ensures { λ r. ⌜ r ≡ ruledOf (lineRuling (now (sheet .entry)) (listFrom list part) (now (samples .entry)) line extent) ⌝ }
 {
     if extent.height <= line {
         return Ruled::Refused(Answer::BadLine);
     }
-    match judge_planes(sheet, extent, samples, t, part) {
+    match judge_planes(sheet, extent, samples, list, part) {
         ListVerdict::Fine => Ruled::Shows(extent),
         ListVerdict::Refused(i) => Ruled::Refused(Answer::BadPlane(i)),
     }
@@ -112,36 +112,36 @@ pub fn rule_line(
 // A sheet that the judge takes: the stripe before the line.
 pub fn rule_stripe(
     sheet: &[u8],
-    t: Listing,
+    list: Listing,
     part: bool,
     samples: &[u8],
     stripe: u32,
     line: u32,
 ) -> Ruled
     requires { ⌜ JudgedGood (now sheet) ⌝ }
-    ensures { λ r. ⌜ r ≡ ruledOf (rulingOf (now (sheet .entry)) (listFrom t part) (now (samples .entry)) stripe line) ⌝ }
+    ensures { λ r. ⌜ r ≡ ruledOf (rulingOf (now (sheet .entry)) (listFrom list part) (now (samples .entry)) stripe line) ⌝ }
 {
     match sheet_table::find_stripe(sheet, stripe as usize) {
         FoundStripe::NoStripe => Ruled::Refused(Answer::BadLine),
-        FoundStripe::Has(extent) => rule_line(sheet, extent, t, part, samples, line),
+        FoundStripe::Has(extent) => rule_line(sheet, extent, list, part, samples, line),
     }
 }
 
 pub fn judge_line(
     sheet: &[u8],
-    t: Listing,
+    list: Listing,
     part: bool,
     samples: &[u8],
     stripe: u32,
     line: u32,
 ) -> Ruled
-    ensures { λ r. ⌜ r ≡ ruledOf (rulingOf (now (sheet .entry)) (listFrom t part) (now (samples .entry)) stripe line) ⌝ }
+    ensures { λ r. ⌜ r ≡ ruledOf (rulingOf (now (sheet .entry)) (listFrom list part) (now (samples .entry)) stripe line) ⌝ }
 {
     match sheet_judge::judge(sheet) {
         Verdict::Refused { record } => Ruled::Refused(Answer::BadSheet(record as u32)),
         Verdict::Good {
             records: _,
             stripes: _,
-        } => rule_stripe(sheet, t, part, samples, stripe, line),
+        } => rule_stripe(sheet, list, part, samples, stripe, line),
     }
 }

@@ -27,10 +27,10 @@ pub fn put_octets(d: &mut [u8], at: usize, v: &[u8])
     requires { ⌜ at + length (now v) ≤ length (now d) ⌝ }
     ensures { λ _. ⌜ now (d .exit) ≡ putAt (now (d .entry)) at (now (v .entry)) ⌝ }
 {
-    let mut k: usize = 0;
-    while k < v.len() {
-        d[at + k] = v[k];
-        k += 1;
+    let mut i: usize = 0;
+    while i < v.len() {
+        d[at + i] = v[i];
+        i += 1;
     }
 }
 

@@ -21,7 +21,7 @@ use Rattle.picture_rules.specs.declared.Sample.the-variants.{Known, Unkn
 use Rattle.picture_rules.specs.Planes.{PlaneList}
 use Rattle.picture_rules.specs.Samples.{Scene, widthOf}
 use Rattle.picture_rules.specs.Decide.{pixelAt}
-use Rattle.picture_rules.specs.Line.{unseen, fourOf, linePixels, Ruling, shows, refuses, rulingOf, lineAnswer, lineOf, lineHolds, lineInto, Lines}
+use Rattle.picture_rules.specs.Line.{unseen, fourOf, linePixels, Ruling, shows, refused, rulingOf, lineAnswer, lineOf, lineHolds, lineInto, Lines}
 use Rattle.picture_rules.specs.Demand.{fourAt, seenIn, unseenFour, at, Tells, Shown}
 use Rattle.picture_rules.specs.Sentences.{HasLine, sceneOf, AllFine}
 use Rattle.sheet_rules.specs.Sentences.{Accepted}
@@ -116,7 +116,7 @@ module _ (s : List ℕ) (pl : PlaneList) (d : List ℕ) (k y : ℕ) (out : List 
       by : (r : Ruling) → ((n : ℕ) → lineAnswer (length out) r ≡ Done n → ⊥) → lineHolds out y r ≡ out
       by (shows v) =
           cond-both (λ x z. ((n : ℕ) → x ≡ Done n → ⊥) → z ≡ out) (ltb (length out) (widthOf v * 4)) (λ t h. refl) (λ t h. absurd (h (widthOf v * 4) refl))
-      by (refuses a) = λ h. refl
+      by (refused a) = λ h. refl
 
   -- the buffer's length stays
   pub line-length : length (lineInto s pl d k y out) ≡ length out
@@ -127,7 +127,7 @@ module _ (s : List ℕ) (pl : PlaneList) (d : List ℕ) (k y : ℕ) (out : List 
       by (shows v) =
           cond-with (λ (z : List ℕ). length z ≡ length out) (ltb (length out) (widthOf v * 4)) (λ t. refl)
           (λ t. let f = ltb-false (length out) (widthOf v * 4) t in let l = length-line v y in put-length out 0 (linePixels v y) (omega arith))
-      by (refuses a) = refl
+      by (refused a) = refl
 
 -- ---- a line does not depend on what the buffer held, nor on how much more it holds
 

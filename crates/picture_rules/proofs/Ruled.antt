@@ -26,7 +26,7 @@ use Rattle.picture_rules.specs.declared.ListVerdict.{ListVerdict}
 use Rattle.picture_rules.specs.declared.ListVerdict.the-variants.{Fine}
 use Rattle.picture_rules.specs.Planes.{PlaneList}
 use Rattle.picture_rules.specs.Samples.{Scene, recordOf, planeSpan}
-use Rattle.picture_rules.specs.Line.{planeOk, planesJudged, Ruling, shows, refuses, planeRuling, sceneRuling, stripeRuling, sheetRuling, rulingOf}
+use Rattle.picture_rules.specs.Line.{planeOk, planesJudged, Ruling, shows, refused, planeRuling, sceneRuling, stripeRuling, sheetRuling, rulingOf}
 use Rattle.picture_rules.specs.Sentences.{HasLine, sceneOf, plane, FineEntry, AllFine, PlaneAt}
 use Rattle.sheet_rules.specs.Sentences.{Accepted}
 
@@ -143,9 +143,9 @@ plane-none v pl i (inr b) f = false≢true (sym (f .whole) ∙ b .part)
 
 module _ (s : List ℕ) (pl : PlaneList) (d : List ℕ) (k y : ℕ) where
   pub ruling-cases : (P : Ruling → Type 0)
-      → ((i : ℕ) → BadSheetAt s i → P (refuses (BadSheet i)))
-      → (Accepted s → (HasLine s k y → ⊥) → P (refuses BadLine))
-      → (Accepted s → HasLine s k y → (i : ℕ) → PlaneAt (sceneOf s pl d k) pl i → P (refuses (BadPlane i)))
+      → ((i : ℕ) → BadSheetAt s i → P (refused (BadSheet i)))
+      → (Accepted s → (HasLine s k y → ⊥) → P (refused BadLine))
+      → (Accepted s → HasLine s k y → (i : ℕ) → PlaneAt (sceneOf s pl d k) pl i → P (refused (BadPlane i)))
       → (Accepted s → HasLine s k y → AllFine (sceneOf s pl d k) pl → P (shows (sceneOf s pl d k)))
       → P (rulingOf s pl d k y)
   unfolding rulingOf sheetRuling stripeRuling sceneRuling answerOf

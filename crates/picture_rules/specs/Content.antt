@@ -57,7 +57,7 @@ imageUnder v w l x y =
 
 unfoldable pub colourFrom : (ℕ → Bool) → (ℕ → Colour) → ℕ → Colour
 colourFrom mask image zero = image 1
-colourFrom mask image (suc k) = cond (mask (suc k * 2)) (image (suc k * 2 + 1)) (colourFrom mask image k)
+colourFrom mask image (suc j) = cond (mask (suc j * 2)) (image (suc j * 2 + 1)) (colourFrom mask image j)
 
 unfoldable pub colourUnder : Scene → Content → MainPos → MainPos → Colour
 unfolding colourFrom

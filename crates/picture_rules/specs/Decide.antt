@@ -4,7 +4,7 @@
 --   sameColour    two colours are the same in all three octets
 --   agree         what two samples agree on
 --   pairStep      a mask and the image layer just above it, over what lies below
---   Stack         the samples at a pixel: image k is that of layer 2k + 1, and mask k, from 1 on, that of layer 2k
+--   Stack         the samples at a pixel: image j is that of layer 2j + 1, and mask j, from 1 on, that of layer 2j
 --   decide s n    after n pairs
 --   stackAt       the samples of a scene at a place
 --   pixelAt       the picture of a pixel
@@ -44,10 +44,10 @@ pub record Stack : Type 0 where
 unfoldable pub decide : Stack → ℕ → Sample
 unfolding pairStep
 decide s zero = s .image 0
-decide s (suc k) = pairStep (s .mask (suc k)) (decide s k) (s .image (suc k))
+decide s (suc j) = pairStep (s .mask (suc j)) (decide s j) (s .image (suc j))
 
 abbrev pub stackAt : Scene → MainPos → MainPos → Stack
-stackAt v x y = record { mask = λ k. maskAt v (k * 2) x y; image = λ k. imageAt v (k * 2 + 1) x y }
+stackAt v x y = record { mask = λ j. maskAt v (j * 2) x y; image = λ j. imageAt v (j * 2 + 1) x y }
 
 unfoldable pub pixelAt : Scene → MainPos → MainPos → Sample
 unfolding decide

@@ -77,11 +77,11 @@ planesJudged v part last i (p ∷ ps) = cond (planeOk v last p) (planesJudged v 
 
 pub data Ruling : Type 0 where
   shows : Scene → Ruling
-  refuses : Answer → Ruling
+  refused : Answer → Ruling
 
 abbrev pub planeRuling : Scene → ListVerdict → Ruling
 planeRuling v Fine = shows v
-planeRuling v (ListVerdict.Refused i) = refuses (BadPlane i)
+planeRuling v (ListVerdict.Refused i) = refused (BadPlane i)
 
 -- no layer is listed before the first entry
 unfoldable pub sceneRuling : Scene → Bool → Ruling
@@ -90,15 +90,15 @@ sceneRuling v part = planeRuling v (planesJudged v part 0 0 (v .planes))
 
 unfoldable pub stripeRuling : List ℕ → PlaneList → List ℕ → ℕ → FoundStripe → Ruling
 unfolding sceneRuling
-stripeRuling s pl d y NoStripe = refuses BadLine
+stripeRuling s pl d y NoStripe = refused BadLine
 stripeRuling s pl d y (Has extent) =
     cond (ltb y (extent .height))
     (sceneRuling (record { sheet = s; extent = extent; planes = pl .entries; samples = d }) (pl .part))
-    (refuses BadLine)
+    (refused BadLine)
 
 unfoldable pub sheetRuling : List ℕ → PlaneList → List ℕ → ℕ → ℕ → Verdict → Ruling
 unfolding stripeRuling
-sheetRuling s pl d k y (Verdict.Refused i) = refuses (answerOf (Verdict.Refused i))
+sheetRuling s pl d k y (Verdict.Refused i) = refused (answerOf (Verdict.Refused i))
 sheetRuling s pl d k y (Good n m) = stripeRuling s pl d y (findStripe s k)
 
 -- line y of stripe k
@@ -109,7 +109,7 @@ rulingOf s pl d k y = sheetRuling s pl d k y (judgeOf s)
 -- four octets a pixel
 unfoldable pub lineAnswer : ℕ → Ruling → Answer
 lineAnswer room (shows v) = cond (ltb room (widthOf v * 4)) NoRoom (Done (widthOf v * 4))
-lineAnswer room (refuses a) = a
+lineAnswer room (refused a) = a
 
 unfoldable pub lineOf : List ℕ → PlaneList → List ℕ → ℕ → ℕ → ℕ → Answer
 unfolding rulingOf lineAnswer
@@ -119,7 +119,7 @@ lineOf s pl d k y room = lineAnswer room (rulingOf s pl d k y)
 unfoldable pub lineHolds : List ℕ → ℕ → Ruling → List ℕ
 unfolding linePixels
 lineHolds out y (shows v) = cond (ltb (length out) (widthOf v * 4)) out (putAt out 0 (linePixels v y))
-lineHolds out y (refuses a) = out
+lineHolds out y (refused a) = out
 
 unfoldable pub lineInto : List ℕ → PlaneList → List ℕ → ℕ → ℕ → List ℕ → List ℕ
 unfolding rulingOf lineHolds

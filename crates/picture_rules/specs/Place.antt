@@ -1,8 +1,8 @@
 -- Places, counted in main mask pixels or in a layer's samples, and a layer's area (01, "Colour of a pixel").
 --
 --   ratio main r     main pixels a sample: main resolution / layer resolution
---   scale k o p      the one step from a main place to a sample's: the offset taken away, then divided by k and rounded down
---   covers o n k p   n samples of k main pixels each, from the offset on, cover the place p
+--   scale q o p      the one step from a main place to a sample's: the offset taken away, then divided by q and rounded down
+--   covers o n q p   n samples of q main pixels each, from the offset on, cover the place p
 --   inside main r    a place of the stripe lies in the layer's area
 use Prim.Native.Nat.{ℕ, _+_, _-_, _*_, _/_}
 use mathlib.Core.Bool.{Bool, _&&_}
@@ -15,10 +15,10 @@ abbrev pub ratio : ℕ → Record → ℕ
 ratio main r = main / r .res
 
 unfoldable pub scale : ℕ → ℕ → MainPos → SamplePos
-scale k o p = record { 0 = (p .0 - o) / k }
+scale q o p = record { 0 = (p .0 - o) / q }
 
 unfoldable pub covers : ℕ → ℕ → ℕ → MainPos → Bool
-covers o n k p = leb o (p .0) && ltb (p .0) (o + n * k)
+covers o n q p = leb o (p .0) && ltb (p .0) (o + n * q)
 
 unfoldable pub inside : ℕ → Record → MainPos → MainPos → Bool
 unfolding covers

@@ -32,7 +32,7 @@ use Rattle.read_body.specs.declared.Body.{Body}
 use Rattle.read_body.specs.declared.Body.the-variants.{Stripes}
 use Rattle.read_body.specs.declared.Turn.{Turn}
 use Rattle.read_body.specs.declared.Turn.the-variants.{Go, Stop}
-use Rattle.read_body.specs.Steps.{Ready, endedOf, StripeTurned, Standing, bodyAt, Passed, Refuses, Turned}
+use Rattle.read_body.specs.Steps.{Ready, endedOf, StripeTurned, Standing, bodyAt, Passed, BodyRefused, Turned}
 
 module _ (fuel : ℕ) (hd : Head) (k left : ℕ) (acc : List Record) (s : List ℕ) (at : ℕ) where
   abbrev pub onSegment : Segment → Res (List Record)
@@ -103,7 +103,7 @@ module _ (hd : Head) (p : Place) (s out : List ℕ) (i : Standing out s p) {g : 
   reach : (x : Segment) → g ≡ x → Reaches s (p .at) x
   reach x z = rw (sym e ∙ z) at (segment-reaches (p .stripe) s (p .at) (i .inside))
 
-  pub body-wrong : (a : Answer) → g ≡ Segment.Refused a → Refuses hd p s out a out
+  pub body-wrong : (a : Answer) → g ≡ Segment.Refused a → BodyRefused hd p s out a out
   body-wrong a z = record { same = λ fuel acc. body-is fuel acc ∙ ap (onSegment fuel hd (p .stripe) (p .left) acc s (p .at)) z; kept = refl }
 
   pub body-skip : (next : ℕ) → g ≡ Optional next → Passed hd p s out (record { at = next; stripe = p .stripe; left = p .left }) out

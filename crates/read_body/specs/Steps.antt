@@ -127,14 +127,14 @@ pub record Over (hd : Head) (p : Place) (s out : List ℕ) (count next : ℕ) (o
   pub inside : next ≤ length s
   pub kept : out′ ≡ out
 
-pub record Refuses (hd : Head) (p : Place) (s out : List ℕ) (a : Answer) (out′ : List ℕ) : Type 0 where
+pub record BodyRefused (hd : Head) (p : Place) (s out : List ℕ) (a : Answer) (out′ : List ℕ) : Type 0 where
   pub same : (fuel : ℕ) (acc : List Record) → bodyAt (suc fuel) hd p acc s ≡ no a
   pub kept : out′ ≡ out
 
 abbrev pub Turned : Head → Place → List ℕ → List ℕ → Turn → List ℕ → Type 0
 Turned hd p s out (Go q) out′ = Passed hd p s out q out′
 Turned hd p s out (Stop (Stripes count next)) out′ = Over hd p s out count next out′
-Turned hd p s out (Stop (Body.Refused a)) out′ = Refuses hd p s out a out′
+Turned hd p s out (Stop (Body.Refused a)) out′ = BodyRefused hd p s out a out′
 
 pub record Opened (out s : List ℕ) : Type 0 where
   pub long : 22 ≤ length s

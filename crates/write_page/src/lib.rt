@@ -36,21 +36,21 @@ fn put_stripes(out: &mut [u8], s: &[u8], d: &[u8], n: usize) -> usize
 }
 
 // The page's width and main resolution are layer 2's, the second record's.
-fn head_of(s: &[u8], t: Tally) -> Head
-    ensures { λ r. ⌜ r ≡ headBy (records (now (s .entry))) t ⌝ }
+fn head_of(s: &[u8], tally: Tally) -> Head
+    ensures { λ r. ⌜ r ≡ headBy (records (now (s .entry))) tally ⌝ }
 {
     if s.len() < TWO_RECORDS {
         return Head {
-            mask: t.mask,
-            image: t.image,
+            mask: tally.mask,
+            image: tally.image,
             main: 0,
             width: 0,
         };
     }
     let r = sheet_record::record_at(s, 1);
     Head {
-        mask: t.mask,
-        image: t.image,
+        mask: tally.mask,
+        image: tally.image,
         main: r.res,
         width: r.width,
     }
@@ -65,30 +65,30 @@ fn put_end(out: &mut [u8], at: usize)
     octets_put::put_octets(out, at + 2, &EOI);
 }
 
-fn emit_page(out: &mut [u8], s: &[u8], d: &[u8], t: Tally)
-    requires { ⌜ Fitting (now out) (now s) (now d) t ⌝ }
-    ensures { λ _. ⌜ now (out .exit) ≡ putAt (now (out .entry)) 0 (pageBy (now (d .entry)) (records (now (s .entry))) t) ⌝ }
+fn emit_page(out: &mut [u8], s: &[u8], d: &[u8], tally: Tally)
+    requires { ⌜ Fitting (now out) (now s) (now d) tally ⌝ }
+    ensures { λ _. ⌜ now (out .exit) ≡ putAt (now (out .entry)) 0 (pageBy (now (d .entry)) (records (now (s .entry))) tally) ⌝ }
 {
     let n = s.len() / RECORD_SIZE;
-    let hd = head_of(s, t);
+    let hd = head_of(s, tally);
     write_start::put_start(out, hd);
     let at = put_stripes(out, s, d, n);
     put_end(out, at);
 }
 
 // After the verdict: TooLong, then NoRoom, then the page.
-fn write_sound(s: &[u8], d: &[u8], page: &mut [u8], t: Tally) -> Answer
-    requires { ⌜ Sound (now s) (now d) t ⌝ }
+fn write_sound(s: &[u8], d: &[u8], page: &mut [u8], tally: Tally) -> Answer
+    requires { ⌜ Sound (now s) (now d) tally ⌝ }
     ensures { λ r. ⌜ Writes (now (s .entry)) (now (d .entry)) (now (page .entry)) r (now (page .exit)) ⌝ }
 {
-    let size = t.size;
+    let size = tally.size;
     if (LONGEST_PAGE as u64) < size {
         return Answer::TooLong;
     }
     if (page.len() as u64) < size {
         return Answer::NoRoom;
     }
-    emit_page(page, s, d, t);
+    emit_page(page, s, d, tally);
     Answer::Done(size)
 }
 
@@ -97,6 +97,6 @@ pub fn write_page(s: &[u8], d: &[u8], page: &mut [u8]) -> Answer
 {
     match write_verdict::judge_write(s, d) {
         Pass::Refused(a) => a,
-        Pass::Next(t) => write_sound(s, d, page, t),
+        Pass::Next(tally) => write_sound(s, d, page, tally),
     }
 }

@@ -114,35 +114,35 @@ write-formed s d p os o n q = into-formed s d p o (records-sized s os) n (done-i
 
 -- ---- a page of at most 16,777,215 octets can be written from its sheet and itself, into a buffer as long as it is
 
-lent-done : (s : List ℕ) → Octets s → (rs : List Record) (y : Page s rs) → length s ≤ longestPage → (room : ℕ) → length s ≤ room
-    → writeOf (sheetOf rs) s room ≡ Done (26 + length (y .stripes))
-lent-done s o rs y short room fits =
-    let l = length-page s rs y in
+lent-done : (p : List ℕ) → Octets p → (rs : List Record) (y : Page p rs) → length p ≤ longestPage → (room : ℕ) → length p ≤ room
+    → writeOf (sheetOf rs) p room ≡ Done (26 + length (y .stripes))
+lent-done p o rs y short room fits =
+    let l = length-page p rs y in
     let e = sheet-back rs in
-    let k : Sound (sheetOf rs) s =
+    let k : Sound (sheetOf rs) p =
     record {
-      sheet = subst Sheet (sym e) (trip-sheet s rs y short);
+      sheet = subst Sheet (sym e) (trip-sheet p rs y short);
       whole = sheet-whole rs;
-      low = subst Low (sym e) (trip-low s rs y short);
-      fine = subst (λ (x : List Record). Fine (sheetMain x) s x) (sym e) (trip-fine s rs y short);
+      low = subst Low (sym e) (trip-low p rs y short);
+      fine = subst (λ (x : List Record). Fine (sheetMain x) p x) (sym e) (trip-fine p rs y short);
     } in
-    write-exactly (sheetOf rs) s o room (Done (26 + length (y .stripes))) .1 (written k (trip-size s rs y short ∙ ap sizeOf (sym e)) (omega arith) (omega arith))
+    write-exactly (sheetOf rs) p o room (Done (26 + length (y .stripes))) .1 (written k (trip-size p rs y short ∙ ap sizeOf (sym e)) (omega arith) (omega arith))
 
 -- a page in the writer's form comes back octet for octet
 
-pub formed-again : (s : List ℕ) → Octets s → (rs : List Record) → Formed s rs → length s ≤ longestPage → (p : List ℕ) → length s ≤ length p
-    → (writeOf (sheetOf rs) s (length p) ≡ Done (length s)) × (writeInto (sheetOf rs) s p ≡ putAt p 0 s)
-formed-again s o rs f short p fits =
-    let l = length-page s rs (f .page) in
+pub formed-again : (p : List ℕ) → Octets p → (rs : List Record) → Formed p rs → length p ≤ longestPage → (out : List ℕ) → length p ≤ length out
+    → (writeOf (sheetOf rs) p (length out) ≡ Done (length p)) × (writeInto (sheetOf rs) p out ≡ putAt out 0 p)
+formed-again p o rs f short out fits =
+    let l = length-page p rs (f .page) in
     let lo : length (f .page .optionals) ≡ 0 = ap length (f .optionals) in
     let lz = f .padding in
-    let z : 26 + length (f .page .stripes) ≡ length s = omega arith in
-    let q : writeOf (sheetOf rs) s (length p) ≡ Done (length s) = lent-done s o rs (f .page) short (length p) fits ∙ ap Done z in
-    let k = done-into (sheetOf rs) s p o (length s) q in
-    let e : pageBy s (records (sheetOf rs)) (k .u) ≡ s =
-    ap (λ (x : List Record). pageBy s x (k .u)) (sheet-back rs)
-    ∙ page-again s rs f (k .u) (subst (λ (x : List Record). Passed s (sheetMain x) begun (k .u) x) (sheet-back rs) (k .accepted .passed)) in
-    (q, k .into ∙ ap (putAt p 0) e)
+    let z : 26 + length (f .page .stripes) ≡ length p = omega arith in
+    let q : writeOf (sheetOf rs) p (length out) ≡ Done (length p) = lent-done p o rs (f .page) short (length out) fits ∙ ap Done z in
+    let k = done-into (sheetOf rs) p out o (length p) q in
+    let e : pageBy p (records (sheetOf rs)) (k .u) ≡ p =
+    ap (λ (x : List Record). pageBy p x (k .u)) (sheet-back rs)
+    ∙ page-again p rs f (k .u) (subst (λ (x : List Record). Passed p (sheetMain x) begun (k .u) x) (sheet-back rs) (k .accepted .passed)) in
+    (q, k .into ∙ ap (putAt out 0) e)
 
 -- so that a page that was written, written again from the sheet that reading gives of it, is the same page
 
@@ -159,30 +159,30 @@ write-again s d p os o n q rs y t h =
 -- for every page that is read: writing its sheet from the page itself and reading again gives the same sheet, but for octets 18 to 21 of coded
 -- records, and the same layers
 
-pub record Again (s : List ℕ) (rs : List Record) (p : List ℕ) : Type 0 where
+pub record Again (p : List ℕ) (rs : List Record) (out : List ℕ) : Type 0 where
   pub count : ℕ
-  pub done : writeOf (sheetOf rs) s (length p) ≡ Done count
-  pub most : count ≤ length s
+  pub done : writeOf (sheetOf rs) p (length out) ≡ Done count
+  pub most : count ≤ length p
   pub records : List Record
-  pub read : pageOf (take count (writeInto (sheetOf rs) s p)) ≡ ok records count
+  pub read : pageOf (take count (writeInto (sheetOf rs) p out)) ≡ ok records count
   pub same : map bare records ≡ map bare rs
-  pub layers : map (layerOctets (take count (writeInto (sheetOf rs) s p))) records ≡ map (layerOctets s) rs
+  pub layers : map (layerOctets (take count (writeInto (sheetOf rs) p out))) records ≡ map (layerOctets p) rs
 
-pub read-write-read : (s : List ℕ) → Octets s → (rs : List Record) (n : ℕ) → pageOf s ≡ ok rs n → length s ≤ longestPage → (p : List ℕ) → length s ≤ length p → Again s rs p
-read-write-read s o rs n e short p fits =
-    let y = page-back s o rs n e .0 in
-    let l = length-page s rs y in
+pub read-write-read : (p : List ℕ) → Octets p → (rs : List Record) (n : ℕ) → pageOf p ≡ ok rs n → length p ≤ longestPage → (out : List ℕ) → length p ≤ length out → Again p rs out
+read-write-read p o rs n e short out fits =
+    let y = page-back p o rs n e .0 in
+    let l = length-page p rs y in
     let c : ℕ = 26 + length (y .stripes) in
-    let q = lent-done s o rs y short (length p) fits in
-    let i = done-into (sheetOf rs) s p o (26 + length (y .stripes)) q in
-    let k = into-lands (sheetOf rs) s p o (sheet-sized s rs y short) (26 + length (y .stripes)) i in
-    let m = into-size (sheetOf rs) s p o (sheet-sized s rs y short) (26 + length (y .stripes)) i in
+    let q = lent-done p o rs y short (length out) fits in
+    let i = done-into (sheetOf rs) p out o (26 + length (y .stripes)) q in
+    let k = into-lands (sheetOf rs) p out o (sheet-sized p rs y short) (26 + length (y .stripes)) i in
+    let m = into-size (sheetOf rs) p out o (sheet-sized p rs y short) (26 + length (y .stripes)) i in
     record {
       count = 26 + length (y .stripes);
       done = q;
       most = omega arith;
       records = k .records;
-      read = page-there (take (26 + length (y .stripes)) (writeInto (sheetOf rs) s p)) (k .records) (k .page) ∙ ap (ok (k .records)) m;
+      read = page-there (take (26 + length (y .stripes)) (writeInto (sheetOf rs) p out)) (k .records) (k .page) ∙ ap (ok (k .records)) m;
       same = k .same ∙ ap (map bare) (sheet-back rs);
-      layers = k .layers ∙ ap (map (layerOctets s)) (sheet-back rs);
+      layers = k .layers ∙ ap (map (layerOctets p)) (sheet-back rs);
     }

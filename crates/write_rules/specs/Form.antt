@@ -6,7 +6,7 @@
 --                  is the data that the buffer d has for it
 --   Trim ..        in each stripe of a page an absent layer's offsets are 0
 --   UsedMask, UsedImage   some mask, or some image layer, among the records is coded
---   Formed s rs    the octets s are a page with the records rs, in the writer's form
+--   Formed p rs    the octets p are a page with the records rs, in the writer's form
 use Prim.Native.Nat.{ℕ}
 use mathlib.Core.Path.{_≡_}
 use mathlib.Core.Logic.{_≢_}
@@ -74,8 +74,8 @@ pub record UsedImage (rs : List Record) : Type 0 where
   pub image : it .layer ≢ 2
   pub coded : Coded it
 
-pub record Formed (s : List ℕ) (rs : List Record) : Type 0 where
-  pub page : Page s rs
+pub record Formed (p : List ℕ) (rs : List Record) : Type 0 where
+  pub page : Page p rs
   -- each coder octet is the coder used, or 0 (a page's coded layers have the coder that its octet names)
   pub mask : page .head .mask ≢ 0 → UsedMask rs
   pub image : page .head .image ≢ 0 → UsedImage rs

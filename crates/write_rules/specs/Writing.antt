@@ -4,15 +4,15 @@
 --
 --   modeFrom i rs          BadMode at the first record above layer 3, the records being numbered from i
 --   begun, counted         the tally before the first record, and with one more
---   matches d main t r     a record's data agrees with it, and its coder with that of the masks before
+--   matches d main tally r     a record's data agrees with it, and its coder with that of the masks before
 --   recordStep             one record: Short before Mismatch
 --   recordsPass            each record in order
 --   verdictOf s d          the sheet, the mode, the records: what the page will be, or the refusal; verdictBy: by the judge's verdict
 --   typeBy, colourBy       a stripe's type by which of its layers are coded, and a record's base colour
 --   fieldsBy a b c         the fields of a stripe whose layers 1 to 3 have the records a, b and c
 --   stripeBy, stripesBy    a stripe with its coded layers, and all of them
---   headBy rs t            what the start of page says
---   pageBy d rs t          the page's octets
+--   headBy rs tally            what the start of page says
+--   pageBy d rs tally          the page's octets
 --   sizeAnswer room size   after the verdict: TooLong, NoRoom, or Done
 --   writeOf s d room       what the call answers, where the page's buffer holds so many octets
 --   writeInto s d p        what the buffer p holds afterwards
@@ -58,31 +58,31 @@ isMask r = eqb (r .layer) 2
 
 -- a stripe's segment takes 39 octets, counted at its first layer
 unfoldable pub counted : Tally → Record → Tally
-counted t r =
+counted tally r =
     record {
-      mask = cond (coded r && isMask r) (r .coder) (t .mask);
-      image = cond (coded r && not (isMask r)) (r .coder) (t .image);
-      size = t .size + only (eqb (r .layer) 1) 39 + r .len;
+      mask = cond (coded r && isMask r) (r .coder) (tally .mask);
+      image = cond (coded r && not (isMask r)) (r .coder) (tally .image);
+      size = tally .size + only (eqb (r .layer) 1) 39 + r .len;
     }
 
 -- coded masks have one coder; a coded image layer agrees with its record; of an uncoded layer nothing is asked
 unfoldable pub matches : List ℕ → ℕ → Tally → Record → Bool
-matches d main t r =
+matches d main tally r =
     cond (coded r)
-    (cond (isMask r) (eqb (t .mask) 0 || eqb (t .mask) (r .coder)) (agrees d main r))
+    (cond (isMask r) (eqb (tally .mask) 0 || eqb (tally .mask) (r .coder)) (agrees d main r))
     true
 
 unfoldable pub recordStep : List ℕ → ℕ → Tally → ℕ → Record → Res Tally
 unfolding matches counted
-recordStep d main t i r =
+recordStep d main tally i r =
     cond (ltb (length d) (r .start + r .len)) (no (Short i))
-    (cond (matches d main t r) (ok (counted t r) (i + 1))
+    (cond (matches d main tally r) (ok (counted tally r) (i + 1))
     (no (Mismatch i)))
 
 unfoldable pub recordsPass : List ℕ → ℕ → Tally → ℕ → List Record → Res Tally
 unfolding bind recordStep
-recordsPass d main t i [] = ok t i
-recordsPass d main t i (r ∷ rs) = bind (recordStep d main t i r) (λ (u : Tally) (n : ℕ). recordsPass d main u n rs)
+recordsPass d main tally i [] = ok tally i
+recordsPass d main tally i (r ∷ rs) = bind (recordStep d main tally i r) (λ (u : Tally) (n : ℕ). recordsPass d main u n rs)
 
 -- ---- the verdict: BadSheet, BadMode, each record
 
@@ -134,11 +134,11 @@ stripesBy d (a ∷ b ∷ c ∷ rs) = stripeBy d a b c ++ stripesBy d rs
 -- ---- the page (9.6.2): the start of page (9.2.1), the stripes, the end; no optional segment and no padding
 
 abbrev pub headBy : List Record → Tally → Head
-headBy rs t = record { mask = t .mask; image = t .image; main = sheetMain rs; width = nth rs 1 .width }
+headBy rs tally = record { mask = tally .mask; image = tally .image; main = sheetMain rs; width = nth rs 1 .width }
 
 unfoldable pub pageBy : List ℕ → List Record → Tally → List ℕ
 unfolding stripesBy
-pageBy d rs t = startOf (headBy rs t) ++ (stripesBy d rs ++ (0xFF ∷ 0xD9 ∷ 0xFF ∷ 0xD9 ∷ []))
+pageBy d rs tally = startOf (headBy rs tally) ++ (stripesBy d rs ++ (0xFF ∷ 0xD9 ∷ 0xFF ∷ 0xD9 ∷ []))
 
 -- ---- the call: after the verdict TooLong, then NoRoom
 
@@ -147,7 +147,7 @@ sizeAnswer room size = cond (ltb longestPage size) TooLong (cond (ltb room size)
 
 unfoldable pub answerBy : ℕ → Res Tally → Answer
 unfolding sizeAnswer
-answerBy room (ok t n) = sizeAnswer room (t .size)
+answerBy room (ok tally n) = sizeAnswer room (tally .size)
 answerBy room (no a) = a
 
 unfoldable pub writeOf : List ℕ → List ℕ → ℕ → Answer
@@ -157,7 +157,7 @@ writeOf s d room = answerBy room (verdictOf s d)
 -- the page in front, and the octets past it as they were; a refusal changes nothing
 unfoldable pub intoBy : List ℕ → List ℕ → List Record → Res Tally → List ℕ
 unfolding pageBy
-intoBy p d rs (ok t n) = cond (ltb longestPage (t .size)) p (cond (ltb (length p) (t .size)) p (putAt p 0 (pageBy d rs t)))
+intoBy p d rs (ok tally n) = cond (ltb longestPage (tally .size)) p (cond (ltb (length p) (tally .size)) p (putAt p 0 (pageBy d rs tally)))
 intoBy p d rs (no a) = p
 
 unfoldable pub writeInto : List ℕ → List ℕ → List ℕ → List ℕ

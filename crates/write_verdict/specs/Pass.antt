@@ -23,7 +23,7 @@ use Rattle.write_verdict.specs.declared.Mode.{Mode}
 use Rattle.write_verdict.specs.declared.Mode.the-variants.{Low, Above}
 
 unfoldable pub passOf : Res Tally → Pass
-passOf (ok t n) = Next t
+passOf (ok tally n) = Next tally
 passOf (no a) = Refused a
 
 unfoldable pub modeOf : Res ℕ → Mode

@@ -48,25 +48,25 @@ fn size_with(size: u64, layer: u8, len: u32) -> u64
     size + head_octets(layer) + len as u64
 }
 
-fn with_record(t: Tally, r: Record) -> Tally
-    requires { ⌜ t .size ≤ 4611686018427387904 ⌝ }
-    ensures { λ u. ⌜ u ≡ counted t r ⌝ }
+fn with_record(tally: Tally, r: Record) -> Tally
+    requires { ⌜ tally .size ≤ 4611686018427387904 ⌝ }
+    ensures { λ u. ⌜ u ≡ counted tally r ⌝ }
 {
     let coded = sheet_tests::is_coded(r);
     let is_mask = r.layer == 2;
-    let mask = choose(coded & is_mask, r.coder, t.mask);
-    let image = choose(coded & !is_mask, r.coder, t.image);
-    let size = size_with(t.size, r.layer, r.len);
+    let mask = choose(coded & is_mask, r.coder, tally.mask);
+    let image = choose(coded & !is_mask, r.coder, tally.image);
+    let size = size_with(tally.size, r.layer, r.len);
     Tally { mask, image, size }
 }
 
-fn data_matches(d: &[u8], main: u16, t: Tally, r: Record) -> bool
+fn data_matches(d: &[u8], main: u16, tally: Tally, r: Record) -> bool
     requires { ⌜ r .start + r .len ≤ length (now d) ⌝ }
-    ensures { λ b. ⌜ b ≡ matches (now (d .entry)) main t r ⌝ }
+    ensures { λ b. ⌜ b ≡ matches (now (d .entry)) main tally r ⌝ }
 {
     if sheet_tests::is_coded(r) {
         if r.layer == 2 {
-            return (t.mask == 0) | (t.mask == r.coder);
+            return (tally.mask == 0) | (tally.mask == r.coder);
         }
         write_agreement::data_agrees(d, main, r)
     } else {
@@ -81,13 +81,13 @@ fn data_there(d: &[u8], r: Record) -> bool
     octets::end_of(r.start, r.len) <= d.len() as u64
 }
 
-fn pass_record(d: &[u8], main: u16, t: Tally, i: u32, r: Record) -> Pass
-    requires { ⌜ t .size ≤ 4611686018427387904 ⌝ }
-    ensures { λ p. ⌜ p ≡ passOf (recordStep (now (d .entry)) main t i r) ⌝ }
+fn pass_record(d: &[u8], main: u16, tally: Tally, i: u32, r: Record) -> Pass
+    requires { ⌜ tally .size ≤ 4611686018427387904 ⌝ }
+    ensures { λ p. ⌜ p ≡ passOf (recordStep (now (d .entry)) main tally i r) ⌝ }
 {
     if data_there(d, r) {
-        if data_matches(d, main, t, r) {
-            Pass::Next(with_record(t, r))
+        if data_matches(d, main, tally, r) {
+            Pass::Next(with_record(tally, r))
         } else {
             Pass::Refused(Answer::Mismatch(i))
         }
@@ -101,16 +101,16 @@ fn pass_records(s: &[u8], d: &[u8], main: u16, n: usize) -> Pass
     requires { ⌜ Few (now s) n ⌝ }
     ensures { λ p. ⌜ p ≡ passOf (recordsPass (now (d .entry)) main begun 0 (records (now (s .entry)))) ⌝ }
 {
-    let mut t = Tally {
+    let mut tally = Tally {
         mask: 0,
         image: 0,
         size: 26,
     };
     let mut i: usize = 0;
     while i < n {
-        match pass_record(d, main, t, i as u32, sheet_record::record_at(s, i)) {
+        match pass_record(d, main, tally, i as u32, sheet_record::record_at(s, i)) {
             Pass::Next(u) => {
-                t = u;
+                tally = u;
                 i += 1;
             }
             Pass::Refused(a) => {
@@ -118,7 +118,7 @@ fn pass_records(s: &[u8], d: &[u8], main: u16, n: usize) -> Pass
             }
         }
     }
-    Pass::Next(t)
+    Pass::Next(tally)
 }
 
 fn first_above(s: &[u8], n: usize) -> Mode

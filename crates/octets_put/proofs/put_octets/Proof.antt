@@ -26,8 +26,8 @@ add-d c = search needs
 slice-write-d : tie.Need-slice-write-d Inv-loop μ-loop
 slice-write-d c = search needs
 
-add-k : tie.Need-add-k Inv-loop μ-loop
-add-k c = search needs
+add-i : tie.Need-add-i Inv-loop μ-loop
+add-i c = search needs
 
 loop-less : tie.Need-loop-less Inv-loop μ-loop
 loop-less c = search needs
@@ -51,7 +51,7 @@ put-octets-spec =
     shared-slice-read-d
     add-d
     slice-write-d
-    add-k
+    add-i
     loop-less
     loop-again
     same-length
