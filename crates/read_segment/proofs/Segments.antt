@@ -12,6 +12,7 @@ use Rattle.laws.proofs.Cases.{clash}
 use borrow.Author.Tests.{leb-true, leb-false, lt-ltb, le-ltb, le-leb, lt-leb, ne-eqb}
 use Rattle.octets.specs.Octets.{be16At, begins, standsAt}
 use Rattle.octets.proofs.Laws.{drop-octet}
+use Rattle.page_rules.specs.Kinds.{longestPage}
 use Rattle.answers.specs.declared.Answer.the-variants.{Short, BadMark, BadLength}
 use Rattle.field_rules.specs.Field.{one, numbers, fields}
 use Rattle.page_rules.specs.Reading.{identOk, mrc, segmentTable, spanOf}
@@ -166,7 +167,7 @@ module _ (k : ℕ) (s : List ℕ) (at : ℕ) {f : Bool} (e : f ≡ leb (at + 2) 
       unfolding segmentOf segmentTable fields onRead lengthOf
       segment-marked w h = h ∙ simp (le-ltb (length s) (at + 2) near, sym t ∙ z, sym u ∙ w)
 
-pub behind : (at size : ℕ) → at ≤ 16777217 → 6 ≤ size → Behind (at + 2) size
+pub behind : (at size : ℕ) → at ≤ longestPage + 2 → 6 ≤ size → Behind (at + 2) size
 behind at size h l = record { near = omega arith; long = l }
 
 pub ruleset segment-laws = (needs, optional-made, skip-whole, skip-cut, ident-cut, ident-stripe, ident-optional, ident-other, skip-near, behind, length-cut, length-small, length-ident, segment-cut, segment-end, segment-stray, segment-marked)

@@ -10,6 +10,7 @@ use mathlib.Core.List.{List, [], _∷_}
 use lib.ListN.{length, getD}
 use lib.Dec.{leb, ltb, eqb}
 use Rattle.octets.specs.Octets.{standsAt}
+use Rattle.page_rules.specs.Kinds.{longestPage}
 use Rattle.answers.specs.declared.Answer.the-variants.{Short, BadMark, BadLength}
 use Rattle.field_rules.specs.Field.{Res, ok, no, one, two, Field, val, fields}
 use Rattle.page_rules.specs.Reading.{is, identOk, mrc, segmentTable, spanOf}
@@ -18,7 +19,7 @@ use Rattle.read_segment.specs.declared.Segment.the-variants.{End, Stripe
 
 -- an ident is due here, after a length that is long enough
 pub record Behind (at size : ℕ) : Type 0 where
-  pub near : at ≤ 16777219
+  pub near : at ≤ longestPage + 4
   pub long : 6 ≤ size
 
 unfoldable pub optionalAt : ℕ → List ℕ → ℕ → Bool

@@ -25,7 +25,7 @@ pub enum Segment {
 
 // 9.2.2: optional segments stand before the first stripe, and are numbered from 03 to FE.
 fn is_optional(s: &[u8], k: u32, at: u32) -> bool
-    requires { ⌜ at ≤ 16777219 ⌝ }
+    requires { ⌜ at ≤ longestPage + 4 ⌝ }
     ensures { λ r. ⌜ r ≡ optionalAt k (now (s .entry)) at ⌝ }
 {
     let n = read_field::octet(s, at + 3);
@@ -65,7 +65,7 @@ fn by_ident(s: &[u8], k: u32, at: u32, size: u16) -> Segment
 
 // After the marker: a length below 6 at once.
 fn by_length(s: &[u8], k: u32, at: u32) -> Segment
-    requires { ⌜ at ≤ 16777217 ⌝ }
+    requires { ⌜ at ≤ longestPage + 2 ⌝ }
     ensures { λ r. ⌜ r ≡ lengthOf k (now (s .entry)) at ⌝ }
 {
     if read_field::fits(s, at, 2) {

@@ -1,6 +1,6 @@
 -- Pages that are written, octet for octet, and sheets that are refused at their records.
 -- Assumes nothing.
-use Prim.Native.Nat.{ℕ}
+use Prim.Native.Nat.{ℕ, _+_}
 use mathlib.Core.Path.{_≡_, refl}
 use mathlib.Core.List.{List, [], _∷_, _++_}
 use lib.ListN.{replicate, take}
@@ -13,7 +13,7 @@ use Rattle.sheet_rules.specs.Judge.{keeps, after, after1, after2, after3, stepO
 use Rattle.jpeg_rules.specs.Marker.{classOf, markerOf}
 use Rattle.jpeg_rules.specs.Walk.{segOf, scanOf, tagOf, frameBodyOf, frameOf, scanStepOf, segmentOf, turnOf, walkOf}
 use Rattle.jpeg_rules.specs.Walk as W
-use Rattle.page_rules.specs.Kinds.{Fields}
+use Rattle.page_rules.specs.Kinds.{Fields, longestPage}
 use Rattle.sheet_rules.specs.declared.Colour.{Colour}
 use Rattle.page_rules.specs.Grammar.{startOf, colourOf, headOf}
 use Rattle.page_rules.proofs.Examples.{page, picture}
@@ -61,7 +61,7 @@ unfolding writeOf buffer example counted matches sizeAnswer judgeOf judge walk o
 bad-sheet = refl
 
 -- too long is said before the room
-pub too-long : sizeAnswer 0 16777216 ≡ TooLong
+pub too-long : sizeAnswer 0 (longestPage + 1) ≡ TooLong
 unfolding sizeAnswer
 too-long = refl
 
