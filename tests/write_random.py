@@ -1,7 +1,7 @@
 """Sheets and data for writing at random, and what a writer has to say to any of them.
 
 The page due is put together here from the records by tests/page_making.py. What
-a picture is, the reader of the reference says; what a sheet is, its listing:
+a picture is, the reader of the reference says; what a sheet is, its judge:
 both are held to tables of their own.
 """
 
