@@ -102,7 +102,7 @@ def change_image(rng, rows, data):
 
 def change_coder(rng, rows, data):
     row = rng.choice([row for row in rows if row[LAYER] == 2])
-    row[CODER] = rng.choice([1, 2, 4, 8])
+    row[CODER] = rng.choice([1, 2, 4, 8, 16])
     return rows, data
 
 
