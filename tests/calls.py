@@ -63,7 +63,7 @@ class Both:
                                              flags=flags, parts=reference_run.parts_of(call.name))
         self.library = library or reference_run.build_library_driver(tally, call.name)
         self.counts = counted or counts.Counts()
-        self.wrong = 0
+        self.compared = 0
 
     def answers(self, told, cases):
         """What the reference answers to each case, which the library answers too;
@@ -72,6 +72,7 @@ class Both:
         broken = [k for k, (answer, _) in enumerate(answers) if counts.number_of(answer) < 0]
         for k in broken[:5]:
             self.tally.check(False, "%s: the reference says %s" % (told(k), answers[k][0]))
+        self.counts.add(self.call.name, [answer for answer, _ in answers])
         if self.library is not None:
             got = self.call.answers(self.library, cases)
             wrong = [k for k in range(len(cases)) if got[k] != answers[k]]
@@ -80,8 +81,7 @@ class Both:
                                                        difference(answers[k], got[k])))
             if not wrong:
                 self.tally.check(True, "")
-            self.wrong += len(wrong)
-            self.counts.add(self.call.name, [answer for answer, _ in answers])
+            self.compared += len(cases)
         return answers
 
     def check(self, works):
@@ -95,7 +95,9 @@ class Both:
 
 def difference(due, got):
     """What one says and the other, and the first octet in which they differ."""
-    at = next((k for k, pair in enumerate(zip(due[1], got[1])) if pair[0] != pair[1]),
-              min(len(due[1]), len(got[1])))
-    where = "; octet %d is another" % at if due[1] != got[1] else ""
+    where = ""
+    if due[1] != got[1]:
+        at = next((k for k, pair in enumerate(zip(due[1], got[1])) if pair[0] != pair[1]),
+                  min(len(due[1]), len(got[1])))
+        where = "; octet %d is another" % at
     return "the reference says %s, the library %s%s" % (due[0], got[0], where)

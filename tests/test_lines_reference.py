@@ -10,6 +10,7 @@ import os
 import random
 import sys
 
+import calls
 import counts
 import line_making
 import line_random
@@ -22,70 +23,8 @@ SHEETS = 600         # damaged sheets
 NOISE = 200          # random octets as a sheet
 ROOMS = 60           # lines asked for in every room around their size
 LINES = 250          # stripes and lines asked for beside those that there are
-MANY = 60 * 28       # a sheet of more octets than this is judged by itself
-RUN = 400            # lines in one run of a driver
 LEAST = {0: 1000, 13: 100, 14: 100, 15: 100, 17: 100}
 SANITIZED = ("-O2", "-fsanitize=address,undefined", "-fno-sanitize-recover=all")
-
-
-def batches(calls):
-    """The calls in runs of the driver, large sheets alone: a run has only so much time."""
-    large = [k for k, call in enumerate(calls) if len(call[0]) > MANY]
-    small = [k for k, call in enumerate(calls) if len(call[0]) <= MANY]
-    yield from (small[at:at + RUN] for at in range(0, len(small), RUN))
-    yield from ([k] for k in large)
-
-
-def composed(program, calls):
-    """(answer, line) of each call"""
-    answers = [None] * len(calls)
-    for batch in batches(calls):
-        for k, got in zip(batch, reference_run.call_many(program, [calls[k] for k in batch])):
-            answers[k] = got
-    return answers
-
-
-class Composer:
-    """The reference, and beside it the library, if there is one."""
-
-    def __init__(self, tally, library, name, flags):
-        self.tally, self.library = tally, library
-        self.reference = reference_run.build(name, flags=flags, parts=reference_run.parts_of("line"))
-        self.compared, self.counts = 0, counts.Counts()
-
-    def answers(self, told, calls):
-        """What the reference answers to each call, which the library answers too;
-        `told` names one of them by its number."""
-        answers = composed(self.reference, calls)
-        self.counts.add("line", [answer for answer, _ in answers])
-        if self.library is not None:
-            got = composed(self.library, calls)
-            wrong = [k for k in range(len(calls)) if got[k] != answers[k]]
-            for k in wrong[:5]:
-                self.tally.check(False, "%s: the reference says %s, the library %s%s"
-                                 % (told(k), answers[k][0], got[k][0],
-                                    first_difference(answers[k], got[k])))
-            if not wrong:
-                self.tally.check(True, "")
-            self.compared += len(calls)
-        return answers
-
-    def check(self, works):
-        """Calls whose answers are known: (what, call, (answer, line)); answers them."""
-        answers = self.answers(lambda k: works[k][0], [call for _, call, _ in works])
-        for (told, _, due), got in zip(works, answers):
-            self.tally.check(got == due, "%s: %s is due, but the reference says %s%s"
-                             % (told, due[0], got[0], first_difference(due, got)))
-        return answers
-
-
-def first_difference(due, got):
-    """The first pixel in which two lines differ."""
-    for at in range(0, max(len(due[1]), len(got[1])), 4):
-        if due[1][at:at + 4] != got[1][at:at + 4]:
-            return "; pixel %d is %s and %s" % (at // 4, due[1][at:at + 4].hex(" "),
-                                                got[1][at:at + 4].hex(" "))
-    return ""
 
 
 def check_table(tally, watched, plain, cases):
@@ -96,14 +35,14 @@ def check_table(tally, watched, plain, cases):
         tally.check(case.is_told(), "%s, but the line told has %d" % (case.told(), len(case.due)))
     for composer, many in ((watched, False), (plain, True)):
         composer.check([(case.told(), case.work(), (case.answer, case.due))
-                        for case in cases if (len(case.sheet) > MANY) == many])
+                        for case in cases if (len(case.sheet) > calls.MANY) == many])
     print("tests/lines.md: %d lines" % len(cases))
 
 
-def check_rooms(composer, told, calls):
+def check_rooms(composer, told, lines):
     """(call, (answer, line)) of Done: in any room from its size on, and in none below."""
     works = []
-    for k, (call, due) in enumerate(calls):
+    for k, (call, due) in enumerate(lines):
         size = len(due[1])
         for room in {0, 1, size // 2, *range(max(0, size - 5), size + 6), size + 64}:
             asked = call[:3] + (room,) + call[4:]
@@ -185,11 +124,11 @@ def check_planes(composer, rng, works):
 
 
 def check_sheets(composer, rng, works):
-    calls = []
+    damaged = []
     for work in works:
         sheet = bytes(sheet_random.damaged(rng, bytearray(work.sheet)))
-        calls.append(work.call(sheet=sheet, room=rng.choice([4 * 32768, work.room, 0])))
-    composer.answers(lambda k: "damaged sheet %d" % k, calls)
+        damaged.append(work.call(sheet=sheet, room=rng.choice([4 * 32768, work.room, 0])))
+    composer.answers(lambda k: "damaged sheet %d" % k, damaged)
     noise = []
     for _ in range(NOISE):
         octets = bytes(rng.randrange(rng.choice([2, 256]))
@@ -202,11 +141,10 @@ def main():
     seed = int(os.environ.get("SEED") or random.randrange(2 ** 32))
     print("SEED=%d" % seed)
     rng = random.Random(seed)
-    tally = reference_run.Tally()
-    library = reference_run.build_library_driver(tally, "line")
+    tally, counted = reference_run.Tally(), counts.Counts()
     # the reference tries thousands of contents, and takes its time where each step is watched
-    watched = Composer(tally, library, "reference_line", SANITIZED)
-    plain = Composer(tally, library, "reference_line_plain", ("-O2",))
+    watched = calls.Both(tally, calls.ALL["line"], "reference_line", SANITIZED, counted=counted)
+    plain = calls.Both(tally, calls.ALL["line"], library=watched.library, counted=counted)
     cases = line_making.table()
     check_table(tally, watched, plain, cases)
     check_rooms(plain, "line of the table", [(case.work(), (case.answer, case.due)) for case in
@@ -221,15 +159,14 @@ def main():
     check_planes(watched, rng, [rng.choice(works) for _ in range(PLANES)])
     check_sheets(watched, rng, [rng.choice(works) for _ in range(SHEETS)])
     check_all_read(tally, plain, rng, works[::2])
-    watched.counts.join(plain.counts)
-    numbers = watched.counts.calls["line"]
+    numbers = counted.calls["line"]
     print("answers: " + ", ".join("%d %d times" % each for each in sorted(numbers.items())))
     for number, least in LEAST.items():
         tally.check(numbers[number] >= least, "only %d answers %d" % (numbers[number], number))
-    if library is not None:
+    if watched.library is not None:
         print("%d lines composed by the reference and by the library"
               % (watched.compared + plain.compared))
-        watched.counts.save("test_lines_reference")
+        counted.save("test_lines_reference")
     return tally.end()
 
 

@@ -10,6 +10,7 @@ import os
 import random
 import sys
 
+import calls
 import counts
 import page_making
 import reference_run
@@ -22,75 +23,9 @@ GOOD = reference_run.trials(150)
 DAMAGED = reference_run.trials(1200)
 PICTURES = 10        # written with every length up to their own, and beyond
 POSITIONS = 140      # more than a writer looks at in one step
-LARGE = 100000       # more octets than this are written by themselves
-MANY = 60 * 28       # a sheet of more octets than this is judged by itself
-RUN = 2000           # sheets in one run of a driver
+LARGE = 100000       # more room than any page but the longest needs
 LONGEST = 16777215
 SANITIZED = ("-O2", "-fsanitize=address,undefined", "-fno-sanitize-recover=all")
-
-
-def batches(works):
-    """The works in runs of the driver, large ones alone: a run has only so much time."""
-    large = {k for k, (sheet, data, room) in enumerate(works)
-             if len(sheet) > MANY or len(data) + room > 2 * LARGE}
-    small = [k for k in range(len(works)) if k not in large]
-    yield from (small[at:at + RUN] for at in range(0, len(small), RUN))
-    yield from ([k] for k in sorted(large))
-
-
-def written(program, works):
-    """(answer, page) of each (sheet, data, room)"""
-    answers = [None] * len(works)
-    for batch in batches(works):
-        for k, got in zip(batch, reference_run.call_many(program, [works[k] for k in batch])):
-            answers[k] = got
-    return answers
-
-
-class Writer:
-    """The reference, and beside it the library, if there is one."""
-
-    def __init__(self, tally, library, name, flags):
-        self.tally, self.library = tally, library
-        self.reference = reference_run.build(name, flags=flags,
-                                             parts=reference_run.parts_of("write"))
-        self.compared, self.counts = 0, counts.Counts()
-
-    def answers(self, told, works):
-        """What the reference answers to each (sheet, data, room), which the library
-        answers too; `told` names one of them by its number."""
-        answers = written(self.reference, works)
-        if self.library is not None:
-            got = written(self.library, works)
-            wrong = [k for k in range(len(works)) if got[k] != answers[k]]
-            for k in wrong[:5]:
-                self.tally.check(False, "%s: the reference says %s, the library %s"
-                                 % (told(k), shown(answers[k]), shown(got[k])))
-            if not wrong:
-                self.tally.check(True, "")
-            self.compared += len(works)
-            self.counts.add("write", [answer for answer, _ in answers])
-        return answers
-
-    def check(self, works):
-        """Works whose answers are known: (what, sheet, data, room, (answer, page))."""
-        answers = self.answers(lambda k: works[k][0],
-                               [(sheet, data, room) for _, sheet, data, room, _ in works])
-        for (told, _, _, _, due), got in zip(works, answers):
-            self.tally.check(got == due, "%s: %s is due, but the reference says %s%s"
-                             % (told, shown(due), shown(got), first_difference(due, got)))
-
-
-def shown(answer):
-    return "%s %s" % (answer[0], answer[1][:8].hex(" ")) if answer[1] else answer[0]
-
-
-def first_difference(due, got):
-    """Where two pages of the same length differ."""
-    if due[0] != got[0] or due[1] == got[1]:
-        return ""
-    return "; octet %s is another" % next(
-        (k for k, pair in enumerate(zip(due[1], got[1])) if pair[0] != pair[1]), "none")
 
 
 def check_table(tally, watched, plain, cases):
@@ -100,8 +35,8 @@ def check_table(tally, watched, plain, cases):
     for case in cases:
         tally.check(case.is_told(), "%s, but the page told has %d" % (case.told(), len(case.page)))
     for writer, many in ((watched, False), (plain, True)):
-        writer.check([(case.told(), case.sheet, case.data, case.room, (case.answer, case.page))
-                      for case in cases if (len(case.sheet) > MANY) == many])
+        writer.check([(case.told(), (case.sheet, case.data, case.room), (case.answer, case.page))
+                      for case in cases if (len(case.sheet) > calls.MANY) == many])
 
 
 def check_rooms(writer, cases):
@@ -113,7 +48,7 @@ def check_rooms(writer, cases):
             continue
         for room in (0, 1, least // 2, least - 1, least, least + 1, LARGE):
             due = (case.answer, case.page) if room >= least else ("refused 13 0", b"")
-            works.append(("%s, in room %d" % (case.told(), room), case.sheet, case.data, room, due))
+            works.append(("%s, in room %d" % (case.told(), room), (case.sheet, case.data, room), due))
     writer.check(works)
 
 
@@ -132,7 +67,7 @@ class RoundTrip:
         """(name, page), all of them good."""
         sheets = self.read([page for _, page in pages])
         due = [page_of(rows, page) for rows, (_, page) in zip(sheets, pages)]
-        self.writer.check([("%s: %s" % (what, name), sheet_of(rows), page, len(page),
+        self.writer.check([("%s: %s" % (what, name), (sheet_of(rows), page, len(page)),
                             ("done %d" % len(made), made))
                            for rows, (name, page), made in zip(sheets, pages, due)])
         for (name, _), rows, made, again in zip(pages, sheets, due, self.read(due)):
@@ -140,8 +75,8 @@ class RoundTrip:
                              and without_starts(again) == without_starts(rows),
                              "%s: %s: another sheet when read again" % (what, name))
         # what a writer made comes back octet for octet, out of itself as the data
-        self.writer.check([("%s, a second time: %s" % (what, name), sheet_of(rows), made,
-                            len(made), ("done %d" % len(made), made))
+        self.writer.check([("%s, a second time: %s" % (what, name),
+                            (sheet_of(rows), made, len(made)), ("done %d" % len(made), made))
                            for (name, _), rows, made in zip(pages, self.read(due), due)])
         same = sum(made == page for made, (_, page) in zip(due, pages))
         print("%s: %d pages read, written and read again, %d of them in the writer's form"
@@ -178,7 +113,7 @@ def picture_work(told, rows, data, good):
     coded = next(k for k, row in enumerate(rows) if row[12])
     page = page_of(rows, data) if good else b""
     due = "done %d" % len(page) if good else "refused 16 %d" % coded
-    return told, sheet_of(rows), data, write_making.ROOM, (due, page)
+    return told, (sheet_of(rows), data, write_making.ROOM), (due, page)
 
 
 def check_lengths(writer, rng):
@@ -226,7 +161,7 @@ def check_longest(writer):
             due = (("done %d" % size, page + write_random.END) if number == "done"
                    else (number, b""))
             writer.check([("layer %d in a page of %d octets" % (layer, size),
-                           bytes(write_making.sheet_of(rows)), data, LONGEST + 1, due)])
+                           (bytes(write_making.sheet_of(rows)), data, LONGEST + 1), due)])
 
 
 def check_good(writer, rng):
@@ -235,7 +170,7 @@ def check_good(writer, rng):
     for k in range(GOOD):
         rows, data = write_random.random_work(rng)
         page = page_of(rows, data)
-        works.append(("random sheet %d" % k, sheet_of(rows), data, len(page) + rng.choice([0, 9]),
+        works.append(("random sheet %d" % k, (sheet_of(rows), data, len(page) + rng.choice([0, 9])),
                       ("done %d" % len(page), page)))
     writer.check(works)
 
@@ -249,7 +184,7 @@ def check_damaged(tally, writer, rng):
         room = rng.choice([LARGE, len(page), max(0, len(page) - 1)]) if page else rng.randrange(99)
         if len(page) > room:
             answer, page = "refused 13 0", b""
-        due.append(("damaged sheet %d" % k, sheet, data, room, (answer, page)))
+        due.append(("damaged sheet %d" % k, (sheet, data, room), (answer, page)))
         numbers[int(answer.split()[1]) if answer.startswith("refused") else 0] += 1
     writer.check(due)
     print("%d damaged sheets: %s" % (len(works), ", ".join(
@@ -261,11 +196,10 @@ def check_damaged(tally, writer, rng):
 def main():
     seed = int(os.environ.get("SEED") or random.randrange(2 ** 32))
     print("SEED=%d" % seed)
-    tally = reference_run.Tally()
-    library = reference_run.build_library_driver(tally, "write")
+    tally, counted = reference_run.Tally(), counts.Counts()
     # the reference's judge takes its time, and much more of it where each step is watched
-    watched = Writer(tally, library, "reference_write", SANITIZED)
-    plain = Writer(tally, library, "reference_write_plain", ("-O2",))
+    watched = calls.Both(tally, calls.ALL["write"], "reference_write", SANITIZED, counted=counted)
+    plain = calls.Both(tally, calls.ALL["write"], library=watched.library, counted=counted)
     cases = write_making.table()
     check_table(tally, watched, plain, cases)
     check_rooms(plain, cases)
@@ -275,11 +209,10 @@ def main():
     check_longest(plain)
     check_good(watched, random.Random(seed + 2))
     check_damaged(tally, watched, random.Random(seed + 3))
-    if library is not None:
+    if watched.library is not None:
         print("%d sheets written by the reference and by the library"
               % (watched.compared + plain.compared))
-        watched.counts.join(plain.counts)
-        watched.counts.save("test_writes_reference")
+        counted.save("test_writes_reference")
     return tally.end()
 
 

@@ -1,7 +1,7 @@
 """Sheets and data for writing at random, and what a writer has to say to any of them.
 
 The page due is put together here from the records by tests/page_making.py. What
-a picture is, the reader of the reference says; what a sheet is, its listing:
+a picture is, the reader of the reference says; what a sheet is, its judge:
 both are held to tables of their own.
 """
 
@@ -102,7 +102,7 @@ def change_image(rng, rows, data):
 
 def change_coder(rng, rows, data):
     row = rng.choice([row for row in rows if row[LAYER] == 2])
-    row[CODER] = rng.choice([1, 2, 4, 8])
+    row[CODER] = rng.choice([1, 2, 4, 8, 16])
     return rows, data
 
 
