@@ -9,8 +9,8 @@ judge-write-requires c κs = search needs
 enum-known-a : tie.Need-enum-known-a
 enum-known-a c = search needs
 
-enum-known-t : tie.Need-enum-known-t
-enum-known-t c = search needs
+enum-known-tally : tie.Need-enum-known-tally
+enum-known-tally c = search needs
 
 write-sound-requires : tie.Need-write-sound-requires
 write-sound-requires c κs = search writing
@@ -30,7 +30,7 @@ write-page-spec =
     (tie.spec
     judge-write-requires
     enum-known-a
-    enum-known-t
+    enum-known-tally
     write-sound-requires
     returns
     same-length
