@@ -1,6 +1,6 @@
 -- Entries of a fixed size, one after the other: the records of a sheet, the entries of a plane list.
 --
---   entriesFrom at k i    so many entries from number i on, `at` giving the entry of a number
+--   entriesFrom at n i    so many entries from number i on, `at` giving the entry of a number
 --   wholeEntries          all whole entries of a list of octets; a part at the end is none
 --   joined enc es         the octets of entries, one after the other
 --   Entry                 an entry of so many octets: it depends on its own alone, and those that it is put as are read as it
@@ -11,7 +11,7 @@ use lib.ListN.{length, getD}
 
 unfoldable pub entriesFrom : {A : Type 0} → (ℕ → A) → ℕ → ℕ → List A
 entriesFrom at zero i = []
-entriesFrom at (suc k) i = at i ∷ entriesFrom at k (i + 1)
+entriesFrom at (suc n) i = at i ∷ entriesFrom at n (i + 1)
 
 abbrev pub wholeEntries : {A : Type 0} → ℕ → (List ℕ → ℕ → A) → List ℕ → List A
 wholeEntries size at s = entriesFrom (at s) (length s / size) 0
