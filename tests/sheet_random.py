@@ -125,6 +125,15 @@ def change_coded(rng, sheet):
     return sheet
 
 
+def end_data(rng, sheet):
+    """Data that ends just below 2^32, or at it, which is one too far."""
+    coded = [k for k in range(whole_records(sheet)) if get(sheet, k, "length") > 1]
+    if coded:
+        at = rng.choice(coded)
+        put(sheet, at, "start", TOP - get(sheet, at, "length") - rng.choice([0, 1]))
+    return sheet
+
+
 def change_resolution(rng, sheet):
     """Another listed resolution, where only divisors or sameness can break."""
     if whole_records(sheet):
@@ -193,7 +202,7 @@ def extend(rng, sheet):
 
 CHANGES = [change_octet, change_octet, change_field, change_field, change_field, change_field,
            step_field, step_field, change_coded, change_coded, change_resolution,
-           change_resolution, cut, double, drop, swap, extend, extend]
+           change_resolution, end_data, cut, double, drop, swap, extend, extend]
 
 
 def damaged(rng, sheet):
