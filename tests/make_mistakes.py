@@ -272,7 +272,10 @@ def check_outputs(tally, folder):
     tally.check(read(os.path.join(folder, "old")) == b"as it was", "a failed run changed a file")
     with open("/dev/full", "wb") as full:
         ran = run(folder, "o.plan", "-o", "x", "--pencil", "s", "f", stdout=full)
-    check_refusal(tally, folder, "a full standard output", ran, 1, "standard output cannot be written")
+    lines = ran[2].splitlines()
+    tally.check(lines[0].startswith("stripe 0, layer 1: "), "a full standard output loses lines: %s" % (ran,))
+    check_refusal(tally, folder, "a full standard output", (ran[0], ran[1], lines[-1] + "\n"), 1,
+                  "standard output cannot be written: No space left on device")
     shim = os.path.join(folder, "no_rename.so")
     subprocess.run(["cc", "-shared", "-fPIC", "-x", "c", "-", "-o", shim], check=True,
                    input=NO_RENAME.encode())
@@ -300,8 +303,7 @@ def sanitized(tally):
     """The program with the sanitizers, or None."""
     program = os.path.join(reference_run.ROOT, "build", "make_sanitized")
     host = os.path.join(reference_run.ROOT, "host")
-    files = [os.path.join(host, name) for name in ("colour.c", "file.c")]
-    files += sorted(glob.glob(os.path.join(host, "make", "*.c")))
+    files = sorted(glob.glob(os.path.join(host, "*.c")) + glob.glob(os.path.join(host, "make", "*.c")))
     done = subprocess.run(["cc", "-std=c11", "-D_DEFAULT_SOURCE", *SAFE, "-I", reference_run.HEADERS,
                            "-I", host, *files, reference_run.archive(), "-o", program, "-ltiff", "-ljbig",
                            "-ljpeg", "-lpng", "-lm"], check=False, stderr=subprocess.PIPE)

@@ -1,9 +1,9 @@
 /* spirerook-make: a page from pictures, as a plan says. */
 #include <spirerook.h>
-#include <stdio.h>
 #include <string.h>
 
 #include "layers.h"
+#include "lines.h"
 #include "outputs.h"
 #include "plan.h"
 #include "sheets.h"
@@ -126,14 +126,20 @@ static bool fits(const options *given, const plan *from, trouble *what)
 
 static void list_layer(const plan_layer *layer, const spirerook_record *record)
 {
-    printf("stripe %u, layer %u: ", (unsigned)record->stripe, (unsigned)record->layer);
+    add_words("stripe %u, layer %u: ", (unsigned)record->stripe, (unsigned)record->layer);
     if (record->length == 0) {
-        printf("not coded\n");
+        say_line("not coded");
         return;
     }
-    printf("%s, %s, %u by %u at %u, %u octets\n", layer->name, coder_name(record),
-           (unsigned)record->width, (unsigned)record->height, (unsigned)record->resolution,
-           (unsigned)record->length);
+    say_line("%s, %s, %u by %u at %u, %u octets", layer->name, coder_name(record),
+             (unsigned)record->width, (unsigned)record->height, (unsigned)record->resolution,
+             (unsigned)record->length);
+}
+
+static bool is_said(trouble *what)
+{
+    return output_fault() == NULL ||
+           tell(what, "standard output cannot be written: %s", output_fault());
 }
 
 static bool list_layers(const plan *from, const coded_layers *layers, trouble *what)
@@ -143,19 +149,17 @@ static bool list_layers(const plan *from, const coded_layers *layers, trouble *w
             list_layer(&from->stripes[s].layers[k], &layers->records[s][k]);
         }
     }
-    return (fflush(stdout) == 0 && !ferror(stdout)) ||
-           tell(what, "standard output cannot be written");
+    return is_said(what);
 }
 
 static bool list_files(const output *outputs, unsigned count, trouble *what)
 {
-    printf("written:");
+    add_words("written:");
     for (unsigned k = 0; k < count; k++) {
-        printf("%s %s, %zu octets", k == 0 ? "" : ";", outputs[k].name, outputs[k].length);
+        add_words("%s %s, %zu octets", k == 0 ? "" : ";", outputs[k].name, outputs[k].length);
     }
-    printf("\n");
-    return (fflush(stdout) == 0 && !ferror(stdout)) ||
-           tell(what, "standard output cannot be written");
+    say_line("%s", "");
+    return is_said(what);
 }
 
 /* The list of layers is printed when the files are whole but not yet in their places. */
@@ -202,10 +206,12 @@ int main(int count, char **words)
     trouble what;
     hold_standard_files();
     if (count == 2 && strcmp(words[1], "--help") == 0) {
-        return fputs(help, stdout) == EOF || fflush(stdout) != 0;
+        say_lines(help);
+        return output_fault() != NULL;
     }
     if (count == 2 && strcmp(words[1], "--version") == 0) {
-        return printf("%s %s\n", program, SPIREROOK_VERSION) < 0 || fflush(stdout) != 0;
+        say_line("%s %s", program, SPIREROOK_VERSION);
+        return output_fault() != NULL;
     }
     if (!take_options(words + (count > 0), &given, &what) || !make(&given, &what)) {
         say(program, &what);

@@ -4,6 +4,8 @@
 #include <stdio.h>
 #include <string.h>
 
+#include "lines.h"
+
 static bool tell_behind(trouble *what, size_t length, const char *form, va_list values)
 {
     vsnprintf(what->text + length, sizeof what->text - length, form, values);
@@ -41,11 +43,5 @@ bool tell_no_memory(trouble *what)
 
 void say(const char *program, const trouble *what)
 {
-    char shown[TROUBLE_ROOM];
-    size_t length = strlen(what->text);
-    for (size_t k = 0; k <= length; k++) {
-        unsigned char octet = (unsigned char)what->text[k];
-        shown[k] = k < length && (octet < ' ' || octet == 127) ? '?' : what->text[k];
-    }
-    fprintf(stderr, "%s: %s\n", program, shown);
+    complain("%s: %s", program, what->text);
 }

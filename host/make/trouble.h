@@ -20,8 +20,7 @@ bool tell_at(trouble *what, const char *plan, unsigned line, const char *form, .
 
 bool tell_no_memory(trouble *what);
 
-/* One line on standard error.  Octets that could end it or drive a terminal are shown as question
- * marks. */
+/* One line on standard error. */
 void say(const char *program, const trouble *what);
 
 #endif

@@ -3,16 +3,18 @@
 #include <stdlib.h>
 #include <string.h>
 
+#include "lines.h"
+
 static int refused(const char *name, uint32_t number, const char *unit, uint32_t place)
 {
-    fprintf(stderr, "%s: refused: %s (%u) at %s %u: %s\n", name, spirerook_name(number),
-            (unsigned)number, unit, (unsigned)place, spirerook_text(number));
+    complain("%s: refused: %s (%u) at %s %u: %s", name, spirerook_name(number), (unsigned)number,
+             unit, (unsigned)place, spirerook_text(number));
     return STATUS_REFUSED;
 }
 
 static int unreadable(const char *name, const char *why)
 {
-    fprintf(stderr, "%s: cannot be read: %s\n", name, why);
+    complain("%s: cannot be read: %s", name, why);
     return STATUS_REFUSED;
 }
 
@@ -33,7 +35,7 @@ static int read_page(const options *asked, book *opened)
 /* Record `at` of a pencil sheet cannot stand over this page. */
 static int not_own(const char *name, size_t at, const char *what)
 {
-    fprintf(stderr, "%s: refused at record %zu: %s\n", name, at, what);
+    complain("%s: refused at record %zu: %s", name, at, what);
     return STATUS_REFUSED;
 }
 

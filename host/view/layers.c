@@ -6,6 +6,7 @@
 
 #include "clock.h"
 #include "decode.h"
+#include "lines.h"
 
 /* Where the samples of each layer will stand: one behind the other, as far as the memory allowed
  * reaches. */
@@ -129,25 +130,25 @@ static void tell_why(const options *asked, finding found, const uint8_t *record)
 {
     switch (found) {
     case LAYER_READ: break;
-    case LAYER_DAMAGED: printf("its decoder finds the data damaged"); break;
-    case LAYER_OTHER_SIZE: printf("its data has another size"); break;
-    case LAYER_NO_DECODER: printf("no decoder here reads this kind of data"); break;
-    case LAYER_MANY_SCANS: printf("it has over %d scans", MOST_SCANS); break;
-    case LAYER_NO_MEMORY: printf("its decoder has not enough memory"); break;
-    case LAYER_BROKE_OFF: printf("its decoder broke off"); break;
-    case LAYER_TOO_SLOW: printf("its decoder took over %d seconds", DECODER_SECONDS); break;
-    case LAYER_NO_TIME: printf("no time is left for its decoder"); break;
+    case LAYER_DAMAGED: add_words("its decoder finds the data damaged"); break;
+    case LAYER_OTHER_SIZE: add_words("its data has another size"); break;
+    case LAYER_NO_DECODER: add_words("no decoder here reads this kind of data"); break;
+    case LAYER_MANY_SCANS: add_words("it has over %d scans", MOST_SCANS); break;
+    case LAYER_NO_MEMORY: add_words("its decoder has not enough memory"); break;
+    case LAYER_BROKE_OFF: add_words("its decoder broke off"); break;
+    case LAYER_TOO_SLOW: add_words("its decoder took over %d seconds", DECODER_SECONDS); break;
+    case LAYER_NO_TIME: add_words("no time is left for its decoder"); break;
     case LAYER_TOO_LARGE:
-        printf("its %" PRIu64 " octets of samples, with those of lower layers, pass the %" PRIu64
-               " allowed to a stripe (--memory)",
-               spirerook_record_samples(record), asked->memory);
+        add_words("its %" PRIu64 " octets of samples, with those of lower layers, pass the %" PRIu64
+                  " allowed to a stripe (--memory)",
+                  spirerook_record_samples(record), asked->memory);
         break;
     case LAYER_NO_ROOM:
-        printf("there is no memory for its %" PRIu64 " octets of samples",
-               spirerook_record_samples(record));
+        add_words("there is no memory for its %" PRIu64 " octets of samples",
+                  spirerook_record_samples(record));
         break;
-    case LAYER_SHORT: printf("its data passes the end of the file"); break;
-    case LAYER_ASKED: printf("asked for by --unread"); break;
+    case LAYER_SHORT: add_words("its data passes the end of the file"); break;
+    case LAYER_ASKED: add_words("asked for by --unread"); break;
     }
 }
 
@@ -156,9 +157,9 @@ static void tell_uncoded(const book *opened, size_t stripe, size_t k)
     const uint8_t *record = record_of(opened, stripe, k), *base = spirerook_record_base(record);
     bool virtual_mask = k == 1 && spirerook_record_coded(record_of(opened, stripe, 2));
     if (spirerook_record_mask(record)) {
-        printf("not coded, %s\n", virtual_mask ? "1 all over" : "0 all over");
+        say_line("not coded, %s", virtual_mask ? "1 all over" : "0 all over");
     } else {
-        printf("not coded, colour %d %d %d all over\n", base[0], base[1], base[2]);
+        say_line("not coded, colour %d %d %d all over", base[0], base[1], base[2]);
     }
 }
 
@@ -166,23 +167,23 @@ void tell_layers(const options *asked, const book *opened, size_t stripe, const 
 {
     for (size_t k = 0; k < layers_of(opened, stripe); k++) {
         const uint8_t *r = record_of(opened, stripe, k);
-        printf("%s: stripe %zu, layer %zu: ", k < 3 ? asked->page : asked->pencil_file, stripe,
-               k + 1);
+        add_words("%s: stripe %zu, layer %zu: ", k < 3 ? asked->page : asked->pencil_file, stripe,
+                  k + 1);
         if (!spirerook_record_coded(r)) {
             tell_uncoded(opened, stripe, k);
             continue;
         }
-        printf("%s, %u by %u at %u to the inch", coder_name(r), spirerook_record_width(r),
-               spirerook_record_height(r), spirerook_record_resolution(r));
+        add_words("%s, %u by %u at %u to the inch", coder_name(r), spirerook_record_width(r),
+                  spirerook_record_height(r), spirerook_record_resolution(r));
         if (read == NULL) {
-            printf(", %u right and %u down, %u octets from octet %u\n", spirerook_record_x(r),
-                   spirerook_record_y(r), spirerook_record_length(r), spirerook_record_start(r));
+            say_line(", %u right and %u down, %u octets from octet %u", spirerook_record_x(r),
+                     spirerook_record_y(r), spirerook_record_length(r), spirerook_record_start(r));
         } else if (read->found[k] == LAYER_READ) {
-            printf(": read\n");
+            say_line(": read");
         } else {
-            printf(": UNREAD: ");
+            add_words(": UNREAD: ");
             tell_why(asked, read->found[k], r);
-            printf("; where a pixel hangs on it, unseen is shown\n");
+            say_line("; where a pixel hangs on it, unseen is shown");
         }
     }
 }

@@ -1,10 +1,11 @@
 #include "options.h"
 
-#include <stdio.h>
 #include <string.h>
 
+#include "lines.h"
+
 static const char usage[] =
-    "usage: spirerook-view PAGE [--pencil SHEET FILE] [-o OUT.png] [--list] [--unread STRIPE:LAYER ..] [--stripe N] [--memory SIZE] [--times]\n";
+    "usage: spirerook-view PAGE [--pencil SHEET FILE] [-o OUT.png] [--list] [--unread STRIPE:LAYER ..] [--stripe N] [--memory SIZE] [--times]";
 
 static const char help[] =
     "Shows a mixed raster page (ITU-T T.44, Mode 1) as a PNG at the page's resolution.\n"
@@ -74,8 +75,8 @@ static bool looks_like_layer(const char *text)
 
 static options_answer bad(const char *what, const char *word)
 {
-    fprintf(stderr, "spirerook-view: %s%s%s\n%s", what, word == NULL ? "" : ": ",
-            word == NULL ? "" : word, usage);
+    complain("spirerook-view: %s%s%s", what, word == NULL ? "" : ": ", word == NULL ? "" : word);
+    complain("%s", usage);
     return OPTIONS_BAD;
 }
 
@@ -143,11 +144,13 @@ options_answer read_options(int count, char **words, options *asked)
 {
     *asked = (options){.memory = DEFAULT_MEMORY};
     for (int k = 1; k < count;) {
-        if (strcmp(words[k], "--help") == 0 || strcmp(words[k], "--version") == 0) {
-            fputs(strcmp(words[k], "--help") == 0 ? usage
-                                                  : "spirerook-view " SPIREROOK_VERSION "\n",
-                  stdout);
-            fputs(strcmp(words[k], "--help") == 0 ? help : "", stdout);
+        if (strcmp(words[k], "--version") == 0) {
+            say_line("spirerook-view " SPIREROOK_VERSION);
+            return OPTIONS_ANSWERED;
+        }
+        if (strcmp(words[k], "--help") == 0) {
+            say_line("%s", usage);
+            say_lines(help);
             return OPTIONS_ANSWERED;
         }
         if (is_option(words[k])) {

@@ -9,6 +9,7 @@
 #include "book.h"
 #include "clock.h"
 #include "layers.h"
+#include "lines.h"
 #include "picture.h"
 #include "screen.h"
 
@@ -102,9 +103,9 @@ static bool compose_line(run *r, const stripe_layers *read, size_t stripe, uint3
         (uint32_t)stripe, line, r->line, (size_t)r->width * SPIREROOK_PIXEL_OCTETS);
     if (done.number != SPIREROOK_DONE) {
         end_progress(r);
-        fprintf(stderr, "%s: stripe %zu, line %u: refused: %s (%u) at %u\n", r->asked->page, stripe,
-                (unsigned)line, spirerook_name(done.number), (unsigned)done.number,
-                (unsigned)done.place);
+        complain("%s: stripe %zu, line %u: refused: %s (%u) at %u", r->asked->page, stripe,
+                 (unsigned)line, spirerook_name(done.number), (unsigned)done.number,
+                 (unsigned)done.place);
     }
     return done.number == SPIREROOK_DONE;
 }
@@ -160,28 +161,28 @@ static void tell_page(const run *r)
 {
     uint64_t pixels = (uint64_t)r->width * r->height;
     if (r->composed < r->y) {
-        printf("%s: lines %u to %u were not composed within %d seconds; unseen is shown\n",
-               r->asked->page, (unsigned)r->composed, (unsigned)(r->y - 1), COMPOSING_SECONDS);
+        say_line("%s: lines %u to %u were not composed within %d seconds; unseen is shown",
+                 r->asked->page, (unsigned)r->composed, (unsigned)(r->y - 1), COMPOSING_SECONDS);
     }
-    printf("%s: %u by %u pixels, ", r->asked->page, (unsigned)r->width, (unsigned)r->height);
+    add_words("%s: %u by %u pixels, ", r->asked->page, (unsigned)r->width, (unsigned)r->height);
     if (r->unseen == 0) {
-        printf("all seen\n");
+        say_line("all seen");
     } else {
-        printf("%" PRIu64 " of %" PRIu64 " unseen\n", r->unseen, pixels);
+        say_line("%" PRIu64 " of %" PRIu64 " unseen", r->unseen, pixels);
     }
 }
 
 static void tell_times(const run *r, double began)
 {
     double all = seconds_now() - began;
-    printf("%.3f s: decoding %.3f, composing %.3f, colour %.3f, PNG %.3f, all else %.3f\n", all,
-           r->decoding, r->composing, r->colouring, r->writing,
-           all - r->decoding - r->composing - r->colouring - r->writing);
+    say_line("%.3f s: decoding %.3f, composing %.3f, colour %.3f, PNG %.3f, all else %.3f", all,
+             r->decoding, r->composing, r->colouring, r->writing,
+             all - r->decoding - r->composing - r->colouring - r->writing);
 }
 
 static int cannot_write(const char *name, const char *why)
 {
-    fprintf(stderr, "%s: cannot be written: %s\n", name, why);
+    complain("%s: cannot be written: %s", name, why);
     return STATUS_REFUSED;
 }
 
@@ -229,7 +230,7 @@ static int show(const options *asked, const book *opened, double began)
     run r;
     int status = STATUS_REFUSED;
     if (!set_up(&r, asked, opened)) {
-        fprintf(stderr, "%s: there is not enough memory\n", asked->page);
+        complain("%s: there is not enough memory", asked->page);
     } else if (asked->out != NULL) {
         status = show_into_file(&r);
     } else {
@@ -240,8 +241,11 @@ static int show(const options *asked, const book *opened, double began)
         if (asked->times) {
             tell_times(&r, began);
         }
-        printf(asked->out == NULL ? "no picture was asked for (-o OUT.png)\n" : "%s: written\n",
-               asked->out);
+        if (asked->out == NULL) {
+            say_line("no picture was asked for (-o OUT.png)");
+        } else {
+            say_line("%s: written", asked->out);
+        }
         status = r.unseen == 0 ? STATUS_WHOLE : STATUS_UNSEEN;
     }
     clear_away(&r);
@@ -250,11 +254,12 @@ static int show(const options *asked, const book *opened, double began)
 
 static int bad_choice(const char *option, size_t stripe, size_t layer, const char *what)
 {
-    fprintf(stderr, "spirerook-view: %s %zu", option, stripe);
+    char chosen[48];
+    int count = snprintf(chosen, sizeof chosen, "%zu", stripe);
     if (layer != 0) {
-        fprintf(stderr, ":%zu", layer);
+        snprintf(chosen + count, sizeof chosen - (size_t)count, ":%zu", layer);
     }
-    fprintf(stderr, ": %s\n", what);
+    complain("spirerook-view: %s %s: %s", option, chosen, what);
     return STATUS_BAD_OPTION;
 }
 
@@ -279,9 +284,8 @@ static int check_choices(const options *asked, const book *opened)
     const char *inputs[] = {asked->page, asked->pencil_sheet, asked->pencil_file};
     for (size_t k = 0; asked->out != NULL && k < 3; k++) {
         if (inputs[k] != NULL && same_file(asked->out, inputs[k])) {
-            fprintf(stderr,
-                    "spirerook-view: -o %s: the picture would take the place of what is read\n",
-                    asked->out);
+            complain("spirerook-view: -o %s: the picture would take the place of what is read",
+                     asked->out);
             return STATUS_BAD_OPTION;
         }
     }
@@ -317,8 +321,9 @@ int main(int count, char **words)
     int status = answer == OPTIONS_GOOD  ? view(&asked, &opened)
                  : answer == OPTIONS_BAD ? STATUS_BAD_OPTION
                                          : STATUS_WHOLE;
-    if (fflush(stdout) != 0) {
-        fprintf(stderr, "spirerook-view: standard output: %s\n", strerror(errno));
+    if (output_fault() != NULL) {
+        complain("spirerook-view: standard output: %s; what was meant for it stands here",
+                 output_fault());
         return STATUS_REFUSED;
     }
     return status;
