@@ -16,7 +16,7 @@ MAKE_PAGE = $(addprefix make/,make plan plan_layer plan_words picture_in picture
 	colour file lines
 # they open what strangers send
 HARDENED = -D_FORTIFY_SOURCE=2 -fstack-protector-strong
-HOST_C = cc -std=c11 -D_DEFAULT_SOURCE -Wall -Wextra -Werror -O2 $(HARDENED) -Iinclude -Ihost
+HOST_C = cc -std=c11 -D_GNU_SOURCE -Wall -Wextra -Werror -O2 $(HARDENED) -Iinclude -Ihost
 
 # the library for C, both ways
 all: build/libspirerook.a build/libspirerook.so
@@ -73,7 +73,7 @@ build/libspirerook.so: build/libspirerook.a
 	ln -sf libspirerook.so $@.$(MAJOR)
 
 build/host/needs: tests/need
-	@bash tests/need cc:gcc stdio.h:libc6-dev jpeglib.h:libjpeg62-turbo-dev tiffio.h:libtiff-dev jbig85.h:libjbig-dev png.h:libpng-dev zlib.h:zlib1g-dev
+	@bash tests/need cc:gcc stdio.h:libc6-dev jpeglib.h:libjpeg62-turbo-dev tiffio.h:libtiff-dev jbig85.h:libjbig-dev png.h:libpng-dev zlib.h:zlib1g-dev nettle/sha2.h:nettle-dev
 	@mkdir -p $(@D)
 	@touch $@
 
@@ -86,10 +86,10 @@ view-objects:
 	@echo $(VIEW)
 
 build/spirerook-view: $(VIEW:%=build/host/%.o) build/libspirerook.a
-	cc -Wl,-z,relro,-z,now -o $@ $^ -ltiff -ljbig -ljpeg -lz -lm
+	cc -Wl,-z,relro,-z,now -o $@ $^ -ltiff -ljbig -ljpeg -lnettle -lz -lm
 
 build/spirerook-make: $(MAKE_PAGE:%=build/host/%.o) build/libspirerook.a
-	cc -Wl,-z,relro,-z,now -o $@ $^ -ltiff -ljbig -ljpeg -lpng -lm
+	cc -Wl,-z,relro,-z,now -o $@ $^ -ltiff -ljbig -ljpeg -lnettle -lpng -lm
 
 install: all
 	@case "$(LIBDIR):$(INCLUDEDIR)" in /*:/*) ;; *) echo "install: PREFIX must be an absolute path, not '$(PREFIX)'" >&2; exit 1 ;; esac

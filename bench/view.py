@@ -89,12 +89,12 @@ def make_page():
 def build_literal():
     """The viewer with the C composer where it calls the library's."""
     objects = ["build/host/%s.o" % name for name in run(["make", "-s", "view-objects"]).decode().split() if name != "view/view"]
-    strict = ["cc", "-std=c11", "-D_DEFAULT_SOURCE", "-Wall", "-Wextra", "-Iinclude", "-Ihost"]
+    strict = ["cc", "-std=c11", "-D_GNU_SOURCE", "-Wall", "-Wextra", "-Iinclude", "-Ihost"]
     run([*strict, "-O2", "-Dspirerook_line=c_line", "-c", "-o", "build/bench_view/view.o", "host/view/view.c"])
     for name in ("line", "judge"):
         run([*strict, "-O3", "-falign-functions=64", "-c", "-o", "build/bench_view/%s.o" % name, "bench/%s.c" % name])
     own = ["build/bench_view/%s.o" % name for name in ("view", "line", "judge")]
-    run(["cc", "-o", "build/bench_view/view_c", *own, *objects, "build/libspirerook.a", "-ltiff", "-ljbig", "-ljpeg", "-lz", "-lm"])
+    run(["cc", "-o", "build/bench_view/view_c", *own, *objects, "build/libspirerook.a", "-ltiff", "-ljbig", "-ljpeg", "-lnettle", "-lz", "-lm"])
     return "build/bench_view/view_c"
 
 

@@ -304,9 +304,9 @@ def sanitized(tally):
     program = os.path.join(reference_run.ROOT, "build", "make_sanitized")
     host = os.path.join(reference_run.ROOT, "host")
     files = sorted(glob.glob(os.path.join(host, "*.c")) + glob.glob(os.path.join(host, "make", "*.c")))
-    done = subprocess.run(["cc", "-std=c11", "-D_DEFAULT_SOURCE", *SAFE, "-I", reference_run.HEADERS,
+    done = subprocess.run(["cc", "-std=c11", "-D_GNU_SOURCE", *SAFE, "-I", reference_run.HEADERS,
                            "-I", host, *files, reference_run.archive(), "-o", program, "-ltiff", "-ljbig",
-                           "-ljpeg", "-lpng", "-lm"], check=False, stderr=subprocess.PIPE)
+                           "-ljpeg", "-lnettle", "-lpng", "-lm"], check=False, stderr=subprocess.PIPE)
     tally.check(done.returncode == 0, "the sanitizers: %s" % done.stderr.decode()[-500:])
     return program if done.returncode == 0 else None
 

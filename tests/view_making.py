@@ -27,7 +27,7 @@ MASK_CODERS = {1: "MH", 2: "MR", 4: "MMR", 8: "T.85"}
 END = b"\xff\xd9\xff\xd9"
 WHITE, BLACK = (255, 128, 96), (0, 128, 96)
 SECONDS = 180        # by the clock; others may work on the machine
-LIBRARIES = ("-ltiff", "-ljbig", "-ljpeg", "-lz", "-lm")
+LIBRARIES = ("-ltiff", "-ljbig", "-ljpeg", "-lnettle", "-lz", "-lm")
 
 
 def prepare(tally):
@@ -51,7 +51,7 @@ def sources_of_viewer():
 def build_viewer(program, flags, more=()):
     """A viewer that is compiled otherwise, and with more files."""
     return compiling.link(program, [*sources_of_viewer(), *more, reference_run.archive()],
-                          ("-std=c11", "-D_DEFAULT_SOURCE", *flags),
+                          ("-std=c11", "-D_GNU_SOURCE", *flags),
                           (reference_run.HEADERS, os.path.join(ROOT, "host")), LIBRARIES)
 
 
