@@ -128,6 +128,10 @@ OPTIONS = [
     (["pencil.plan", "-o", "x", "--pencil", "x", "s"], "x would be written twice"),
     (["pencil.plan", "-o", "x", "--pencil", "s", "./x"], "./x would be written twice"),
     (["pencil.plan", "-o", "x", "--pencil", "m.pbm", "f"], "m.pbm is read from"),
+    (["pencil.plan", "-o", "s.sha256", "--pencil", "s", "f"], "s.sha256 would be written twice"),
+    (["pencil.plan", "-o", "x", "--pencil", "s", "./s.sha256"], "s.sha256 would be written twice"),
+    (["q.sha256", "-o", "x", "--pencil", "m", "f"], "m.sha256 is read from"),
+    (["q.sha256", "-o", "x", "--pencil", "q", "f"], "q.sha256 is read from"),
     (["p.plan", "-o", "p.plan"], "p.plan is read from"),
     (["p.plan", "-o", "./i.ppm"], "./i.ppm is read from"),
     (["p.plan", "-o", "link.ppm"], "link.ppm is read from"),
@@ -157,6 +161,8 @@ def pictures(folder, rng):
     os.mkfifo(os.path.join(folder, "pipe"))
     write(os.path.join(folder, "p.plan"), BACK)
     write(os.path.join(folder, "pencil.plan"), HEAD + "mask m.pbm\n" + PAIR)
+    write(os.path.join(folder, "m.sha256"), make_kit.pbm(make_kit.strokes(40, 9)))
+    write(os.path.join(folder, "q.sha256"), HEAD + "mask m.sha256\n" + PAIR)
 
 
 def is_message(wrong):
@@ -288,7 +294,7 @@ def check_outputs(tally, folder):
         tally.check(left == [], "%s leave %s" % (names, left))
     ran = run(folder, "o.plan", "-o", "old", "--pencil", "s", "f")
     tally.check(ran[0] == 0 and len(read(os.path.join(folder, "old"))) > 100, "over an old file")
-    for name in ("s", "f", "old"):
+    for name in ("s", "f", "old", "s.sha256"):
         os.remove(os.path.join(folder, name))
 
 

@@ -6,6 +6,7 @@ mistakes and the damaged files.
 SEED makes a run again.
 """
 
+import hashlib
 import os
 import random
 import resource
@@ -285,8 +286,12 @@ def check_pencil(tally, folder, reader, finder):
         return
     page, sheet, pencil = (read(os.path.join(folder, "p." + end))
                            for end in ("page", "sheet", "pencil"))
+    side = b"".join(b"%s  p.%s\n" % (hashlib.sha256(octets).hexdigest().encode(), end)
+                    for octets, end in ((page, b"page"), (sheet, b"sheet"), (pencil, b"pencil")))
+    tally.check(read(os.path.join(folder, "p.sheet.sha256")) == side, "pencil: other digests")
     tally.check(told.splitlines()[-1] == "written: p.page, %d octets; p.sheet, %d octets; p.pencil, "
-                "%d octets" % (len(page), len(sheet), len(pencil)), "pencil: it tells %s" % told)
+                "%d octets; p.sheet.sha256, %d octets" % (
+                    len(page), len(sheet), len(pencil), len(side)), "pencil: it tells %s" % told)
     places = [(s, layer) for s, count in enumerate(pairs) for layer in range(1, 4 + 2 * count)]
     tally.check(len(sheet) == 28 * len(places), "pencil: a sheet of %d octets" % len(sheet))
     answers = reference_run.call_many(finder, [(sheet, page, pencil, *at) for at in places])

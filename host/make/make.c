@@ -1,5 +1,6 @@
 /* spirerook-make: a page from pictures, as a plan says. */
 #include <spirerook.h>
+#include <stdlib.h>
 #include <string.h>
 
 #include "layers.h"
@@ -7,6 +8,7 @@
 #include "outputs.h"
 #include "plan.h"
 #include "sheets.h"
+#include "side.h"
 #include "trouble.h"
 
 static const char program[] = "spirerook-make";
@@ -15,8 +17,9 @@ static const char help[] =
     "use: spirerook-make PLAN -o PAGE [--pencil SHEET FILE]\n"
     "     spirerook-make --help | --version\n"
     "\n"
-    "Makes a mixed raster page (ITU-T T.44, Mode 1) from pictures in PNG and PNM, and with --pencil the FILE of the layers above 3 and the SHEET of\n"
-    "all layers.  The plan is a text, a line for each thing; # begins a comment, and names with blanks stand in double quotes:\n"
+    "Makes a mixed raster page (ITU-T T.44, Mode 1) from pictures in PNG and PNM, and with --pencil the FILE of the layers above 3, the SHEET of\n"
+    "all layers and SHEET.sha256, the digests of page, sheet and file, without which the viewer does not take them.\n"
+    "The plan is a text, a line for each thing; # begins a comment, and names with blanks stand in double quotes:\n"
     "\n"
     "  resolution 400       of the page: 100, 200, 300, 400, 600 or 1200\n"
     "  coder mmr            of the page's masks: mh, mr, mmr (the default) or t85\n"
@@ -34,6 +37,7 @@ static const char help[] =
 
 typedef struct {
     const char *plan, *page, *sheet, *pencil; /* null where not given */
+    char *side;                               /* the sheet's side file, null with it */
 } options;
 
 static bool bad_option(trouble *what, const char *form, const char *word)
@@ -89,6 +93,12 @@ static bool take_options(char **words, options *given, trouble *what)
     return given->page != NULL || bad_option(what, "%s", "no page is named: -o PAGE");
 }
 
+static bool name_side(options *given, trouble *what)
+{
+    given->side = given->sheet == NULL ? NULL : side_name(given->sheet);
+    return given->sheet == NULL || given->side != NULL || tell_no_memory(what);
+}
+
 static bool is_input(const plan *from, const char *name)
 {
     bool found = same_file(from->file, name);
@@ -102,8 +112,8 @@ static bool is_input(const plan *from, const char *name)
 /* Whether the options fit each other and the plan. */
 static bool fits(const options *given, const plan *from, trouble *what)
 {
-    const char *names[] = {given->page, given->sheet, given->pencil};
-    unsigned count = given->sheet == NULL ? 1 : 3;
+    const char *names[] = {given->page, given->sheet, given->pencil, given->side};
+    unsigned count = given->sheet == NULL ? 1 : 4;
     if (has_pencil(from) != (given->sheet != NULL)) {
         return bad_option(what,
                           given->sheet == NULL
@@ -163,16 +173,9 @@ static bool list_files(const output *outputs, unsigned count, trouble *what)
 }
 
 /* The list of layers is printed when the files are whole but not yet in their places. */
-static bool write_all(const options *given, const plan *from, const coded_layers *layers,
-                      const made_page *page, const octet_list *sheet, trouble *what)
+static bool write_outputs(output *outputs, unsigned count, const plan *from,
+                          const coded_layers *layers, trouble *what)
 {
-    output outputs[] = {
-        {.name = given->page, .octets = page->page.octets, .length = page->page.length},
-        {.name = given->sheet, .octets = sheet->octets, .length = sheet->length},
-        {.name = given->pencil,
-         .octets = layers->pencil_data.octets,
-         .length = layers->pencil_data.length}};
-    unsigned count = given->sheet == NULL ? 1 : 3;
     if (!begin_outputs(outputs, count, what)) {
         return false;
     }
@@ -181,6 +184,29 @@ static bool write_all(const options *given, const plan *from, const coded_layers
         return false;
     }
     return keep_outputs(outputs, count, what) && list_files(outputs, count, what);
+}
+
+/* The side file stands behind the three that it tells of, which are in the order of its lines. */
+static bool write_all(const options *given, const plan *from, const coded_layers *layers,
+                      const made_page *page, const octet_list *sheet, trouble *what)
+{
+    char *side = NULL;
+    output outputs[] = {
+        {.name = given->page, .octets = page->page.octets, .length = page->page.length},
+        {.name = given->sheet, .octets = sheet->octets, .length = sheet->length},
+        {.name = given->pencil,
+         .octets = layers->pencil_data.octets,
+         .length = layers->pencil_data.length},
+        {.name = given->side}};
+    bool done = true;
+    if (given->side != NULL && (done = make_side(outputs, &side, what))) {
+        outputs[SIDE_LINES].octets = (const uint8_t *)side;
+        outputs[SIDE_LINES].length = strlen(side);
+    }
+    done = done &&
+           write_outputs(outputs, given->side == NULL ? 1 : SIDE_LINES + 1, from, layers, what);
+    free(side);
+    return done;
 }
 
 static bool make(const options *given, trouble *what)
@@ -202,7 +228,7 @@ static bool make(const options *given, trouble *what)
 
 int main(int count, char **words)
 {
-    options given = {NULL, NULL, NULL, NULL};
+    options given = {NULL, NULL, NULL, NULL, NULL};
     trouble what;
     hold_standard_files();
     if (count == 2 && strcmp(words[1], "--help") == 0) {
@@ -213,9 +239,11 @@ int main(int count, char **words)
         say_line("%s %s", program, SPIREROOK_VERSION);
         return output_fault() != NULL;
     }
-    if (!take_options(words + (count > 0), &given, &what) || !make(&given, &what)) {
+    bool done = take_options(words + (count > 0), &given, &what) && name_side(&given, &what) &&
+                make(&given, &what);
+    free(given.side);
+    if (!done) {
         say(program, &what);
-        return what.status;
     }
-    return 0;
+    return done ? 0 : what.status;
 }
