@@ -13,11 +13,12 @@ enum { STATUS_WHOLE = 0, STATUS_REFUSED = 1, STATUS_BAD_OPTION = 2, STATUS_UNSEE
 
 typedef struct {
     const char *page, *pencil_sheet, *pencil_file, *out; /* null where not given */
-    bool list, times;
+    bool list, times, no_pencil, no_digests, no_sandbox;
     bool unread[SPIREROOK_STRIPES][SPIREROOK_LAYERS + 1];
     bool one_stripe;
     uint32_t stripe;
     uint64_t memory; /* octets of samples that a stripe's layers may take together */
+    uint32_t seconds, clock_seconds; /* of a decoder: the processor's, and by the clock */
 } options;
 
 typedef enum { OPTIONS_GOOD, OPTIONS_BAD, OPTIONS_ANSWERED } options_answer;
