@@ -5,16 +5,17 @@
 
 #include "lines.h"
 
-static int refused(const char *name, uint32_t number, const char *unit, uint32_t place)
+static int refused(const book *opened, const char *name, spirerook_answer answer, const char *unit)
 {
-    complain("%s: refused: %s (%u) at %s %u: %s", name, spirerook_name(number), (unsigned)number,
-             unit, (unsigned)place, spirerook_text(number));
+    complain("%s: refused: %s (%u) at %s %u: %s%s", name, spirerook_name(answer.number),
+             (unsigned)answer.number, unit, (unsigned)answer.place, spirerook_text(answer.number),
+             way_out(&opened->source));
     return STATUS_REFUSED;
 }
 
-static int unreadable(const char *name, const char *why)
+static int unreadable(const book *opened, const char *name, const char *why)
 {
-    complain("%s: cannot be read: %s", name, why);
+    complain("%s: cannot be read: %s%s", name, why, way_out(&opened->source));
     return STATUS_REFUSED;
 }
 
@@ -23,58 +24,74 @@ static int read_page(const options *asked, book *opened)
 {
     const char *why = read_file(asked->page, SPIREROOK_PAGE_OCTETS + 1, &opened->page);
     if (why != NULL) {
-        return unreadable(asked->page, why);
+        return unreadable(opened, asked->page, why);
     }
     spirerook_answer read = spirerook_read(opened->page.octets, opened->page.length, opened->sheet,
                                            sizeof opened->sheet);
     opened->sheet_octets = (size_t)read.count * SPIREROOK_RECORD_OCTETS;
     return read.number == SPIREROOK_DONE ? STATUS_WHOLE
-                                         : refused(asked->page, read.number, "octet", read.place);
+                                         : refused(opened, asked->page, read, "octet");
 }
 
 /* Record `at` of a pencil sheet cannot stand over this page. */
-static int not_own(const char *name, size_t at, const char *what)
+static int not_own(const book *opened, size_t at, const char *what)
 {
-    complain("%s: refused at record %zu: %s", name, at, what);
+    complain("%s: refused at record %zu: %s%s", opened->source.sheet, at, what,
+             way_out(&opened->source));
     return STATUS_REFUSED;
 }
 
 /* Layers 1 to 3 of each stripe must be the page's own, octet for octet: the pencil of another page
  * would strike other cues. */
-static int own_layers(const options *asked, const uint8_t *sheet, size_t records,
-                      const book *opened)
+static int own_layers(const whole_file *sheet, const book *opened)
 {
-    size_t due = 0, all = opened->sheet_octets / SPIREROOK_RECORD_OCTETS;
+    size_t due = 0, all = opened->sheet_octets / SPIREROOK_RECORD_OCTETS,
+           records = sheet->length / SPIREROOK_RECORD_OCTETS;
     for (size_t k = 0; k < records; k++) {
-        const uint8_t *record = spirerook_record_at(sheet, k);
+        const uint8_t *record = spirerook_record_at(sheet->octets, k);
         if (spirerook_record_layer(record) > 3) {
             continue;
         }
         if (due == all) {
-            return not_own(asked->pencil_sheet, k, "the page has no more stripes");
+            return not_own(opened, k, "the page has no more stripes");
         }
         if (memcmp(record, spirerook_record_at(opened->sheet, due++), SPIREROOK_RECORD_OCTETS) !=
             0) {
-            return not_own(asked->pencil_sheet, k, "layers 1 to 3 are not the page's own");
+            return not_own(opened, k, "layers 1 to 3 are not the page's own");
         }
     }
-    return due == all ? STATUS_WHOLE
-                      : not_own(asked->pencil_sheet, records, "the page has more stripes");
+    return due == all ? STATUS_WHOLE : not_own(opened, records, "the page has more stripes");
+}
+
+/* The digests come first: they tell of another page's pencil in plain words. */
+static int judge_sheet(const options *asked, const whole_file *sheet, book *opened)
+{
+    int status = read_digests(asked, &opened->source);
+    if (status == STATUS_WHOLE) {
+        status = check_digest(asked, &opened->source, OF_PAGE, &opened->page);
+    }
+    if (status == STATUS_WHOLE) {
+        status = check_digest(asked, &opened->source, OF_SHEET, sheet);
+    }
+    if (status != STATUS_WHOLE) {
+        return status;
+    }
+    spirerook_answer judged = spirerook_judge(sheet->octets, sheet->length);
+    return judged.number == SPIREROOK_BAD_SHEET
+               ? refused(opened, opened->source.sheet, judged, "record")
+               : own_layers(sheet, opened);
 }
 
 /* The judge looks at no more octets than this, one record over the most that a sheet has. */
 static int read_pencil_sheet(const options *asked, book *opened)
 {
     whole_file sheet;
-    const char *why = read_file(asked->pencil_sheet, sizeof opened->sheet, &sheet);
+    const char *name = opened->source.sheet,
+               *why = read_part(&opened->source, name, sizeof opened->sheet, &sheet);
     if (why != NULL) {
-        return unreadable(asked->pencil_sheet, why);
+        return unreadable(opened, name, why);
     }
-    spirerook_answer judged = spirerook_judge(sheet.octets, sheet.length);
-    int status = judged.number == SPIREROOK_BAD_SHEET
-                     ? refused(asked->pencil_sheet, judged.number, "record", judged.place)
-                     : own_layers(asked, sheet.octets, sheet.length / SPIREROOK_RECORD_OCTETS,
-                                  opened);
+    int status = judge_sheet(asked, &sheet, opened);
     if (status == STATUS_WHOLE) {
         memcpy(opened->sheet, sheet.octets, sheet.length);
         opened->sheet_octets = sheet.length;
@@ -89,11 +106,13 @@ static int read_pencil(const options *asked, book *opened)
     if (status != STATUS_WHOLE) {
         return status;
     }
-    const char *why = read_file(asked->pencil_file, asked->memory + 1, &opened->pencil);
+    const char *name = opened->source.file,
+               *why = read_part(&opened->source, name, asked->memory + 1, &opened->pencil);
     if (why == NULL && opened->pencil.length > asked->memory) {
         why = "it passes the memory allowed (--memory)";
     }
-    return why == NULL ? STATUS_WHOLE : unreadable(asked->pencil_file, why);
+    return why == NULL ? check_digest(asked, &opened->source, OF_PENCIL, &opened->pencil)
+                       : unreadable(opened, name, why);
 }
 
 static void find_stripes(book *opened)
@@ -112,7 +131,10 @@ int open_book(const options *asked, book *opened)
 {
     memset(opened, 0, sizeof *opened);
     int status = read_page(asked, opened);
-    if (status == STATUS_WHOLE && asked->pencil_sheet != NULL) {
+    if (status == STATUS_WHOLE) {
+        status = find_pencil(asked, &opened->source);
+    }
+    if (status == STATUS_WHOLE && opened->source.sheet != NULL) {
         status = read_pencil(asked, opened);
     }
     if (status == STATUS_WHOLE) {
@@ -125,4 +147,5 @@ void close_book(book *opened)
 {
     free(opened->page.octets);
     free(opened->pencil.octets);
+    forget_pencil(&opened->source);
 }

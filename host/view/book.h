@@ -6,9 +6,11 @@
 
 #include "file.h"
 #include "options.h"
+#include "pencil.h"
 
 typedef struct {
     whole_file page, pencil;
+    pencil_source source;
     uint8_t sheet[SPIREROOK_SHEET_OCTETS + SPIREROOK_RECORD_OCTETS];
     size_t sheet_octets, stripes;
     size_t first[SPIREROOK_STRIPES + 1]; /* the first record of each stripe, and the end */

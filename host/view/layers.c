@@ -167,7 +167,7 @@ void tell_layers(const options *asked, const book *opened, size_t stripe, const 
 {
     for (size_t k = 0; k < layers_of(opened, stripe); k++) {
         const uint8_t *r = record_of(opened, stripe, k);
-        add_words("%s: stripe %zu, layer %zu: ", k < 3 ? asked->page : asked->pencil_file, stripe,
+        add_words("%s: stripe %zu, layer %zu: ", k < 3 ? asked->page : opened->source.file, stripe,
                   k + 1);
         if (!spirerook_record_coded(r)) {
             tell_uncoded(opened, stripe, k);

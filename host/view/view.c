@@ -8,6 +8,7 @@
 
 #include "book.h"
 #include "clock.h"
+#include "colour_notes.h"
 #include "layers.h"
 #include "lines.h"
 #include "picture.h"
@@ -157,19 +158,25 @@ static bool show_stripe(run *r, size_t stripe)
     return good;
 }
 
-static void tell_page(const run *r)
+static void tell_uncomposed(const run *r)
 {
-    uint64_t pixels = (uint64_t)r->width * r->height;
     if (r->composed < r->y) {
         say_line("%s: lines %u to %u were not composed within %d seconds; unseen is shown",
                  r->asked->page, (unsigned)r->composed, (unsigned)(r->y - 1), COMPOSING_SECONDS);
     }
+}
+
+/* The last line of all: what was shown, with which pencil. */
+static void tell_page(const run *r)
+{
+    uint64_t pixels = (uint64_t)r->width * r->height;
     add_words("%s: %u by %u pixels, ", r->asked->page, (unsigned)r->width, (unsigned)r->height);
     if (r->unseen == 0) {
-        say_line("all seen");
+        add_words("all seen");
     } else {
-        say_line("%" PRIu64 " of %" PRIu64 " unseen", r->unseen, pixels);
+        add_words("%" PRIu64 " of %" PRIu64 " unseen", r->unseen, pixels);
     }
+    tell_pencil(&r->opened->source);
 }
 
 static void tell_times(const run *r, double began)
@@ -237,7 +244,7 @@ static int show(const options *asked, const book *opened, double began)
         status = show_stripes(&r, NULL) ? STATUS_WHOLE : STATUS_REFUSED;
     }
     if (status == STATUS_WHOLE) {
-        tell_page(&r);
+        tell_uncomposed(&r);
         if (asked->times) {
             tell_times(&r, began);
         }
@@ -246,6 +253,7 @@ static int show(const options *asked, const book *opened, double began)
         } else {
             say_line("%s: written", asked->out);
         }
+        tell_page(&r);
         status = r.unseen == 0 ? STATUS_WHOLE : STATUS_UNSEEN;
     }
     clear_away(&r);
@@ -263,33 +271,59 @@ static int bad_choice(const char *option, size_t stripe, size_t layer, const cha
     return STATUS_BAD_OPTION;
 }
 
-/* Options that name what the page does not have, or would write over what is read. */
-static int check_choices(const options *asked, const book *opened)
+static int check_unread(const options *asked, const book *opened)
 {
-    if (asked->one_stripe && asked->stripe >= opened->stripes) {
-        return bad_choice("--stripe", asked->stripe, 0, "the page has no such stripe");
-    }
     for (size_t stripe = 0; stripe < SPIREROOK_STRIPES; stripe++) {
         for (size_t layer = 1; layer <= SPIREROOK_LAYERS; layer++) {
-            size_t layers = stripe < opened->stripes
-                                ? opened->first[stripe + 1] - opened->first[stripe]
-                                : 0;
-            if (asked->unread[stripe][layer] &&
-                (layer > layers || !spirerook_record_coded(spirerook_record_at(
-                                       opened->sheet, opened->first[stripe] + layer - 1)))) {
-                return bad_choice("--unread", stripe, layer, "the page has no such coded layer");
+            if (!asked->unread[stripe][layer]) {
+                continue;
+            }
+            if (stripe >= opened->stripes) {
+                return bad_choice("--unread", stripe, layer, "the page has no such stripe");
+            }
+            if (layer > opened->first[stripe + 1] - opened->first[stripe]) {
+                return bad_choice("--unread", stripe, layer, "the stripe has no such layer");
+            }
+            if (!spirerook_record_coded(
+                    spirerook_record_at(opened->sheet, opened->first[stripe] + layer - 1))) {
+                return bad_choice("--unread", stripe, layer,
+                                  "the layer is not coded, so nothing of it is read");
             }
         }
     }
-    const char *inputs[] = {asked->page, asked->pencil_sheet, asked->pencil_file};
-    for (size_t k = 0; asked->out != NULL && k < 3; k++) {
+    return STATUS_WHOLE;
+}
+
+/* Options that name what the page does not have, or would write over what is read. */
+static int check_choices(const options *asked, const book *opened)
+{
+    const pencil_source *source = &opened->source;
+    const char *inputs[] = {asked->page, source->sheet, source->file, source->side};
+    if (asked->one_stripe && asked->stripe >= opened->stripes) {
+        return bad_choice("--stripe", asked->stripe, 0, "the page has no such stripe");
+    }
+    for (size_t k = 0; asked->out != NULL && k < sizeof inputs / sizeof *inputs; k++) {
         if (inputs[k] != NULL && same_file(asked->out, inputs[k])) {
             complain("spirerook-view: -o %s: the picture would take the place of what is read",
                      asked->out);
             return STATUS_BAD_OPTION;
         }
     }
-    return STATUS_WHOLE;
+    return check_unread(asked, opened);
+}
+
+static void list(const options *asked, const book *opened)
+{
+    uint32_t height = 0;
+    for (size_t stripe = 0; stripe < opened->stripes; stripe++) {
+        if (!asked->one_stripe || stripe == asked->stripe) {
+            tell_layers(asked, opened, stripe, NULL);
+            height += spirerook_record_height(mask_of_stripe(opened, stripe));
+        }
+    }
+    add_words("%s: %u by %u pixels, not decoded (--list)", asked->page,
+              (unsigned)spirerook_record_width(mask_of_stripe(opened, 0)), (unsigned)height);
+    tell_pencil(&opened->source);
 }
 
 static int view(const options *asked, book *opened)
@@ -299,12 +333,11 @@ static int view(const options *asked, book *opened)
     if (status == STATUS_WHOLE) {
         status = check_choices(asked, opened);
     }
+    if (status == STATUS_WHOLE) {
+        note_colours(asked->page, &opened->page);
+    }
     if (status == STATUS_WHOLE && asked->list) {
-        for (size_t stripe = 0; stripe < opened->stripes; stripe++) {
-            if (!asked->one_stripe || stripe == asked->stripe) {
-                tell_layers(asked, opened, stripe, NULL);
-            }
-        }
+        list(asked, opened);
     } else if (status == STATUS_WHOLE) {
         status = show(asked, opened, began);
     }
