@@ -51,12 +51,13 @@ def due_lines(page, stripe=None):
 
 def words_for(coders, page, stripe=None):
     """Files for a page, and the words that show it."""
-    names = [coders.path(name) for name in ("a.page", "a.png", "a.sheet", "a.pencil")]
+    names = [coders.path(name) for name in ("a.page", "a.png", "pencil.sheet", "a.pencil")]
     view_making.write(names[0], page.octets())
     words = [names[0], "-o", names[1]]
     if page.has_pencil():
         for name, octets in zip(names[2:], page.sheet_and_pencil()):
             view_making.write(name, octets)
+        view_making.write_side(names[0], *names[2:])
         words += ["--pencil", *names[2:]]
     unread = ["%d:%d" % (s, layer.number) for s, layer in page.coded() if layer.unread]
     if unread:
@@ -108,6 +109,9 @@ def check_page(results, coders, page, name, stripe=None):
     dots = round(page.main / 0.0254)
     results.check(picture.dots == (dots, dots, 1), "%s: pHYs is %s" % (name, picture.dots))
     results.check(b"sRGB" in picture.names, "%s: not told to be sRGB" % name)
+    pencil = "pencil: %s, %s" % tuple(words[4:6]) if page.has_pencil() else "no pencil given"
+    results.check(shown.told.endswith("; %s\n" % pencil), "%s: told last: %s" % (
+        name, shown.told.splitlines()[-1:]))
     check_told(results, name, page, shown, stripe)
 
 

@@ -268,6 +268,17 @@ def check_planted(program):
     return checks
 
 
+def damaged_side(rng, number, page, octets, words):
+    """A side file that fits what is damaged already, or now and then one that is damaged itself;
+    answers more words for the viewer."""
+    view_making.write(page, octets)
+    view_making.write_side(page, *words[1:3])
+    if number % 5:
+        return []
+    view_making.write(words[1] + ".sha256", damaged(rng, view_making.read(words[1] + ".sha256")))
+    return rng.choice(([], ["--no-digests"]))
+
+
 def check_sanitized(program, seed, count):
     rng, place, checks = random.Random(seed), Place(), []
     pages, folder = list(whole_pages()), place.kept.name
@@ -277,11 +288,13 @@ def check_sanitized(program, seed, count):
         if number % 25 == 0:
             page, sheet, pencil = pencil_page(rng)
         if number % 25 < 10:
-            words = ["--pencil", place.page + ".sheet", place.page + ".pencil"]
+            words = ["--pencil", os.path.join(folder, "p.sheet"), os.path.join(folder, "p.pencil")]
             view_making.write(words[1], damaged(rng, sheet) if number % 2 else sheet)
             view_making.write(words[2], damaged(rng, pencil) if number % 3 else pencil)
         is_good = words and number % 2
         page = page if is_good else damaged(rng, page)
+        if words:
+            words += damaged_side(rng, number, place.page, page, words)
         shown = place.show(page, *words, view=program, env=settings)
         good = (shown.status in (0, 1, 3) and not reports(folder)
                 and "runtime error" not in shown.wrong and shown.wrong.count("\n") <= 1

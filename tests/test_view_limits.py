@@ -26,7 +26,8 @@ HASTE = 5            # host/view/layers.h
 
 
 class Folder:
-    """A folder with a page of two stripes, layers 1 and 2 coded, then only 2; and a pencil sheet."""
+    """A folder with a page of two stripes, layers 1 and 2 coded, then only 2; and a pencil sheet,
+    not named as if it stood beside the page."""
 
     def __init__(self):
         self.coders = Coders()
@@ -35,11 +36,12 @@ class Folder:
         for kind in (3, 2):
             self.model.add(view_making.random_stripe(rng, self.coders, self.model, 30, kind, 5), 30)
         self.page, self.out = self.path("a.page"), self.path("a.png")
-        self.sheet, self.pencil = self.path("a.sheet"), self.path("a.pencil")
+        self.sheet, self.pencil = self.path("pencil.sheet"), self.path("a.pencil")
         self.octets = self.model.octets()
         write(self.page, self.octets)
         for name, octets in zip((self.sheet, self.pencil), self.model.sheet_and_pencil()):
             write(name, octets)
+        view_making.write_side(self.page, self.sheet, self.pencil)
 
     def path(self, name):
         return self.coders.path(name)
@@ -141,7 +143,8 @@ def check_files(tally, folder):
 
 def check_pencil(tally, folder):
     sheet, pencil = view_making.read(folder.sheet), view_making.read(folder.pencil)
-    words = [folder.page, "--pencil", folder.path("b.sheet"), folder.path("b.pencil"), "-o", folder.out]
+    words = [folder.page, "--pencil", folder.path("b.sheet"), folder.path("b.pencil"), "-o", folder.out,
+             "--no-digests"]
     write(words[3], pencil)
     for number in range(len(sheet) // 28):
         layer = number % 5 + 1

@@ -2,6 +2,7 @@
 samples that are kept: so what a decoder must find is known without one."""
 
 import concurrent.futures
+import hashlib
 import os
 import re
 import resource
@@ -277,6 +278,18 @@ def read(path):
         return file.read()
 
 
+def side(*files):
+    """A side file's text, as sha256sum has it, for (name, octets) of page, sheet and pencil file."""
+    return b"".join(b"%s  %s\n" % (hashlib.sha256(octets).hexdigest().encode(), name.encode())
+                    for name, octets in files)
+
+
+def write_side(page, sheet, pencil):
+    """The side file of a sheet, for these files of its folder as they stand."""
+    write(sheet + ".sha256", side(*((os.path.basename(name), read(name))
+                                    for name in (page, sheet, pencil))))
+
+
 class Shown:
     """A run of the viewer: its status, what it told, and the picture's octets or None."""
 
@@ -292,8 +305,8 @@ class Shown:
 
     def unseen(self):
         """(unseen, all) of the page's line, or None."""
-        found = re.findall(r": (\d+) by (\d+) pixels, (?:(\d+) of (\d+) unseen|all seen)$",
-                           self.told, re.M)
+        found = re.findall(r": (\d+) by (\d+) pixels, (?:(\d+) of (\d+) unseen|all seen)"
+                           r"; (?:no pencil given|pencil[ :].*)\n\Z", self.told, re.M)
         if len(found) != 1:
             return None
         width, height, unseen, all_pixels = (int(cell or 0) for cell in found[0])

@@ -1,0 +1,494 @@
+"""No page looks whole that is not: the viewer finds a page's pencil, takes none that is not the
+page's own, and its last line says which was shown; and each fault of an option is told in words."""
+
+import os
+import shutil
+import subprocess
+import sys
+import tempfile
+
+import make_kit
+import page_making
+import reference_run
+import test_view
+import view_making
+import view_reference
+from view_making import Coders, Page, Shown, read, three, write
+from view_reference import Layer
+
+WIDTH, HEIGHT, RED = 64, 24, (120, 220, 200)
+OUT = "; --no-pencil shows the page without it"
+SIZE = "%d by %d pixels" % (WIDTH, HEIGHT)
+
+
+def block(left, top, width, height):
+    """A mask that is 1 in a rectangle."""
+    return [[int(left <= x < left + width and top <= y < top + height) for x in range(WIDTH)]
+            for y in range(HEIGHT)]
+
+
+def cue_page(coders, top):
+    """A page with a cue, and a pencil that strikes it."""
+    layers = three(200) + [Layer(4, (0, 0, 0), 200), Layer(5, RED, 200)]
+    coders.code(layers[1], 4, block(8, top, 40, 8))
+    coders.code(layers[3], 4, block(4, top + 3, 50, 2))
+    return Page(WIDTH, 200, 4).add(layers, HEIGHT)
+
+
+class Folder:
+    """A folder that the viewer works in, with the pages show and other: all of their records are
+    the same, and all of their data is of the same length."""
+
+    def __init__(self, coders):
+        self.kept = tempfile.TemporaryDirectory(prefix="pencil.")
+        self.name = self.kept.name
+        self.models = {"show": cue_page(coders, 2), "other": cue_page(coders, 12)}
+        for name, model in self.models.items():
+            write(self.path(name + ".page"), model.octets())
+            for end, octets in zip((".sheet", ".pencil"), model.sheet_and_pencil()):
+                write(self.path(name + end), octets)
+            self.write_side(name)
+
+    def path(self, name):
+        return os.path.join(self.name, name)
+
+    def write_side(self, name):
+        view_making.write_side(*(self.path(name + end) for end in (".page", ".sheet", ".pencil")))
+
+    def show(self, *words, **settings):
+        return Shown(words, cwd=self.name, **settings)
+
+    def picture(self, *words):
+        """(run, picture) or (run, None)."""
+        shown = Shown([*words, "-o", "out.png"], self.path("out.png"), cwd=self.name)
+        if shown.out:
+            os.remove(self.path("out.png"))
+        return shown, view_reference.Png(shown.out) if shown.out else None
+
+    def change(self, name, at=-1):
+        """One octet of a file is changed."""
+        octets = bytearray(read(self.path(name)))
+        octets[at] ^= 1
+        write(self.path(name), octets)
+
+
+def check_refused(tally, shown, due):
+    tally.check(shown.status == 1 and shown.wrong == due + "\n" and not shown.told,
+                "status %s, '%s' and '%s', not '%s'" % (shown.status, shown.wrong, shown.told, due))
+
+
+def check_last(tally, shown, due, status=0):
+    """The last line, and no other is like it."""
+    lines = shown.told.splitlines() or [""]
+    tally.check(shown.status == status and lines[-1] == due and not shown.wrong,
+                "status %s, last '%s' (%s), not '%s'" % (shown.status, lines[-1], shown.wrong, due))
+    tally.check(sum(" pixels, " in line for line in lines) == 1, "not one line of the page: %s" % lines)
+
+
+def is_as_due(picture, model):
+    return picture and view_reference.compared(test_view.due_lines(model), picture).wrong == 0
+
+
+# Another page's pencil
+
+def check_other_page(tally, folder):
+    show, other = folder.models["show"], folder.models["other"]
+    same = [len(read(folder.path("show" + end))) == len(read(folder.path("other" + end)))
+            for end in (".page", ".pencil")]
+    tally.check(all(same) and read(folder.path("show.sheet")) == read(folder.path("other.sheet")),
+                "the two pages can be told apart by their records")
+    for model, name in ((show, "show"), (other, "other")):
+        run, picture = folder.picture(name + ".page", "--pencil", name + ".sheet", name + ".pencil")
+        tally.check(is_as_due(picture, model) and run.status == 0, "%s: %s" % (name, run.wrong))
+    shown, picture = folder.picture("show.page", "--pencil", "other.sheet", "other.pencil")
+    check_refused(tally, shown, "other.pencil: refused: it is not the pencil of show.page: "
+                  "other.sheet.sha256 has the digest of another page")
+    tally.check(picture is None, "another page's pencil is shown")
+    check_refused(tally, folder.show("show.page", "--pencil", "show.sheet", "other.pencil"),
+                  "other.pencil: refused: it is not the pencil of show.page: show.sheet.sha256 has "
+                  "the digest of another pencil file")
+    # what is refused would show a strike in another place, and say nothing
+    words = ("show.page", "--pencil", "other.sheet", "other.pencil", "--no-digests")
+    shown, picture = folder.picture(*words)
+    tally.check(picture and not is_as_due(picture, show), "the strike is where it should be")
+    check_last(tally, shown, "show.page: %s, all seen; pencil: other.sheet, other.pencil, not checked "
+               "(--no-digests)" % SIZE)
+    # the names do not matter, the octets do
+    for end in (".page", ".sheet", ".pencil"):
+        shutil.copy(folder.path("show" + end), folder.path("copy" + end))
+    shutil.copy(folder.path("show.sheet.sha256"), folder.path("copy.sheet.sha256"))
+    check_last(tally, folder.show("copy.page", "--pencil", "copy.sheet", "copy.pencil"),
+               "copy.page: %s, all seen; pencil: copy.sheet, copy.pencil" % SIZE)
+
+
+def check_changes(tally, folder):
+    """One octet changed in the page's mask, in a record that stays good, and in the pencil file."""
+    x = 3 * 28 + 5             # layer 4, an octet of its place
+    words = "%s: refused: it is not the %s of show.page: show.sheet.sha256 has the digest of another %s"
+    for name, at, due in (
+            ("show.page", len(read(folder.path("show.page"))) - 12, ("show.pencil", "pencil", "page")),
+            ("show.sheet", x, ("show.sheet", "sheet", "sheet")),
+            ("show.pencil", 2, ("show.pencil", "pencil", "pencil file")),
+            ("show.pencil", -3, ("show.pencil", "pencil", "pencil file"))):
+        folder.change(name, at)
+        given = ("show.page", "--pencil", "show.sheet", "show.pencil")
+        check_refused(tally, folder.show(*given), words % due)
+        check_refused(tally, folder.show("show.page"), words % due + OUT)
+        check_refused(tally, folder.show("show.page", "--list"), words % due + OUT)
+        folder.change(name, at)
+    longer = read(folder.path("show.pencil"))
+    write(folder.path("show.pencil"), longer + b"\0")
+    check_refused(tally, folder.show("show.page"), words % ("show.pencil", "pencil", "pencil file") + OUT)
+    write(folder.path("show.pencil"), longer)
+    check_last(tally, folder.show("show.page"), "show.page: %s, all seen; pencil: show.sheet, "
+               "show.pencil" % SIZE)
+
+
+# The side file
+
+def sides(good):
+    """(octets, line, words) of side files that are not well formed."""
+    one, two, three_ = good.splitlines(True)
+    form, name = "it is not a digest and a name, as sha256sum has them", "its name is not as sha256sum has it"
+    count = "there are just three, of the page, of the sheet and of the pencil file"
+    yield b"", 1, count
+    yield one, 2, count
+    yield one + two, 3, count
+    yield good + good, 4, count
+    yield good + b"\n", 4, count
+    yield good + b"x", 4, count
+    yield good[:-1], 3, "it does not end"
+    yield good.replace(b"\n", b"\r\n"), 1, "it ends with a carriage return"
+    yield one + two + three_[:-1] + b"\r\n", 3, "it ends with a carriage return"
+    yield b"\n" + good, 1, form
+    yield b"\xef\xbb\xbf" + good, 1, form
+    yield b" " + good, 1, form
+    yield one.upper() + two + three_, 1, form
+    yield one[1:] + two + three_, 1, form
+    yield b"g" + one[1:] + two + three_, 1, form
+    yield one + two[:20] + b"\0" + two[21:] + three_, 2, form
+    yield one.replace(b"  ", b" ") + two + three_, 1, form
+    yield one.replace(b"  ", b"\t ") + two + three_, 1, form
+    yield one.replace(b"  ", b" \0") + two + three_, 1, form
+    yield one[:64] + b"\n" + two + three_, 1, form
+    yield one[:66] + b"\n" + two + three_, 1, form
+    yield b"SHA256 (show.page) = " + one[:64] + b"\n" + two + three_, 1, form
+    yield one + two[:-1] + b"\0\n" + three_, 2, name
+    yield one + two[:70] + b"\r" + two[70:] + three_, 2, name
+    yield one + two + b"\\" + three_[:-1] + b"\\\n", 3, name
+    yield one + two + b"\\" + three_[:-1] + b"\\t\n", 3, name
+    yield one + two + b"\\" + three_[:-1] + b"\\\0\n", 3, name
+    yield bytes(100000), 1, "it does not end"
+    yield one[:66] + b"a" * 70000 + b"\n" + two + three_, 1, "it does not end"
+
+
+def check_side(tally, folder):
+    side, given = folder.path("show.sheet.sha256"), ("show.page", "--pencil", "show.sheet", "show.pencil")
+    good = read(side)
+    for octets, line, words in sides(good):
+        write(side, octets)
+        due = "show.sheet.sha256: refused at line %d: %s" % (line, words)
+        check_refused(tally, folder.show(*given), due)
+        check_refused(tally, folder.show("show.page"), due + OUT)
+    write(side, good.replace(b"  ", b" *"))      # as sha256sum -b has it
+    check_last(tally, folder.show(*given), "show.page: %s, all seen; pencil: show.sheet, show.pencil" % SIZE)
+    one, two, three_ = good.splitlines(True)
+    write(side, three_ + two + one)
+    check_refused(tally, folder.show(*given), "show.pencil: refused: it is not the pencil of show.page: "
+                  "show.sheet.sha256 has the digest of another page")
+    os.remove(side)
+    check_refused(tally, folder.show(*given), "show.pencil: refused: no show.sheet.sha256 tells that it "
+                  "belongs to show.page (--no-digests takes it all the same)")
+    for words in ((), ("--no-digests",)):
+        check_refused(tally, folder.show("show.page", *words), "show.sheet: refused: no show.sheet.sha256 "
+                      "tells that it belongs to show.page, and where its pencil file is" + OUT)
+    check_last(tally, folder.show(*given, "--no-digests"), "show.page: %s, all seen; pencil: show.sheet, "
+               "show.pencil, not checked (--no-digests)" % SIZE)
+    os.mkdir(side)
+    check_refused(tally, folder.show(*given), "show.sheet.sha256: cannot be read: it is no plain file")
+    os.rmdir(side)
+    os.symlink("nowhere", side)
+    check_refused(tally, folder.show(*given), "show.sheet.sha256: cannot be read: No such file or directory")
+    os.remove(side)
+    os.mkfifo(side)                              # nobody writes to it: this must not wait
+    check_refused(tally, folder.show("show.page", seconds=30),
+                  "show.sheet.sha256: cannot be read: it is no plain file" + OUT)
+    os.remove(side)
+    write(side, good)
+
+
+def check_names(tally, folder):
+    """The third line's name, seen from the side file's folder, whatever letters it has."""
+    side, pencil = folder.path("show.sheet.sha256"), read(folder.path("show.pencil"))
+    lines = read(side).splitlines(True)
+    os.mkdir(folder.path("sub"))
+    away = tempfile.TemporaryDirectory()
+    names = ["a b", "-", "\\", "a\\nb", "a\nb", "\r", "*", "sub/p", "sub/../q", os.path.join(away.name, "p"),
+             "p\u00e9n", " ", "a" * 200]
+    for name in names:
+        place = os.path.join(folder.name, name)
+        write(place, pencil)
+        escaped = name.replace("\\", "\\\\").replace("\n", "\\n").replace("\r", "\\r")
+        third = lines[2][:66] + escaped.encode() + b"\n"
+        write(side, lines[0] + lines[1] + (b"\\" if escaped != name else b"") + third)
+        # lines for people escape a name in their own way
+        told = name.replace("\\", "\\\\").replace("\n", "\\n").replace("\r", "\\x0D")
+        check_last(tally, folder.show("show.page"), "show.page: %s, all seen; pencil: show.sheet, %s"
+                   % (SIZE, told))
+        shown = Shown([folder.path("show.page")])
+        due = told if name.startswith("/") else "%s/%s" % (folder.name, told)
+        check_last(tally, shown, "%s: %s, all seen; pencil: %s, %s" % (
+            folder.path("show.page"), SIZE, folder.path("show.sheet"), due))
+        os.remove(place)
+        check_refused(tally, folder.show("show.page"), "%s: cannot be read: No such file or directory%s"
+                      % (told, OUT))
+    write(side, b"".join(lines))
+
+
+# Sheets beside a page
+
+def check_beside(tally, folder):
+    """Both names, one at a time and both at once."""
+    for end in ("", ".sha256"):
+        os.rename(folder.path("show.sheet" + end), folder.path("show.page.sheet" + end))
+    check_last(tally, folder.show("show.page"),
+               "show.page: %s, all seen; pencil: show.page.sheet, show.pencil" % SIZE)
+    for end in ("", ".sha256"):
+        shutil.copy(folder.path("show.page.sheet" + end), folder.path("show.sheet" + end))
+    both = ("show.page: refused: both show.page.sheet and show.sheet stand beside it; --pencil SHEET FILE "
+            "tells which, --no-pencil shows the page without them")
+    check_refused(tally, folder.show("show.page"), both)
+    check_refused(tally, folder.show("show.page", "--list"), both)
+    check_last(tally, folder.show("show.page", "--pencil", "show.sheet", "show.pencil"),
+               "show.page: %s, all seen; pencil: show.sheet, show.pencil" % SIZE)
+    check_last(tally, folder.show("show.page", "--no-pencil"), "show.page: %s, all seen; pencil left out "
+               "(--no-pencil): show.page.sheet, show.sheet" % SIZE)
+    for name in ("show.page.sheet", "show.page.sheet.sha256"):
+        os.remove(folder.path(name))
+
+
+def check_page_names(tally, folder):
+    """Pages without an ending, with one only, and in another folder than the one of their name."""
+    page = read(folder.path("show.page"))
+    os.mkdir(folder.path("away.d"))
+    for name, sheets in (("bare", ("bare.sheet",)), (".page", (".page.sheet",)), ("x.sheet", ("x.sheet.sheet",)),
+                         ("a.b.c", ("a.b.c.sheet", "a.b.sheet")), ("away.d/bare", ("away.d/bare.sheet",)),
+                         ("end.", ("end..sheet", "end.sheet"))):
+        write(folder.path(name), page)
+        check_last(tally, folder.show(name), "%s: %s, all seen; no pencil given" % (name, SIZE))
+        for sheet in sheets:
+            write(folder.path(sheet), b"")
+            check_last(tally, folder.show(name, "--no-pencil"), "%s: %s, all seen; pencil left out "
+                       "(--no-pencil): %s" % (name, SIZE, sheet))
+            check_refused(tally, folder.show(name), "%s: refused: no %s.sha256 tells that it belongs to %s, "
+                          "and where its pencil file is%s" % (sheet, sheet, name, OUT))
+            os.remove(folder.path(sheet))
+    os.symlink("../show.page", folder.path("away.d/link.page"))
+    real = os.path.realpath(folder.name)
+    check_last(tally, folder.show("away.d/link.page"), "away.d/link.page: %s, all seen; pencil: "
+               "%s/show.sheet, %s/show.pencil" % (SIZE, real, real))
+
+
+def check_bad_sheets(tally, folder):
+    """Anything of the name counts: what cannot be read, and what is no sheet."""
+    sheet, good = folder.path("show.sheet"), read(folder.path("show.sheet"))
+    for make, why in ((lambda: os.symlink("nowhere", sheet), "No such file or directory"),
+                      (lambda: os.symlink("show.sheet", sheet), "Too many levels of symbolic links"),
+                      (lambda: os.mkdir(sheet), "it is no plain file"),
+                      (lambda: os.mkfifo(sheet), "it is no plain file")):
+        os.remove(sheet)
+        make()
+        check_refused(tally, folder.show("show.page", seconds=30), "show.sheet: cannot be read: %s%s" % (why, OUT))
+        check_last(tally, folder.show("show.page", "--no-pencil"), "show.page: %s, all seen; pencil left out "
+                   "(--no-pencil): show.sheet" % SIZE)
+        (os.rmdir if os.path.isdir(sheet) else os.remove)(sheet)
+        write(sheet, good)
+    for octets, due in ((b"", "BadSheet (14) at record 0"), (good[:-1], "BadSheet (14) at record 4")):
+        write(sheet, octets)
+        folder.write_side("show")
+        shown = folder.show("show.page")
+        tally.check(shown.status == 1 and shown.wrong.startswith("show.sheet: refused: %s" % due)
+                    and shown.wrong.endswith(OUT + "\n"), "a sheet of %d octets: %s" % (len(octets), shown.wrong))
+    write(sheet, good[:28 * 3] + good)
+    folder.write_side("show")
+    tally.check(folder.show("show.page").status == 1, "a sheet of more stripes is taken")
+    write(sheet, good)
+    folder.write_side("show")
+
+
+# The last line
+
+def check_last_lines(tally, folder):
+    page = "show.page: %s, " % SIZE
+    pencil = "; pencil: show.sheet, show.pencil"
+    unseen = WIDTH * HEIGHT     # pixels; the strike has 100
+    for words, due, status in (
+            ((), page + "all seen" + pencil, 0), (("-o", "out.png"), page + "all seen" + pencil, 0),
+            (("--times",), page + "all seen" + pencil, 0),
+            (("--times", "-o", "out.png"), page + "all seen" + pencil, 0),
+            (("--stripe", "0"), page + "all seen" + pencil, 0),
+            (("--list",), page + "not decoded (--list)" + pencil, 0),
+            (("--list", "--no-pencil"), page + "not decoded (--list); pencil left out (--no-pencil): "
+             "show.sheet", 0),
+            (("--no-pencil",), page + "all seen; pencil left out (--no-pencil): show.sheet", 0),
+            (("--no-digests",), page + "all seen" + pencil + ", not checked (--no-digests)", 0),
+            (("--no-pencil", "--no-digests"), page + "all seen; pencil left out (--no-pencil): show.sheet", 0),
+            (("--unread", "0:4"), page + "%d of %d unseen" % (unseen, unseen) + pencil, 3),
+            (("--unread", "0:2"), page + "%d of %d unseen" % (unseen - 100, unseen) + pencil, 3)):
+        shown = folder.show("show.page", *words)
+        check_last(tally, shown, due, status)
+        before = shown.told.splitlines()[-2:-1]
+        if "-o" in words:
+            tally.check(before == ["out.png: written"], "before the last: %s" % before)
+        elif "--list" not in words:
+            tally.check(before == ["no picture was asked for (-o OUT.png)"], "before the last: %s" % before)
+    whole, bare = folder.picture("show.page"), folder.picture("show.page", "--no-pencil")
+    tally.check(is_as_due(whole[1], folder.models["show"]), "a pencil that was found is not shown")
+    tally.check(bare[1] and not is_as_due(bare[1], folder.models["show"]), "--no-pencil shows the pencil")
+    for name in ("show.sheet", "show.sheet.sha256", "show.pencil"):
+        octets = read(folder.path(name))
+        shown = folder.show("show.page", "-o", name)
+        tally.check(shown.status == 2 and shown.wrong == "spirerook-view: -o %s: the picture would take the "
+                    "place of what is read\n" % name and read(folder.path(name)) == octets,
+                    "-o %s: %s" % (name, shown.wrong))
+    os.mkdir(folder.path("alone"))
+    shutil.copy(folder.path("show.page"), folder.path("alone"))
+    for words in ((), ("--no-pencil",), ("--no-digests",)):
+        check_last(tally, folder.show("alone/show.page", *words),
+                   "alone/show.page: %s, all seen; no pencil given" % SIZE)
+
+
+# What the page maker writes
+
+PLAN = "resolution 200\nstripe\nmask m.pbm\npencil-mask m.pbm at 1 2\npencil-image none base 505050\n"
+
+
+def check_maker(tally, folder):
+    """sha256sum takes it, and would have written the same; the viewer finds the pencil by it."""
+    write(folder.path("m.pbm"), make_kit.pbm(block(8, 4, 40, 8)))
+    write(folder.path("p.plan"), PLAN.encode())
+    os.mkdir(folder.path("pages"))
+    for stem in ("plain", "with blanks", "a\nb", "a\\b", "a\\nb", "\r", "\u00e9\u4e2d", " "):
+        names = [stem + end for end in (".page", ".sheet", ".pencil")]
+        make_kit.run(folder.name, "p.plan", "-o", names[0], "--pencil", *names[1:], program=make_kit.PROGRAM)
+        side = folder.path(names[1] + ".sha256")
+        if not os.path.exists(side):
+            tally.check(False, "no side file for %r" % stem)
+            continue
+        summed = subprocess.run(["sha256sum", "--", *names], cwd=folder.name, check=True,
+                                stdout=subprocess.PIPE).stdout
+        tally.check(summed == read(side), "%r: %s, not %s" % (stem, read(side), summed))
+        done = subprocess.run(["sha256sum", "-c", "--strict", "--quiet", side], cwd=folder.name, check=False)
+        tally.check(done.returncode == 0, "sha256sum -c refuses the side file of %r" % stem)
+        shown = folder.show(names[0])
+        tally.check(shown.status == 0 and "; pencil: " in shown.told.splitlines()[-1], "%r: %s" % (
+            stem, shown.wrong))
+    make_kit.run(folder.name, "p.plan", "-o", "pages/far.page", "--pencil", "far.sheet", "pages/far.pencil",
+                 program=make_kit.PROGRAM)
+    done = subprocess.run(["sha256sum", "-c", "--strict", "--quiet", "far.sheet.sha256"], cwd=folder.name,
+                          check=False, stderr=subprocess.PIPE)
+    tally.check(done.returncode == 0, "files in two folders: %s" % done.stderr)
+    os.rename(folder.path("pages/far.page"), folder.path("far.page"))
+    check_last(tally, folder.show("far.page"), "far.page: %s, all seen; pencil: far.sheet, "
+               "%s/pages/far.pencil" % (SIZE, os.path.realpath(folder.name)))
+
+
+# Gamut and illuminant
+
+def segment(kind, data):
+    return b"\xff\xed" + page_making.big(len(data) + 6, 2) + b"MRC" + bytes([kind]) + data
+
+
+GAMUT = b"".join(page_making.big(number, 2) for number in (0, 100, 128, 170, 96, 200))
+D50, D65 = b"\0D50", b"\0D65"
+
+
+def check_colours(tally, folder):
+    page = read(folder.path("show.page"))
+    one = "show.page: its colours are shown in the default range, but it has a gamut segment at octet %d\n"
+    two = "show.page: its colours are shown under D50, but it has an illuminant segment at octet %d\n"
+    for segments, due in (
+            ([], ""), ([(10, GAMUT)], ""), ([(11, D50)], ""), ([(10, GAMUT), (11, D50), (12, b"x")], ""),
+            ([(10, GAMUT[:-1] + b"\0")], one % 22), ([(10, b"\1" + GAMUT[1:])], one % 22),
+            ([(10, b"")], one % 22), ([(10, GAMUT + b"\0")], one % 22), ([(10, GAMUT[:-1])], one % 22),
+            ([(11, D65)], two % 22), ([(11, b"")], two % 22), ([(11, D50 + b"\0")], two % 22),
+            ([(11, D65), (10, GAMUT[::-1])], two % 22 + one % 34),
+            ([(200, bytes(65529)), (11, b"\0\0SA"), (10, GAMUT), (11, D50), (3, b"")], two % (22 + 65537)),
+            ([(12, segment(10, b"")), (254, segment(11, D65))], ""), ([(11, D65)] * 3, two % 22 + two % 34 + two % 46)):
+        put = b"".join(segment(kind, data) for kind, data in segments)
+        write(folder.path("show.page"), page[:22] + put + page[22:])
+        for words in ((), ("--list",)):
+            shown = folder.show("show.page", "--no-pencil", *words)
+            tally.check(shown.status == 0 and shown.told.startswith(due + "show.page: stripe 0, layer 1: ")
+                        and shown.told.count("its colours are shown") == due.count("\n"),
+                        "%s: %s %s" % (segments[:1], shown.wrong, shown.told))
+    write(folder.path("show.page"), page)
+
+
+# Options
+
+LAYER = "STRIPE:LAYER, a stripe from 0 to 63 and a layer from 1 to 15"
+SECONDS = "N or N:M, N from 1 to 3600 seconds of the processor and M from N to 86400 by the clock"
+FAULTS = [
+    ("", "no page is named; --help tells how"), ("--list", "no page is named; --help tells how"),
+    ("show.page --nothing", "--nothing: no such option; --help tells of all"),
+    ("-x show.page", "-x: no such option; --help tells of all"),
+    ("show.page b.page", "b.page: a second page; the first is show.page"),
+    ("show.page -o", "-o: needs the name of a picture"), ("show.page -o ''", "-o '': an empty name"),
+    ("''", "'': an empty name"),
+    ("show.page --pencil", "--pencil: needs the names of a sheet and of its pencil file"),
+    ("show.page --pencil a", "--pencil a: needs the names of a sheet and of its pencil file"),
+    ("show.page --pencil '' b", "--pencil '' b: an empty name"),
+    ("show.page --pencil a b --no-pencil", "--pencil a b: not together with --no-pencil"),
+    ("--no-pencil --pencil a b show.page", "--pencil a b: not together with --no-pencil"),
+    ("show.page --list -o x.png", "-o x.png: not together with --list, which writes no picture"),
+    ("show.page --stripe", "--stripe: needs a number from 0 to 63"),
+    *(("show.page --stripe " + word, "--stripe %s: not a number from 0 to 63" % word)
+      for word in ("64", "x", "''", "-1", "0.5", "--list")),
+    ("show.page --stripe 1", "--stripe 1: the page has no such stripe"),
+    ("show.page --unread", "--unread: needs " + LAYER),
+    *(("show.page --unread " + word, "--unread %s: not %s" % (word, LAYER))
+      for word in ("0", "0:", ":1", "0:0", "0:16", "64:1", "0:1:2", "x", "--list")),
+    ("show.page --unread 0:2 64:1", "--unread 64:1: not " + LAYER),
+    ("show.page --unread 0:2 7:1", "--unread 7:1: the page has no such stripe"),
+    ("show.page --unread 0:6", "--unread 0:6: the stripe has no such layer"),
+    ("show.page --unread 0:4 --no-pencil", "--unread 0:4: the stripe has no such layer"),
+    ("show.page --unread 0:5", "--unread 0:5: the layer is not coded, so nothing of it is read"),
+    ("show.page --memory", "--memory: needs a size, at most 4G, as 300K, 512M or 2G"),
+    *(("show.page --memory " + word, "--memory %s: at most 4G, as 300K, 512M or 2G" % word)
+      for word in ("5G", "4097M", "1T", "1.5G", "1GB", "''", "M", "18446744073709551617")),
+    ("show.page --seconds", "--seconds: needs " + SECONDS),
+    *(("show.page --seconds " + word, "--seconds %s: not %s" % (word, SECONDS))
+      for word in ("0", "3601", "x", "''", "1.5", "-1", "5:", "5:4", "5:86401", "5:x", "5:6:7", ":6", "5s")),
+]
+
+
+def check_options(tally, folder):
+    for line, due in FAULTS:
+        shown = folder.show(*("" if word == "''" else word for word in line.split()))
+        tally.check(shown.status == 2 and shown.wrong == "spirerook-view: %s\n" % due and not shown.told,
+                    "%s: status %s, '%s', not '%s'" % (line, shown.status, shown.wrong, due))
+    for line in ("--seconds 1", "--seconds 3600", "--seconds 5:5", "--seconds 3600:86400", "--no-sandbox",
+                 "--no-digests --no-pencil", "--memory 4G --stripe 0"):
+        shown = folder.show("show.page", *line.split())
+        tally.check(shown.status == 0 and not shown.wrong, "%s: %s" % (line, shown.wrong))
+    told = folder.show("--help").told
+    for word in ("--seconds N", "--no-sandbox", "--no-pencil", "--no-digests", "--pencil SHEET FILE"):
+        tally.check(word in told, "--help does not tell of " + word)
+
+
+def main():
+    tally = reference_run.Tally()
+    if not view_making.prepare(tally):
+        return tally.end()
+    coders = Coders()
+    for check in (check_other_page, check_changes, check_side, check_names, check_beside, check_page_names,
+                  check_bad_sheets, check_last_lines, check_maker, check_colours, check_options):
+        failed = tally.failed
+        check(tally, Folder(coders))
+        print("%s: %s" % (check.__name__, "good" if tally.failed == failed else "FAILED"))
+    return tally.end()
+
+
+if __name__ == "__main__":
+    sys.exit(main())
