@@ -404,9 +404,9 @@ D50, D65 = b"\0D50", b"\0D65"
 
 
 def check_colours(tally, folder):
-    page = read(folder.path("show.page"))
-    one = "show.page: its colours are shown in the default range, but it has a gamut segment at octet %d\n"
-    two = "show.page: its colours are shown under D50, but it has an illuminant segment at octet %d\n"
+    page = read(folder.path("show.page"))       # and no sheet stands beside the copies
+    one = "page: its colours are shown in the default range, but it has a gamut segment at octet %d\n"
+    two = "page: its colours are shown under D50, but it has an illuminant segment at octet %d\n"
     for segments, due in (
             ([], ""), ([(10, GAMUT)], ""), ([(11, D50)], ""), ([(10, GAMUT), (11, D50), (12, b"x")], ""),
             ([(10, GAMUT[:-1] + b"\0")], one % 22), ([(10, b"\1" + GAMUT[1:])], one % 22),
@@ -416,13 +416,12 @@ def check_colours(tally, folder):
             ([(200, bytes(65529)), (11, b"\0\0SA"), (10, GAMUT), (11, D50), (3, b"")], two % (22 + 65537)),
             ([(12, segment(10, b"")), (254, segment(11, D65))], ""), ([(11, D65)] * 3, two % 22 + two % 34 + two % 46)):
         put = b"".join(segment(kind, data) for kind, data in segments)
-        write(folder.path("show.page"), page[:22] + put + page[22:])
+        write(folder.path("page"), page[:22] + put + page[22:])
         for words in ((), ("--list",)):
-            shown = folder.show("show.page", "--no-pencil", *words)
-            tally.check(shown.status == 0 and shown.told.startswith(due + "show.page: stripe 0, layer 1: ")
+            shown = folder.show("page", *words)
+            tally.check(shown.status == 0 and shown.told.startswith(due + "page: stripe 0, layer 1: ")
                         and shown.told.count("its colours are shown") == due.count("\n"),
                         "%s: %s %s" % (segments[:1], shown.wrong, shown.told))
-    write(folder.path("show.page"), page)
 
 
 # Options
