@@ -1,5 +1,5 @@
 """No page looks whole that is not: the viewer finds a page's pencil, takes none that is not the
-page's own, and its last line says which was shown; and each fault of an option is told in words."""
+page's own, and its last line says which was shown."""
 
 import os
 import shutil
@@ -8,7 +8,6 @@ import sys
 import tempfile
 
 import make_kit
-import page_making
 import reference_run
 import test_view
 import view_making
@@ -178,8 +177,9 @@ def sides(good):
     yield one + two + b"\\" + three_[:-1] + b"\\\n", 3, name
     yield one + two + b"\\" + three_[:-1] + b"\\t\n", 3, name
     yield one + two + b"\\" + three_[:-1] + b"\\\0\n", 3, name
-    yield bytes(100000), 1, "it does not end"
-    yield one[:66] + b"a" * 70000 + b"\n" + two + three_, 1, "it does not end"
+    yield bytes(1000), 1, "it does not end"
+    yield bytes(100000), 1, "it is too long"
+    yield one[:66] + b"a" * (65536 + 67 - len(good)) + b"\n" + two + three_ + b"\n", 1, "it is too long"
 
 
 def check_side(tally, folder):
@@ -263,8 +263,9 @@ def check_beside(tally, folder):
                "show.page: %s, all seen; pencil: show.sheet, show.pencil" % SIZE)
     check_last(tally, folder.show("show.page", "--no-pencil"), "show.page: %s, all seen; pencil left out "
                "(--no-pencil): show.page.sheet, show.sheet" % SIZE)
-    for name in ("show.page.sheet", "show.page.sheet.sha256"):
-        os.remove(folder.path(name))
+    os.remove(folder.path("show.sheet"))
+    os.link(folder.path("show.page.sheet"), folder.path("show.sheet"))
+    check_refused(tally, folder.show("show.page"), both)
 
 
 def check_page_names(tally, folder):
@@ -314,6 +315,22 @@ def check_bad_sheets(tally, folder):
     tally.check(folder.show("show.page").status == 1, "a sheet of more stripes is taken")
     write(sheet, good)
     folder.write_side("show")
+
+
+def check_rights(tally, folder):
+    """Files that may not be read. Root may read all, so it turns into somebody else."""
+    os.chmod(folder.name, 0o755)
+    settings = {"preexec_fn": lambda: os.setuid(65534)} if os.getuid() == 0 else {}
+    view = shutil.copy(view_making.VIEW, folder.path("view"))
+    for name in ("show.sheet", "show.sheet.sha256", "show.pencil"):
+        os.chmod(folder.path(name), 0)
+        try:
+            shown = folder.show("show.page", view=view, **settings)
+        except (OSError, subprocess.SubprocessError) as why:
+            print("rights are not tried: %s" % why)
+            return
+        check_refused(tally, shown, "%s: cannot be read: Permission denied%s" % (name, OUT))
+        os.chmod(folder.path(name), 0o644)
 
 
 # The last line
@@ -393,96 +410,13 @@ def check_maker(tally, folder):
                "%s/pages/far.pencil" % (SIZE, os.path.realpath(folder.name)))
 
 
-# Gamut and illuminant
-
-def segment(kind, data):
-    return b"\xff\xed" + page_making.big(len(data) + 6, 2) + b"MRC" + bytes([kind]) + data
-
-
-GAMUT = b"".join(page_making.big(number, 2) for number in (0, 100, 128, 170, 96, 200))
-D50, D65 = b"\0D50", b"\0D65"
-
-
-def check_colours(tally, folder):
-    page = read(folder.path("show.page"))       # and no sheet stands beside the copies
-    one = "page: its colours are shown in the default range, but it has a gamut segment at octet %d\n"
-    two = "page: its colours are shown under D50, but it has an illuminant segment at octet %d\n"
-    for segments, due in (
-            ([], ""), ([(10, GAMUT)], ""), ([(11, D50)], ""), ([(10, GAMUT), (11, D50), (12, b"x")], ""),
-            ([(10, GAMUT[:-1] + b"\0")], one % 22), ([(10, b"\1" + GAMUT[1:])], one % 22),
-            ([(10, b"")], one % 22), ([(10, GAMUT + b"\0")], one % 22), ([(10, GAMUT[:-1])], one % 22),
-            ([(11, D65)], two % 22), ([(11, b"")], two % 22), ([(11, D50 + b"\0")], two % 22),
-            ([(11, D65), (10, GAMUT[::-1])], two % 22 + one % 34),
-            ([(200, bytes(65529)), (11, b"\0\0SA"), (10, GAMUT), (11, D50), (3, b"")], two % (22 + 65537)),
-            ([(12, segment(10, b"")), (254, segment(11, D65))], ""), ([(11, D65)] * 3, two % 22 + two % 34 + two % 46)):
-        put = b"".join(segment(kind, data) for kind, data in segments)
-        write(folder.path("page"), page[:22] + put + page[22:])
-        for words in ((), ("--list",)):
-            shown = folder.show("page", *words)
-            tally.check(shown.status == 0 and shown.told.startswith(due + "page: stripe 0, layer 1: ")
-                        and shown.told.count("its colours are shown") == due.count("\n"),
-                        "%s: %s %s" % (segments[:1], shown.wrong, shown.told))
-
-
-# Options
-
-LAYER = "STRIPE:LAYER, a stripe from 0 to 63 and a layer from 1 to 15"
-SECONDS = "N or N:M, N from 1 to 3600 seconds of the processor and M from N to 86400 by the clock"
-FAULTS = [
-    ("", "no page is named; --help tells how"), ("--list", "no page is named; --help tells how"),
-    ("show.page --nothing", "--nothing: no such option; --help tells of all"),
-    ("-x show.page", "-x: no such option; --help tells of all"),
-    ("show.page b.page", "b.page: a second page; the first is show.page"),
-    ("show.page -o", "-o: needs the name of a picture"), ("show.page -o ''", "-o '': an empty name"),
-    ("''", "'': an empty name"),
-    ("show.page --pencil", "--pencil: needs the names of a sheet and of its pencil file"),
-    ("show.page --pencil a", "--pencil a: needs the names of a sheet and of its pencil file"),
-    ("show.page --pencil '' b", "--pencil '' b: an empty name"),
-    ("show.page --pencil a b --no-pencil", "--pencil a b: not together with --no-pencil"),
-    ("--no-pencil --pencil a b show.page", "--pencil a b: not together with --no-pencil"),
-    ("show.page --list -o x.png", "-o x.png: not together with --list, which writes no picture"),
-    ("show.page --stripe", "--stripe: needs a number from 0 to 63"),
-    *(("show.page --stripe " + word, "--stripe %s: not a number from 0 to 63" % word)
-      for word in ("64", "x", "''", "-1", "0.5", "--list")),
-    ("show.page --stripe 1", "--stripe 1: the page has no such stripe"),
-    ("show.page --unread", "--unread: needs " + LAYER),
-    *(("show.page --unread " + word, "--unread %s: not %s" % (word, LAYER))
-      for word in ("0", "0:", ":1", "0:0", "0:16", "64:1", "0:1:2", "x", "--list")),
-    ("show.page --unread 0:2 64:1", "--unread 64:1: not " + LAYER),
-    ("show.page --unread 0:2 7:1", "--unread 7:1: the page has no such stripe"),
-    ("show.page --unread 0:6", "--unread 0:6: the stripe has no such layer"),
-    ("show.page --unread 0:4 --no-pencil", "--unread 0:4: the stripe has no such layer"),
-    ("show.page --unread 0:5", "--unread 0:5: the layer is not coded, so nothing of it is read"),
-    ("show.page --memory", "--memory: needs a size, at most 4G, as 300K, 512M or 2G"),
-    *(("show.page --memory " + word, "--memory %s: at most 4G, as 300K, 512M or 2G" % word)
-      for word in ("5G", "4097M", "1T", "1.5G", "1GB", "''", "M", "18446744073709551617")),
-    ("show.page --seconds", "--seconds: needs " + SECONDS),
-    *(("show.page --seconds " + word, "--seconds %s: not %s" % (word, SECONDS))
-      for word in ("0", "3601", "x", "''", "1.5", "-1", "5:", "5:4", "5:86401", "5:x", "5:6:7", ":6", "5s")),
-]
-
-
-def check_options(tally, folder):
-    for line, due in FAULTS:
-        shown = folder.show(*("" if word == "''" else word for word in line.split()))
-        tally.check(shown.status == 2 and shown.wrong == "spirerook-view: %s\n" % due and not shown.told,
-                    "%s: status %s, '%s', not '%s'" % (line, shown.status, shown.wrong, due))
-    for line in ("--seconds 1", "--seconds 3600", "--seconds 5:5", "--seconds 3600:86400", "--no-sandbox",
-                 "--no-digests --no-pencil", "--memory 4G --stripe 0"):
-        shown = folder.show("show.page", *line.split())
-        tally.check(shown.status == 0 and not shown.wrong, "%s: %s" % (line, shown.wrong))
-    told = folder.show("--help").told
-    for word in ("--seconds N", "--no-sandbox", "--no-pencil", "--no-digests", "--pencil SHEET FILE"):
-        tally.check(word in told, "--help does not tell of " + word)
-
-
 def main():
     tally = reference_run.Tally()
     if not view_making.prepare(tally):
         return tally.end()
     coders = Coders()
     for check in (check_other_page, check_changes, check_side, check_names, check_beside, check_page_names,
-                  check_bad_sheets, check_last_lines, check_maker, check_colours, check_options):
+                  check_bad_sheets, check_rights, check_last_lines, check_maker):
         failed = tally.failed
         check(tally, Folder(coders))
         print("%s: %s" % (check.__name__, "good" if tally.failed == failed else "FAILED"))

@@ -26,10 +26,12 @@ static bool stands(const char *name)
            (errno != ENOENT && errno != ENOTDIR && errno != ENAMETOOLONG);
 }
 
+/* Of one folder, by whichever way it is named. */
 static bool same_entry(const char *one, const char *other)
 {
     struct stat first, second;
-    return lstat(one, &first) == 0 && lstat(other, &second) == 0 && first.st_dev == second.st_dev &&
+    return strcmp(last_part(one), last_part(other)) == 0 && lstat(one, &first) == 0 &&
+           lstat(other, &second) == 0 && first.st_dev == second.st_dev &&
            first.st_ino == second.st_ino;
 }
 
@@ -100,16 +102,18 @@ static int no_side(const options *asked, const pencil_source *source)
 static int read_side_file(const options *asked, pencil_source *source)
 {
     whole_file side;
-    unsigned line = 0;
+    unsigned line = 1;
     if (!stands(source->side)) {
         return no_side(asked, source);
     }
-    const char *why = read_plain(source->side, MOST_SIDE_OCTETS, &side);
+    const char *why = read_plain(source->side, MOST_SIDE_OCTETS + 1, &side);
     if (why != NULL) {
         complain("%s: cannot be read: %s%s", source->side, why, way_out(source));
         return STATUS_REFUSED;
     }
-    why = read_side(side.octets, side.length, &source->told, &line);
+    why = side.length > MOST_SIDE_OCTETS
+              ? "it is too long"
+              : read_side(side.octets, side.length, &source->told, &line);
     free(side.octets);
     if (why != NULL) {
         complain("%s: refused at line %u: %s%s", source->side, line, why, way_out(source));
