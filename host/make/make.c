@@ -6,6 +6,7 @@
 #include "layers.h"
 #include "lines.h"
 #include "outputs.h"
+#include "picture_in.h"
 #include "plan.h"
 #include "sheets.h"
 #include "side.h"
@@ -14,7 +15,7 @@
 static const char program[] = "spirerook-make";
 
 static const char help[] =
-    "use: spirerook-make PLAN -o PAGE [--pencil SHEET FILE]\n"
+    "use: spirerook-make PLAN -o PAGE [--pencil SHEET FILE] [--no-sandbox]\n"
     "     spirerook-make --help | --version\n"
     "\n"
     "Makes a mixed raster page (ITU-T T.44, Mode 1) from pictures in PNG and PNM, and with --pencil the FILE of the layers above 3, the SHEET of\n"
@@ -32,6 +33,7 @@ static const char help[] =
     "  pencil-mask FILE|none [coder C] [resolution R] [at X Y]\n"
     "  pencil-image FILE|none [as background]      behind its pencil-mask; up to six pairs a stripe\n"
     "\n"
+    "PNG files are read in a sandbox; where the system has none, --no-sandbox reads them without.\n"
     "Dark samples of a mask are 1.  Where a layer is none its base colour counts, and nothing else.  File names are seen from the plan's folder.\n"
     "Exit status: 0 done; 1 refused, or a file cannot be read or written; 2 a bad option.\n";
 
@@ -52,6 +54,10 @@ static bool take_option(char ***words, options *given, trouble *what)
 {
     const char *word = **words;
     bool page = strcmp(word, "-o") == 0;
+    if (strcmp(word, "--no-sandbox") == 0) {
+        do_without_sandbox();
+        return true;
+    }
     if (!page && strcmp(word, "--pencil") != 0) {
         return bad_option(what, "unknown option '%s'; --help tells of all", word);
     }

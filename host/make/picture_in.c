@@ -12,7 +12,7 @@ static const size_t most_file = ((size_t)1 << 31) +
 
 static const uint8_t png_mark[8] = {0x89, 'P', 'N', 'G', '\r', '\n', 0x1A, '\n'};
 
-bool begin_picture(picture *made, picture_use use, uint64_t width, uint64_t height, trouble *what)
+bool size_picture(picture *made, picture_use use, uint64_t width, uint64_t height, trouble *what)
 {
     if (width == 0 || height == 0) {
         return tell(what, "the picture has no samples");
@@ -30,7 +30,15 @@ bool begin_picture(picture *made, picture_use use, uint64_t width, uint64_t heig
     made->width = (uint32_t)width;
     made->height = (uint32_t)height;
     made->row_octets = (size_t)row;
-    made->samples = calloc((size_t)height, (size_t)row);
+    return true;
+}
+
+bool begin_picture(picture *made, picture_use use, uint64_t width, uint64_t height, trouble *what)
+{
+    if (!size_picture(made, use, width, height, what)) {
+        return false;
+    }
+    made->samples = calloc(made->height, made->row_octets);
     return made->samples != NULL || tell_no_memory(what);
 }
 

@@ -26,9 +26,15 @@ bool read_picture(const char *name, picture_use use, picture *made, trouble *wha
 
 void free_picture(picture *made);
 
+/* From now on PNG files are read without a sandbox, for systems that have none. */
+void do_without_sandbox(void);
+
 /* ---- For the readers of the kinds of files ---- */
 
-/* Judges the sides and gets memory for the samples, all 0. */
+/* Judges the sides, and tells the octets of a row. */
+bool size_picture(picture *made, picture_use use, uint64_t width, uint64_t height, trouble *what);
+
+/* And gets memory for the samples, all 0. */
 bool begin_picture(picture *made, picture_use use, uint64_t width, uint64_t height, trouble *what);
 
 /* Row y from its sRGB octets, three a sample. */

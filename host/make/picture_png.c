@@ -1,8 +1,12 @@
-/* PNG by libpng, from memory. */
+/* PNG by libpng, from memory, in a process apart. */
+#include <errno.h>
 #include <png.h>
+#include <stdio.h>
 #include <stdlib.h>
 #include <string.h>
+#include <sys/mman.h>
 
+#include "apart.h"
 #include "picture_in.h"
 
 /* What may pass between the calls of libpng; it stands outside the function that libpng jumps back
@@ -15,13 +19,18 @@ typedef struct {
     uint8_t *rows; /* four octets a sample; all rows of an interlaced picture, else one */
     size_t row_octets;
     uint8_t *flat; /* a row, three octets a sample */
+    uint32_t rows_put;
+    bool done;
     picture *made;
     trouble *what;
 } png_reader;
 
-enum { MOST_CHUNK = 8000000, CHUNKS_KEPT = 16 };
+enum { MOST_CHUNK = 8000000, CHUNKS_KEPT = 16, SIDES_AT = 16, HEAD = 24 };
 
 static const uint64_t most_rows = UINT64_C(1) << 30;
+static const double most_seconds = 60, most_clock = 360;
+
+static bool without_sandbox;
 
 static void on_error(png_structp png, png_const_charp text)
 {
@@ -85,6 +94,7 @@ static void put_rgba(png_reader *reader, uint32_t y, const uint8_t *rgba)
         }
     }
     put_row(reader->made, y, reader->flat);
+    reader->rows_put++;
 }
 
 static void read_rows(png_reader *reader, int passes)
@@ -102,37 +112,117 @@ static void read_rows(png_reader *reader, int passes)
     png_read_end(reader->png, NULL);
 }
 
-static bool read_all(png_reader *reader, picture_use use)
+static void read_all(png_reader *reader)
 {
-    if (setjmp(png_jmpbuf(reader->png)) != 0) {
-        return false;
-    }
     png_set_read_fn(reader->png, reader, give_octets);
     png_set_chunk_malloc_max(reader->png, MOST_CHUNK);
     png_set_chunk_cache_max(reader->png, CHUNKS_KEPT);
-    /* the sides are judged by begin_picture, with its own words */
+    /* the sides were judged before, with words of our own */
     png_set_user_limits(reader->png, PNG_UINT_31_MAX, PNG_UINT_31_MAX);
     png_read_info(reader->png, reader->info);
-    if (!begin_picture(reader->made, use, png_get_image_width(reader->png, reader->info),
-                       png_get_image_height(reader->png, reader->info), reader->what)) {
-        return false;
+    if (png_get_image_width(reader->png, reader->info) != reader->made->width ||
+        png_get_image_height(reader->png, reader->info) != reader->made->height) {
+        png_error(reader->png, "another size than its header's");
     }
     int passes = ask_for_rgba(reader);
-    if (!get_rows(reader, passes > 1)) {
-        return false;
+    if (get_rows(reader, passes > 1)) {
+        read_rows(reader, passes);
+        reader->done = true;
     }
-    read_rows(reader, passes);
-    return true;
 }
 
-bool read_png(const uint8_t *octets, size_t length, picture_use use, picture *made, trouble *what)
+static void try_all(png_reader *reader)
 {
-    png_reader reader = {.octets = octets, .length = length, .made = made, .what = what};
+    if (setjmp(png_jmpbuf(reader->png)) == 0) {
+        read_all(reader);
+    }
+}
+
+/* The process ends with this work, and what was allocated for it. */
+static void read_apart(const void *about, uint8_t *samples, apart_report *report)
+{
+    png_reader reader = *(const png_reader *)about;
+    trouble what = {.text = ""};
+    picture made = *reader.made;
+    made.samples = samples;
+    reader.made = &made;
+    reader.what = &what;
     reader.png = png_create_read_struct(PNG_LIBPNG_VER_STRING, &reader, on_error, on_warning);
     reader.info = reader.png == NULL ? NULL : png_create_info_struct(reader.png);
-    bool done = reader.info != NULL ? read_all(&reader, use) : tell_no_memory(what);
-    png_destroy_read_struct(&reader.png, &reader.info, NULL);
-    free(reader.rows);
-    free(reader.flat);
-    return done;
+    if (reader.info == NULL) {
+        tell_no_memory(&what);
+    } else {
+        try_all(&reader);
+    }
+    report->found = !reader.done;
+    report->rows = reader.rows_put;
+    snprintf(report->words, sizeof report->words, "%.*s", APART_WORDS - 1, what.text);
+}
+
+static bool tell_end(apart_end end, const apart_report *report, trouble *what)
+{
+    switch (end) {
+    case APART_DONE: return tell(what, "%s", report->words);
+    case APART_NOT_STARTED:
+        return tell(what, "its reader could not be started: %s", strerror(errno));
+    case APART_NO_SANDBOX:
+        return tell(what, "this system has no sandbox for its reader (--no-sandbox does without)");
+    case APART_NO_ROOM: return tell_no_memory(what);
+    case APART_FORBIDDEN: return tell(what, "its reader tried what no reader may do");
+    case APART_TOO_SLOW:
+    case APART_TOO_LATE: return tell(what, "its reader took too long");
+    case APART_BROKE_OFF: break;
+    }
+    return tell(what, "its reader broke off");
+}
+
+/* Samples that colours can be worked out in. */
+static bool take_samples(apart_samples *filled, picture *made, trouble *what)
+{
+    uint8_t *samples = map_samples(filled, NULL);
+    made->samples = samples == NULL ? NULL : malloc(filled->octets);
+    if (made->samples != NULL) {
+        memcpy(made->samples, samples, filled->octets);
+    }
+    if (samples != NULL) {
+        munmap(samples, filled->octets);
+    }
+    return made->samples != NULL || tell_no_memory(what);
+}
+
+void do_without_sandbox(void)
+{
+    without_sandbox = true;
+}
+
+static uint32_t side_at(const uint8_t *octets)
+{
+    return (uint32_t)octets[0] << 24 | (uint32_t)octets[1] << 16 | (uint32_t)octets[2] << 8 |
+           octets[3];
+}
+
+/* The sides stand in the header, always the first chunk. */
+bool read_png(const uint8_t *octets, size_t length, picture_use use, picture *made, trouble *what)
+{
+    png_reader reader = {.octets = octets, .length = length, .made = made};
+    apart_bounds bounds = {.memory = (size_t)(2 * most_rows),
+                           .seconds = most_seconds,
+                           .clock = most_clock,
+                           .no_sandbox = without_sandbox};
+    apart_samples filled;
+    apart_report report = {.found = 0};
+    if (length < HEAD || memcmp(octets + SIDES_AT - 4, "IHDR", 4) != 0) {
+        return tell(what, "the PNG file cannot be read: its header is not whole");
+    }
+    if (!size_picture(made, use, side_at(octets + SIDES_AT), side_at(octets + SIDES_AT + 4),
+                      what)) {
+        return false;
+    }
+    apart_end end = do_apart(read_apart, &reader, &bounds, made->row_octets * made->height, &filled,
+                             &report);
+    if (end == APART_DONE && report.found == 0 && report.rows == made->height) {
+        return take_samples(&filled, made, what);
+    }
+    drop_samples(&filled);
+    return tell_end(end, &report, what);
 }

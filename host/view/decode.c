@@ -1,21 +1,5 @@
 #include "decode.h"
 
-#include <errno.h>
-#include <fcntl.h>
-#include <poll.h>
-#include <signal.h>
-#include <stdio.h>
-#include <stdlib.h>
-#include <sys/prctl.h>
-#include <sys/resource.h>
-#include <sys/wait.h>
-#include <unistd.h>
-
-#include "clock.h"
-
-/* Beside what libjpeg may take: libtiff's and the C library's own. */
-enum { MEMORY_BESIDE = 64 << 20 };
-
 void spread_bits(const uint8_t *bits, uint32_t count, uint8_t *samples)
 {
     uint32_t whole = count / 8;
@@ -29,108 +13,43 @@ void spread_bits(const uint8_t *bits, uint32_t count, uint8_t *samples)
     }
 }
 
-static finding decode_here(const coded_layer *layer, uint8_t *samples, size_t memory)
+/* A layer, and the memory that its decoder may take. */
+typedef struct {
+    const coded_layer *layer;
+    size_t memory;
+} decoding;
+
+static void decode_here(const void *about, uint8_t *samples, apart_report *report)
 {
-    return !layer->mask        ? decode_jpeg(layer, samples, memory)
-           : layer->coder == 8 ? decode_t85(layer, samples)
-                               : decode_fax(layer, samples);
+    const decoding *task = about;
+    const coded_layer *layer = task->layer;
+    report->found = !layer->mask        ? decode_jpeg(layer, samples, task->memory, &report->rows)
+                    : layer->coder == 8 ? decode_t85(layer, samples, &report->rows)
+                                        : decode_fax(layer, samples, &report->rows);
 }
 
-static void lower(int resource, rlim_t bound)
+/* What a decoder may find; that all rows came is told twice. */
+static finding told_by(const apart_report *report, uint32_t height)
 {
-    struct rlimit now;
-    if (getrlimit(resource, &now) == 0) {
-        now.rlim_cur = now.rlim_max != RLIM_INFINITY && now.rlim_max < bound ? now.rlim_max : bound;
-        now.rlim_max = now.rlim_cur;
-        setrlimit(resource, &now);
-    }
+    return report->found > LAYER_NO_MEMORY                         ? LAYER_BROKE_OFF
+           : report->found == LAYER_READ && report->rows != height ? LAYER_BROKE_OFF
+                                                                   : (finding)report->found;
 }
 
-/* The address space of this process now, in octets; 0 where the system does not tell. */
-static rlim_t address_space(void)
+finding decode_layer(const coded_layer *layer, const apart_bounds *bounds, apart_samples *samples)
 {
-    unsigned long pages = 0;
-    FILE *told = fopen("/proc/self/statm", "r");
-    if (told == NULL || fscanf(told, "%lu", &pages) != 1) {
-        pages = 0;
+    static const finding ends[] = {
+        [APART_NOT_STARTED] = LAYER_NOT_STARTED, [APART_NO_SANDBOX] = LAYER_NO_SANDBOX,
+        [APART_NO_ROOM] = LAYER_NO_ROOM,         [APART_FORBIDDEN] = LAYER_FORBIDDEN,
+        [APART_BROKE_OFF] = LAYER_BROKE_OFF,     [APART_TOO_SLOW] = LAYER_TOO_SLOW,
+        [APART_TOO_LATE] = LAYER_TOO_LATE};
+    decoding task = {layer, bounds->memory};
+    size_t octets = (size_t)layer->width * layer->height * (layer->mask ? 1 : 3);
+    apart_report report;
+    apart_end end = do_apart(decode_here, &task, bounds, octets, samples, &report);
+    finding found = end == APART_DONE ? told_by(&report, layer->height) : ends[end];
+    if (end == APART_DONE && found != LAYER_READ) {
+        drop_samples(samples);
     }
-    if (told != NULL) {
-        fclose(told);
-    }
-    return (rlim_t)pages * (rlim_t)sysconf(_SC_PAGESIZE);
-}
-
-/* No words, no files, no core; an end with the parent's, whatever ends that. */
-static void shut_in(size_t memory, double seconds, pid_t parent)
-{
-    int nowhere = open("/dev/null", O_RDWR);
-    rlim_t space = address_space();
-    prctl(PR_SET_PDEATHSIG, SIGKILL);
-    if (nowhere < 0 || getppid() != parent) {
-        _exit(LAYER_BROKE_OFF);
-    }
-    for (int k = 0; k < 3; k++) {
-        dup2(nowhere, k);
-    }
-    if (space != 0) {
-        lower(RLIMIT_AS, space + (rlim_t)memory + MEMORY_BESIDE);
-    }
-    lower(RLIMIT_CORE, 0);
-    lower(RLIMIT_FSIZE, 0);
-    lower(RLIMIT_CPU, (rlim_t)seconds + 1);
-    for (int number = 1; number < NSIG; number++) {
-        signal(number, SIG_DFL);
-    }
-}
-
-/* Whether the process ended within the time: it holds the other end of the pipe until then. */
-static bool ended_within(int pipe_end, double seconds)
-{
-    double until = seconds_now() + seconds;
-    for (;;) {
-        double left = until - seconds_now();
-        struct pollfd end = {pipe_end, POLLIN, 0};
-        int ready = poll(&end, 1, left <= 0 ? 0 : (int)(left * 1000) + 1);
-        if (ready > 0) {
-            return true;
-        }
-        if (ready == 0 || errno != EINTR) {
-            return false;
-        }
-    }
-}
-
-static finding await(pid_t decoder, int pipe_end, double seconds)
-{
-    int status = 0;
-    bool ended = ended_within(pipe_end, seconds);
-    if (!ended) {
-        kill(decoder, SIGKILL);
-    }
-    while (waitpid(decoder, &status, 0) < 0) {
-        if (errno != EINTR) {
-            return LAYER_BROKE_OFF;
-        }
-    }
-    bool slow = !ended || (WIFSIGNALED(status) && WTERMSIG(status) == SIGXCPU);
-    bool told = WIFEXITED(status) && WEXITSTATUS(status) <= LAYER_NO_MEMORY;
-    return slow ? LAYER_TOO_SLOW : told ? (finding)WEXITSTATUS(status) : LAYER_BROKE_OFF;
-}
-
-finding decode_layer(const coded_layer *layer, uint8_t *samples, size_t memory, double seconds)
-{
-    int ends[2];
-    if (pipe(ends) != 0) {
-        return LAYER_NO_MEMORY;
-    }
-    pid_t parent = getpid(), decoder = fork();
-    if (decoder == 0) {
-        close(ends[0]);
-        shut_in(memory, seconds, parent);
-        _exit((int)decode_here(layer, samples, memory));
-    }
-    close(ends[1]);
-    finding found = decoder < 0 ? LAYER_NO_MEMORY : await(decoder, ends[0], seconds);
-    close(ends[0]);
     return found;
 }

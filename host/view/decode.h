@@ -1,11 +1,12 @@
-/* A layer read by its decoder in a process of its own, which may take so much memory and so long:
- * whatever becomes of the decoder, its text and its exit stay there. */
+/* A layer read by its decoder in a process apart. */
 #ifndef DECODE_H
 #define DECODE_H
 
+#include "apart.h"
 #include "decoders.h"
 
-/* The samples must be memory that processes share. */
-finding decode_layer(const coded_layer *layer, uint8_t *samples, size_t memory, double seconds);
+/* Read only where the decoder's own report says so and tells of all rows; only then are there
+ * samples. */
+finding decode_layer(const coded_layer *layer, const apart_bounds *bounds, apart_samples *samples);
 
 #endif

@@ -110,7 +110,8 @@ static void note_complaint(thandle_t handle, const char *module, const char *for
     }
 }
 
-static finding read_rows(TIFF *tiff, fax_file *file, uint8_t *bits, uint8_t *samples)
+static finding read_rows(TIFF *tiff, fax_file *file, uint8_t *bits, uint8_t *samples,
+                         uint32_t *rows)
 {
     const coded_layer *layer = file->layer;
     for (uint32_t y = 0; y < layer->height; y++) {
@@ -119,13 +120,14 @@ static finding read_rows(TIFF *tiff, fax_file *file, uint8_t *bits, uint8_t *sam
             return LAYER_DAMAGED;
         }
         spread_bits(bits, layer->width, samples + (size_t)y * layer->width);
+        *rows = y + 1;
     }
     return TIFFReadScanline(tiff, bits, layer->height, 0) == 1 && !file->complained
                ? LAYER_OTHER_SIZE
                : LAYER_READ;
 }
 
-finding decode_fax(const coded_layer *layer, uint8_t *samples)
+finding decode_fax(const coded_layer *layer, uint8_t *samples, uint32_t *rows)
 {
     fax_file file = {.layer = layer};
     if (layer->length > UINT32_MAX - AROUND) {
@@ -141,7 +143,7 @@ finding decode_fax(const coded_layer *layer, uint8_t *samples)
     uint8_t *bits = malloc((layer->width + 7) / 8);
     finding found = tiff == NULL || bits == NULL ? LAYER_NO_MEMORY
                     : file.complained            ? LAYER_DAMAGED
-                                                 : read_rows(tiff, &file, bits, samples);
+                                                 : read_rows(tiff, &file, bits, samples, rows);
     if (tiff != NULL) {
         TIFFClose(tiff);
     }

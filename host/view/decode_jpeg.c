@@ -101,7 +101,7 @@ static bool all_came(const struct jpeg_decompress_struct *decoder)
 }
 
 static finding read_picture(struct jpeg_decompress_struct *decoder, const coded_layer *layer,
-                            uint8_t *samples)
+                            uint8_t *samples, uint32_t *rows)
 {
     jpeg_read_header(decoder, TRUE);
     if (decoder->image_width != layer->width || decoder->image_height != layer->height) {
@@ -116,13 +116,14 @@ static finding read_picture(struct jpeg_decompress_struct *decoder, const coded_
     jpeg_start_decompress(decoder);
     while (decoder->output_scanline < decoder->output_height) {
         read_row(decoder, samples + (size_t)3 * layer->width * decoder->output_scanline);
+        *rows = decoder->output_scanline;
     }
     bool whole = all_came(decoder);
     jpeg_finish_decompress(decoder);
     return whole && decoder->src->bytes_in_buffer == 0 ? LAYER_READ : LAYER_DAMAGED;
 }
 
-finding decode_jpeg(const coded_layer *layer, uint8_t *samples, size_t memory)
+finding decode_jpeg(const coded_layer *layer, uint8_t *samples, size_t memory, uint32_t *rows)
 {
     struct jpeg_decompress_struct decoder;
     struct jpeg_progress_mgr progress = {.progress_monitor = count_scans};
@@ -139,7 +140,7 @@ finding decode_jpeg(const coded_layer *layer, uint8_t *samples, size_t memory)
     decoder.mem->max_memory_to_use = (long)memory;
     decoder.progress = &progress;
     jpeg_mem_src(&decoder, layer->octets, layer->length);
-    finding found = read_picture(&decoder, layer, samples);
+    finding found = read_picture(&decoder, layer, samples, rows);
     jpeg_destroy_decompress(&decoder);
     return found;
 }

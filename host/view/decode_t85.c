@@ -34,7 +34,7 @@ static int decode_all(struct jbg85_dec_state *decoder, const coded_layer *layer,
     return answer == JBG_EAGAIN && *taken == layer->length ? jbg85_dec_end(decoder) : answer;
 }
 
-finding decode_t85(const coded_layer *layer, uint8_t *samples)
+finding decode_t85(const coded_layer *layer, uint8_t *samples, uint32_t *delivered)
 {
     t85_rows rows = {layer, samples, 0, false};
     struct jbg85_dec_state decoder;
@@ -46,6 +46,7 @@ finding decode_t85(const coded_layer *layer, uint8_t *samples)
     jbg85_dec_init(&decoder, memory, room, take_row, &rows);
     int answer = decode_all(&decoder, layer, &taken);
     free(memory);
+    *delivered = rows.rows;
     bool sized = jbg85_dec_validwidth(&decoder);
     if (rows.other_size || (sized && (jbg85_dec_getwidth(&decoder) != layer->width ||
                                       (answer == JBG_EOK && rows.rows != layer->height)))) {

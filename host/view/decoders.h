@@ -1,6 +1,6 @@
-/* Decoders of coded layers: each fills the samples of its layer, or finds why not.  They trust
- * nothing in the data, but the libraries below them are large: decode.h runs them in a process of
- * their own. */
+/* Decoders of coded layers: each fills the samples of its layer, counting the rows that it has
+ * delivered, or finds why not.  They trust nothing in the data, but the libraries below them are
+ * large: decode.h runs them in a process of their own. */
 #ifndef DECODERS_H
 #define DECODERS_H
 
@@ -27,8 +27,12 @@ typedef enum {
     LAYER_NO_MEMORY,
     /* what becomes of a decoder */
     LAYER_BROKE_OFF,
+    LAYER_FORBIDDEN,
     LAYER_TOO_SLOW,
+    LAYER_TOO_LATE,
     /* why none was started */
+    LAYER_NOT_STARTED,
+    LAYER_NO_SANDBOX,
     LAYER_NO_TIME,
     LAYER_TOO_LARGE,
     LAYER_NO_ROOM,
@@ -39,14 +43,14 @@ typedef enum {
 enum { MOST_SCANS = 200 };
 
 /* MH, MR and MMR (coders 1, 2 and 4): one octet a sample, 1 where the mask is black. */
-finding decode_fax(const coded_layer *layer, uint8_t *samples);
+finding decode_fax(const coded_layer *layer, uint8_t *samples, uint32_t *rows);
 
 /* JBIG as T.85 has it (coder 8), the same. */
-finding decode_t85(const coded_layer *layer, uint8_t *samples);
+finding decode_t85(const coded_layer *layer, uint8_t *samples, uint32_t *rows);
 
 /* JPEG: three octets a sample, the codes as they stand.  `memory` bounds what libjpeg may take
  * besides. */
-finding decode_jpeg(const coded_layer *layer, uint8_t *samples, size_t memory);
+finding decode_jpeg(const coded_layer *layer, uint8_t *samples, size_t memory, uint32_t *rows);
 
 /* A row of bits, the first in the highest place, into octets of 0 and 1. */
 void spread_bits(const uint8_t *bits, uint32_t count, uint8_t *samples);

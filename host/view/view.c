@@ -20,7 +20,8 @@ typedef struct {
     const book *opened;
     size_t from, to; /* stripes */
     uint32_t width, height;
-    double began, decoders_left, told;
+    double began, told;
+    seconds decoders_left;
     double decoding, composing, colouring, writing; /* seconds spent so far */
     uint64_t unseen;
     uint32_t y, composed; /* rows done, and those of them that were composed in time */
@@ -32,11 +33,12 @@ typedef struct {
 
 static bool set_up(run *r, const options *asked, const book *opened)
 {
-    *r = (run){.asked = asked,
-               .opened = opened,
-               .to = opened->stripes,
-               .began = seconds_now(),
-               .decoders_left = DECODERS_SECONDS};
+    *r = (run){
+        .asked = asked,
+        .opened = opened,
+        .to = opened->stripes,
+        .began = seconds_now(),
+        .decoders_left = {all_decoders * asked->seconds, all_decoders * asked->clock_seconds}};
     if (asked->one_stripe) {
         r->from = asked->stripe;
         r->to = r->from + 1;
@@ -111,11 +113,24 @@ static bool compose_line(run *r, const stripe_layers *read, size_t stripe, uint3
     return done.number == SPIREROOK_DONE;
 }
 
+/* Until no more lines are composed. */
+static seconds seconds_left(const run *r)
+{
+    return (seconds){all_lines * r->asked->seconds - processor_seconds(),
+                     all_lines * r->asked->clock_seconds - (seconds_now() - r->began)};
+}
+
+static bool is_time_left(const run *r)
+{
+    seconds left = seconds_left(r);
+    return left.processor > 0 && left.clock > 0;
+}
+
 /* A row of the picture: the line composed and coloured or, when time is up, all unseen. */
 static bool show_line(run *r, const stripe_layers *read, size_t stripe, uint32_t line)
 {
     double began = seconds_now(), composed = began;
-    if (r->composed == r->y && began - r->began < COMPOSING_SECONDS) {
+    if (r->composed == r->y && is_time_left(r)) {
         if (!compose_line(r, read, stripe, line)) {
             return false;
         }
@@ -141,8 +156,14 @@ static bool show_stripe(run *r, size_t stripe)
 {
     stripe_layers read;
     uint32_t height = spirerook_record_height(mask_of_stripe(r->opened, stripe));
-    double began = seconds_now(), left = r->began + COMPOSING_SECONDS - began;
-    r->decoders_left = r->decoders_left < left ? r->decoders_left : left;
+    double began = seconds_now();
+    seconds left = seconds_left(r);
+    if (left.processor < r->decoders_left.processor) {
+        r->decoders_left.processor = left.processor;
+    }
+    if (left.clock < r->decoders_left.clock) {
+        r->decoders_left.clock = left.clock;
+    }
     read_layers(r->asked, r->opened, stripe, &r->decoders_left, &read);
     r->decoding += seconds_now() - began;
     end_progress(r);
@@ -161,8 +182,11 @@ static bool show_stripe(run *r, size_t stripe)
 static void tell_uncomposed(const run *r)
 {
     if (r->composed < r->y) {
-        say_line("%s: lines %u to %u were not composed within %d seconds; unseen is shown",
-                 r->asked->page, (unsigned)r->composed, (unsigned)(r->y - 1), COMPOSING_SECONDS);
+        say_line(
+            "%s: lines %u to %u were not composed within %.0f seconds of the processor, or %.0f "
+            "by the clock; unseen is shown",
+            r->asked->page, (unsigned)r->composed, (unsigned)(r->y - 1),
+            all_lines * r->asked->seconds, all_lines * r->asked->clock_seconds);
     }
 }
 

@@ -1,0 +1,191 @@
+#include "apart_inside.h"
+
+#include <fcntl.h>
+#include <linux/audit.h>
+#include <linux/filter.h>
+#include <linux/seccomp.h>
+#include <math.h>
+#include <signal.h>
+#include <stdio.h>
+#include <string.h>
+#include <sys/mman.h>
+#include <sys/prctl.h>
+#include <sys/resource.h>
+#include <sys/syscall.h>
+#include <sys/time.h>
+#include <unistd.h>
+
+/* Beside what the work may take: the codecs' and the C library's own.  PIPE is the only descriptor
+ * that leads anywhere. */
+enum { MEMORY_BESIDE = 64 << 20, PIPE = 3 };
+
+/* ---- What the system may be asked for ---- */
+
+#if defined(__x86_64__)
+#define MACHINE AUDIT_ARCH_X86_64
+#elif defined(__aarch64__)
+#define MACHINE AUDIT_ARCH_AARCH64
+#endif
+
+/* Memory that is not to be executed, the report and the end; any other call ends the process. */
+static bool close_off(void)
+{
+#ifdef MACHINE
+#define LOAD(field) BPF_STMT(BPF_LD | BPF_W | BPF_ABS, offsetof(struct seccomp_data, field))
+#define IF(test, value, yes, no) BPF_JUMP(BPF_JMP | test | BPF_K, value, yes, no)
+#define END(action) BPF_STMT(BPF_RET | BPF_K, SECCOMP_RET_##action)
+#define ALLOW(call) IF(BPF_JEQ, call, 0, 1), END(ALLOW)
+    struct sock_filter steps[] = {
+        /* the numbers of calls are this machine's */
+        LOAD(arch),
+        IF(BPF_JEQ, MACHINE, 1, 0),
+        END(KILL_PROCESS),
+        LOAD(nr),
+        ALLOW(SYS_brk),
+        ALLOW(SYS_munmap),
+        ALLOW(SYS_mremap),
+        ALLOW(SYS_madvise),
+        ALLOW(SYS_sysinfo),
+        ALLOW(SYS_exit_group),
+        /* write, to the pipe */
+        IF(BPF_JEQ, SYS_write, 0, 4),
+        LOAD(args[0]),
+        IF(BPF_JEQ, PIPE, 0, 1),
+        END(ALLOW),
+        END(KILL_PROCESS),
+        /* mmap, without PROT_EXEC */
+        IF(BPF_JEQ, SYS_mmap, 0, 3),
+        LOAD(args[2]),
+        IF(BPF_JSET, PROT_EXEC, 1, 0),
+        END(ALLOW),
+        END(KILL_PROCESS),
+    };
+    struct sock_fprog filter = {sizeof steps / sizeof *steps, steps};
+    return prctl(PR_SET_SECCOMP, SECCOMP_MODE_FILTER, &filter) == 0;
+#else
+    return false;
+#endif
+}
+
+/* ---- Bounds ---- */
+
+static void lower(int resource, rlim_t bound)
+{
+    struct rlimit now;
+    if (getrlimit(resource, &now) == 0) {
+        now.rlim_cur = now.rlim_max != RLIM_INFINITY && now.rlim_max < bound ? now.rlim_max : bound;
+        now.rlim_max = now.rlim_cur;
+        setrlimit(resource, &now);
+    }
+}
+
+/* The address space of this process now, in octets; 0 where the system does not tell. */
+static rlim_t address_space(void)
+{
+    unsigned long pages = 0;
+    FILE *told = fopen("/proc/self/statm", "r");
+    if (told == NULL || fscanf(told, "%lu", &pages) != 1) {
+        pages = 0;
+    }
+    if (told != NULL) {
+        fclose(told);
+    }
+    return (rlim_t)pages * (rlim_t)sysconf(_SC_PAGESIZE);
+}
+
+/* The processor's time ends the process by a signal: to a microsecond, and again by the second. */
+static void bound_work(const apart_bounds *bounds)
+{
+    double whole = floor(bounds->seconds);
+    struct itimerval alarm = {
+        .it_value = {(time_t)whole, (suseconds_t)((bounds->seconds - whole) * 1e6) + 1}};
+    rlim_t space = address_space();
+    if (space != 0) {
+        lower(RLIMIT_AS, space + (rlim_t)bounds->memory + MEMORY_BESIDE);
+    }
+    lower(RLIMIT_CORE, 0);
+    lower(RLIMIT_FSIZE, 0);
+    lower(RLIMIT_NPROC, 0);
+    lower(RLIMIT_CPU, (rlim_t)whole + 1);
+    setitimer(ITIMER_PROF, &alarm, NULL);
+}
+
+/* ---- What the process has ---- */
+
+/* Its own samples, between pages that end it when they are touched; null where there is no room.
+ * The samples of others, which it inherited for reading, go. */
+static uint8_t *own_samples(const apart_bounds *bounds, const apart_samples *samples)
+{
+    size_t page = (size_t)sysconf(_SC_PAGESIZE);
+    size_t octets = (samples->octets + page - 1) / page * page;
+    if (bounds->hidden != NULL && munmap(bounds->hidden, bounds->hidden_octets) != 0) {
+        return NULL;
+    }
+    uint8_t *around = mmap(NULL, octets + 2 * page, PROT_NONE,
+                           MAP_PRIVATE | MAP_ANONYMOUS | MAP_NORESERVE, -1, 0);
+    if (around == MAP_FAILED) {
+        return NULL;
+    }
+    void *own = mmap(around + page, samples->octets, PROT_READ | PROT_WRITE, MAP_SHARED | MAP_FIXED,
+                     samples->file, 0);
+    return own == MAP_FAILED ? NULL : own;
+}
+
+/* Nowhere to write words to, the pipe, and no other descriptor. */
+static bool leave_only_pipe(int pipe_end)
+{
+    int nowhere = open("/dev/null", O_RDWR);
+    for (int number = 0; number < PIPE; number++) {
+        if (nowhere < 0 || dup2(nowhere, number) < 0) {
+            return false;
+        }
+    }
+    return dup2(pipe_end, PIPE) == PIPE && close_range(PIPE + 1, ~0u, 0) == 0;
+}
+
+static void forget_signals(void)
+{
+    sigset_t none;
+    sigemptyset(&none);
+    for (int number = 1; number < NSIG; number++) {
+        signal(number, SIG_DFL);
+    }
+    sigprocmask(SIG_SETMASK, &none, NULL);
+}
+
+static uint8_t *shut_in(const apart_bounds *bounds, const apart_samples *samples, int pipe_end,
+                        pid_t parent)
+{
+    forget_signals();
+    /* an end with the parent's, whatever ends that */
+    if (prctl(PR_SET_PDEATHSIG, SIGKILL) != 0 || getppid() != parent) {
+        _exit(LEFT_NOT_SHUT_IN);
+    }
+    uint8_t *own = own_samples(bounds, samples);
+    if (own == NULL) {
+        _exit(LEFT_NO_ROOM);
+    }
+    if (prctl(PR_SET_NO_NEW_PRIVS, 1, 0, 0, 0) != 0 || prctl(PR_SET_DUMPABLE, 0) != 0) {
+        _exit(LEFT_NO_SANDBOX);
+    }
+    bound_work(bounds);
+    if (!leave_only_pipe(pipe_end)) {
+        _exit(LEFT_NOT_SHUT_IN);
+    }
+    if (!bounds->no_sandbox && !close_off()) {
+        _exit(LEFT_NO_SANDBOX);
+    }
+    return own;
+}
+
+_Noreturn void work_inside(apart_work *work, const void *about, const apart_bounds *bounds,
+                           const apart_samples *samples, const apart_letter *due, int pipe_end,
+                           pid_t parent)
+{
+    apart_letter letter = *due;
+    memset(&letter.report, 0, sizeof letter.report);
+    uint8_t *own = shut_in(bounds, samples, pipe_end, parent);
+    work(about, own, &letter.report);
+    bool sent = write(PIPE, &letter, sizeof letter) == sizeof letter;
+    _exit(sent ? LEFT_DONE : LEFT_NOT_SHUT_IN);
+}
