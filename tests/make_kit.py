@@ -114,14 +114,16 @@ def png(width, height, kind, depth, sample, more=b"", interlaced=False):
 
 # ---- runs
 
-def run(folder, *words, program=PROGRAM, seconds=60, limits=(), **kept):
+def run(folder, *words, program=PROGRAM, seconds=60, limits=(), start=None, **kept):
     """(status, standard output, standard error) of a run in the folder."""
     def limit():
+        if start:
+            start()
         for what, most in limits:
             resource.setrlimit(what, (most, most))
     done = subprocess.run([program, *words], cwd=folder, check=False, stderr=subprocess.PIPE,
                           stdout=kept.pop("stdout", subprocess.PIPE), timeout=seconds,
-                          preexec_fn=limit if limits else None, **kept)
+                          preexec_fn=limit if limits or start else None, **kept)
     return (done.returncode, (done.stdout or b"").decode("utf-8", "replace"),
             done.stderr.decode("utf-8", "replace"))
 

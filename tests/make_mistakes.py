@@ -199,7 +199,7 @@ def check_options(tally, folder):
     tally.check(read(os.path.join(folder, "i.ppm")) == before, "a picture is written over")
     check_refusal(tally, folder, "no such plan", run(folder, "no.plan", "-o", "x"), 1,
                   "spirerook-make: no.plan: No such file")
-    for word, due in (("--help", "use: spirerook-make PLAN -o PAGE [--pencil SHEET FILE]\n"),
+    for word, due in (("--help", "use: spirerook-make PLAN -o PAGE [--pencil SHEET FILE] [--no-sandbox]\n"),
                       ("--version", "spirerook-make 1.")):
         status, told, wrong = run(folder, word)
         tally.check((status, wrong) == (0, "") and told.startswith(due), "%s: %s" % (word, told))
@@ -379,7 +379,7 @@ def check_damage(tally, folder, rng):
         for name, octets in files.items():
             write(os.path.join(folder, name), octets)
         status, told, wrong = run(folder, "d.plan", "-o", "d.out", "--pencil", "d.s", "d.f",
-                                  program=program, env=safe)
+                                  "--no-sandbox", program=program, env=safe)
         good = status == 0 and wrong == "" or status in (1, 2) and is_message(wrong) and told == ""
         tally.check(good and (k % 20 or status == 0), "damage %d: status %d, %s" % (
             k, status, wrong[:2000]))

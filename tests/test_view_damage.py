@@ -209,6 +209,7 @@ def build_sanitized(folder):
         "-Wl,--wrap=setrlimit,--wrap=dup2"), reference_run.in_driver("no_limits.c"))
 
 
+NO_SANDBOX = ["--no-sandbox"]    # a sanitizer asks the system for more than a decoder may
 EXTREMES = [0, 1, 2, 5, 6, 0x7F, 0x80, 0xFF, 0x100, 0x7FFF, 0x8000, 0xFFFF, 0x10000, 0x7FFFFFFF,
             0x80000000, 0xFFFFFFFF]
 
@@ -261,7 +262,7 @@ def check_planted(program):
     for plant, due in (("address", "heap-buffer-overflow"), ("undefined", "signed integer overflow")):
         place = Place()
         settings = sanitizer_settings(place.kept.name, PLANT=plant)
-        shown = place.show(next(whole_pages()), view=program, env=settings)
+        shown = place.show(next(whole_pages()), *NO_SANDBOX, view=program, env=settings)
         told = reports(place.kept.name) + shown.wrong
         checks.append((due in told and "its decoder broke off" in shown.told,
                        "a planted fault (%s) is not caught: %s %s" % (plant, shown.told, told)))
@@ -295,7 +296,7 @@ def check_sanitized(program, seed, count):
         page = page if is_good else damaged(rng, page)
         if words:
             words += damaged_side(rng, number, place.page, page, words)
-        shown = place.show(page, *words, view=program, env=settings)
+        shown = place.show(page, *words, *NO_SANDBOX, view=program, env=settings)
         good = (shown.status in (0, 1, 3) and not reports(folder)
                 and "runtime error" not in shown.wrong and shown.wrong.count("\n") <= 1
                 and "its decoder broke off" not in shown.told)

@@ -22,7 +22,6 @@ from view_crafted import jpeg_page, mask_page
 from view_making import END, VIEW, Coders, Shown, bounded, children, is_alive, used_by, write
 
 MIB = 1 << 20
-HASTE = 5            # host/view/layers.h
 
 
 class Folder:
@@ -268,16 +267,15 @@ def slow_jpeg(folder, seconds):
 
 
 def check_time(tally, folder):
-    """Two decoders end after ten seconds, the third when 25 are over, the fourth has none left; in
-    a viewer with a fifth of these times, but where more is tried."""
-    haste = 1 if reference_run.trials(64) > 64 else HASTE
-    view = view_making.build_viewer(folder.path("hasty-view"), ("-O2", "-DHASTE=%d" % haste))
-    slow, quick = slow_jpeg(folder, 25 / haste), view_crafted.grey_jpeg(64, 60, 40, 1200)
+    """Two decoders end after ten seconds of the processor, the third when 25 are over, the fourth has
+    none left; with a fifth of these times, but where more is tried."""
+    most = 10 if reference_run.trials(64) > 64 else 2
+    slow, quick = slow_jpeg(folder, 2.5 * most), view_crafted.grey_jpeg(64, 60, 40, 1200)
     page = folder.new("slow.page", jpeg_page(quick, slow, slow, slow, quick))
-    shown = Shown([page, "-o", folder.out, "--memory", "2G"], folder.out, view)
+    shown = Shown([page, "-o", folder.out, "--memory", "2G", "--seconds", str(most)], folder.out)
     reasons = [re.search("stripe %d, layer 1: [^:]*: ([^;\n]*)" % n, shown.told) for n in range(5)]
     reasons = [found and found[1] for found in reasons]
-    over = ["UNREAD: its decoder took over %d seconds" % (10 // haste)] * 2
+    over = ["UNREAD: its decoder took over %d seconds of the processor" % most] * 2
     used = ["UNREAD: no time is left for its decoder"] * 2
     tally.check(reasons == ["read", *over, *used], "slow decoders: %s %s" % (reasons, shown.status))
     tally.check(shown.unseen() == (60 * 160, 60 * 200) and shown.status == 3,
