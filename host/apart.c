@@ -141,7 +141,7 @@ static apart_end work_in_process(apart_work *work, const void *about, const apar
                                  apart_samples *samples, apart_report *report)
 {
     int ends[2], status = 0;
-    apart_letter due;
+    apart_letter due = {.token = {0}};
     apart_mail mail = {.length = 0};
     if (getrandom(due.token, sizeof due.token, 0) != sizeof due.token ||
         pipe2(ends, O_CLOEXEC) != 0) {
