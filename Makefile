@@ -11,9 +11,9 @@ BINDIR = $(PREFIX)/bin
 PROGRAMS = spirerook-view spirerook-make
 
 # the programs over the library: host/NAME.c each
-VIEW = $(addprefix view/,view options book pencil colour_notes layers decode decode_fax decode_t85 decode_jpeg picture screen) apart apart_inside colour digest file lines names
+VIEW = $(addprefix view/,view options book pencil colour_notes layers decode decode_fax decode_t85 decode_jpeg picture screen) apart apart_inside colour digest file new_file lines names
 MAKE_PAGE = $(addprefix make/,make plan plan_layer plan_words picture_in picture_png picture_pnm to_lab code_fax code_t85 code_jpeg layers sheets side outputs octets trouble) \
-	apart apart_inside colour digest file lines names
+	apart apart_inside colour digest file new_file lines names
 # they open what strangers send
 HARDENED = -D_FORTIFY_SOURCE=2 -fstack-protector-strong
 HOST_C = cc -std=c11 -D_GNU_SOURCE -Wall -Wextra -Werror -O2 $(HARDENED) -Iinclude -Ihost

@@ -2,40 +2,25 @@
 
 #include <errno.h>
 #include <fcntl.h>
+#include <poll.h>
 #include <signal.h>
+#include <stdio.h>
 #include <stdlib.h>
 #include <string.h>
 #include <sys/stat.h>
 #include <unistd.h>
 
-enum { MOST_OPEN = 4, FIRST_ROOM = 1 << 16 };
+#include "clock.h"
 
-/* What a signal has to take away; a place is null while it is free. */
-static char *volatile beside_names[MOST_OPEN];
+enum { FIRST_ROOM = 1 << 16 };
 
-static void take_away(int number)
-{
-    for (int k = 0; k < MOST_OPEN; k++) {
-        if (beside_names[k] != NULL) {
-            unlink(beside_names[k]);
-        }
-    }
-    signal(number, SIG_DFL);
-    raise(number);
-}
-
-/* A file that may not grow is told by the write that fails. */
-static void watch_signals(void)
-{
-    static const int numbers[] = {SIGINT, SIGTERM, SIGHUP, SIGPIPE};
-    signal(SIGXFSZ, SIG_IGN);
-    for (size_t k = 0; k < sizeof numbers / sizeof *numbers; k++) {
-        struct sigaction now = {.sa_handler = take_away}, before;
-        if (sigaction(numbers[k], NULL, &before) == 0 && before.sa_handler == SIG_DFL) {
-            sigaction(numbers[k], &now, NULL);
-        }
-    }
-}
+/* What is being read; of a pipe the octets may be long in coming. */
+typedef struct {
+    int from;
+    bool pipe;
+    whole_file *file;
+    size_t room;
+} reading;
 
 void hold_standard_files(void)
 {
@@ -44,30 +29,119 @@ void hold_standard_files(void)
             _exit(EXIT_FAILURE);
         }
     }
+    signal(SIGPIPE, SIG_IGN);
+    signal(SIGXFSZ, SIG_IGN);
 }
 
-const char *read_file(const char *name, size_t most, whole_file *file)
+/* The clock begins with the first pipe that is read. */
+static double seconds_left(void)
 {
-    FILE *from = fopen(name, "rb");
-    const char *why = NULL;
-    size_t room = 0;
-    *file = (whole_file){NULL, 0};
-    if (from == NULL) {
+    static double until;
+    double now = seconds_now();
+    until = until == 0 ? now + PIPE_SECONDS : until;
+    return until - now;
+}
+
+/* Whether there is something to read, or its end, before time is up. */
+static bool wait_for(int from)
+{
+    for (;;) {
+        double left = seconds_left();
+        struct pollfd end = {from, POLLIN, 0};
+        int ready = left <= 0 ? 0 : poll(&end, 1, (int)(left * 1000) + 1);
+        if (ready >= 0 || errno != EINTR) {
+            return ready > 0;
+        }
+    }
+}
+
+/* As read() answers, but never later than the deadline; then errno is ETIMEDOUT.  A FIFO that nobody
+ * has opened for writing reads as ended: it is waited for once before that is believed. */
+static ssize_t read_in_time(const reading *r)
+{
+    bool waited = !r->pipe || r->file->length > 0;
+    while (!r->pipe || seconds_left() > 0) {
+        ssize_t count = read(r->from, r->file->octets + r->file->length, r->room - r->file->length);
+        bool later = count < 0 ? errno == EAGAIN : count == 0 && !waited;
+        if (!later && (count >= 0 || errno != EINTR)) {
+            return count;
+        }
+        if (later && !wait_for(r->from)) {
+            break;
+        }
+        waited = waited || later;
+    }
+    errno = ETIMEDOUT;
+    return -1;
+}
+
+static const char *why_unread(const reading *r)
+{
+    static char late[64];
+    if (errno != ETIMEDOUT) {
         return strerror(errno);
     }
-    while (why == NULL && file->length < most && !feof(from)) {
-        if (file->length == room) {
-            room = room == 0 ? FIRST_ROOM : room > most / 2 ? most : room * 2;
-            uint8_t *more = realloc(file->octets, room);
-            why = more == NULL ? "there is not enough memory" : NULL;
-            file->octets = more == NULL ? file->octets : more;
+    snprintf(late, sizeof late,
+             r->file->length == 0 ? "no octets came within %d seconds"
+                                  : "its octets did not all come within %d seconds",
+             PIPE_SECONDS);
+    return late;
+}
+
+static const char *read_octets(reading *r, size_t most)
+{
+    whole_file *file = r->file;
+    for (bool ended = false; !ended && file->length < most;) {
+        if (file->length == r->room) {
+            size_t room = r->room == 0 ? FIRST_ROOM : r->room * 2;
+            r->room = r->room > most / 2 || room > most ? most : room;
+            uint8_t *more = realloc(file->octets, r->room);
+            if (more == NULL) {
+                return "there is not enough memory";
+            }
+            file->octets = more;
         }
-        if (why == NULL) {
-            file->length += fread(file->octets + file->length, 1, room - file->length, from);
-            why = ferror(from) ? strerror(errno) : NULL;
+        ssize_t count = read_in_time(r);
+        if (count < 0) {
+            return why_unread(r);
         }
+        file->length += (size_t)count;
+        ended = count == 0;
     }
-    fclose(from);
+    return NULL;
+}
+
+/* Judged once it is open, so that nothing else can take its place behind the judgement; without
+ * waiting, since a FIFO would make open() wait for a writer. */
+static const char *open_input(const char *name, bool plain_only, reading *r)
+{
+    const char *wrong_kind = plain_only ? "this is no plain file"
+                                        : "this is neither a file nor a pipe";
+    struct stat kind;
+    r->from = open(name, O_RDONLY | O_NONBLOCK | O_CLOEXEC | O_NOCTTY);
+    if (r->from < 0) {
+        return errno == ENXIO ? wrong_kind : strerror(errno);
+    }
+    if (fstat(r->from, &kind) != 0) {
+        return strerror(errno);
+    }
+    r->pipe = S_ISFIFO(kind.st_mode);
+    return S_ISDIR(kind.st_mode)                               ? strerror(EISDIR)
+           : S_ISREG(kind.st_mode) || (r->pipe && !plain_only) ? NULL
+                                                               : wrong_kind;
+}
+
+static const char *read_kind(const char *name, bool plain_only, size_t most, whole_file *file)
+{
+    reading r = {.from = -1, .file = file};
+    *file = (whole_file){NULL, 0};
+    const char *why = open_input(name, plain_only, &r);
+    if (why == NULL) {
+        why = read_octets(&r, most);
+    }
+    if (r.from >= 0) {
+        close(r.from);
+    }
     if (why != NULL) {
         free(file->octets);
         *file = (whole_file){NULL, 0};
@@ -75,105 +149,14 @@ const char *read_file(const char *name, size_t most, whole_file *file)
     return why;
 }
 
-static bool remember(char *beside)
+const char *read_file(const char *name, size_t most, whole_file *file)
 {
-    for (int k = 0; k < MOST_OPEN; k++) {
-        if (beside_names[k] == NULL) {
-            beside_names[k] = beside;
-            return true;
-        }
-    }
-    return false;
+    return read_kind(name, false, most, file);
 }
 
-static void forget(new_file *file)
+const char *read_plain_file(const char *name, size_t most, whole_file *file)
 {
-    for (int k = 0; k < MOST_OPEN; k++) {
-        if (beside_names[k] == file->beside) {
-            beside_names[k] = NULL;
-        }
-    }
-    free(file->place);
-    free(file->beside);
-    *file = (new_file){NULL, NULL, NULL};
-}
-
-/* With the rights that a file made plainly would have. */
-static FILE *make_beside(char *beside)
-{
-    int made = mkstemp(beside);
-    mode_t mask = umask(0);
-    umask(mask);
-    if (made < 0) {
-        return NULL;
-    }
-    FILE *file = fchmod(made, 0666 & ~mask) == 0 ? fdopen(made, "wb") : NULL;
-    if (file == NULL) {
-        close(made);
-        unlink(beside);
-    }
-    return file;
-}
-
-const char *open_beside(const char *name, new_file *file)
-{
-    struct stat there;
-    bool exists = stat(name, &there) == 0;
-    *file = (new_file){NULL, NULL, NULL};
-    if (exists && !S_ISREG(there.st_mode)) {
-        return "something that is no file stands there";
-    }
-    if (exists && access(name, W_OK) != 0) {
-        return strerror(errno);
-    }
-    file->place = exists ? realpath(name, NULL) : strdup(name);
-    size_t length = file->place == NULL ? 0 : strlen(file->place);
-    file->beside = malloc(length + sizeof ".XXXXXX");
-    if (file->place == NULL || file->beside == NULL) {
-        forget(file);
-        return "there is not enough memory";
-    }
-    memcpy(file->beside, file->place, length);
-    memcpy(file->beside + length, ".XXXXXX", sizeof ".XXXXXX");
-    watch_signals();
-    file->file = make_beside(file->beside);
-    const char *why = file->file == NULL       ? strerror(errno)
-                      : remember(file->beside) ? NULL
-                                               : "too many files are being written";
-    if (why != NULL && file->file == NULL) {
-        forget(file);
-    } else if (why != NULL) {
-        drop_file(file);
-    }
-    return why;
-}
-
-const char *keep_file(new_file *file)
-{
-    const char *why = ferror(file->file) || fflush(file->file) != 0 ||
-                              fsync(fileno(file->file)) != 0
-                          ? strerror(errno)
-                          : NULL;
-    if (fclose(file->file) != 0 && why == NULL) {
-        why = strerror(errno);
-    }
-    if (why == NULL && rename(file->beside, file->place) != 0) {
-        why = strerror(errno);
-    }
-    if (why != NULL) {
-        unlink(file->beside);
-    }
-    forget(file);
-    return why;
-}
-
-void drop_file(new_file *file)
-{
-    if (file->file != NULL) {
-        fclose(file->file);
-        unlink(file->beside);
-        forget(file);
-    }
+    return read_kind(name, true, most, file);
 }
 
 bool same_file(const char *one, const char *other)
@@ -181,4 +164,16 @@ bool same_file(const char *one, const char *other)
     struct stat first, second;
     return stat(one, &first) == 0 && stat(other, &second) == 0 && first.st_dev == second.st_dev &&
            first.st_ino == second.st_ino;
+}
+
+const char *standard_file(const char *name)
+{
+    struct stat named, standard;
+    for (int number = STDOUT_FILENO; number <= STDERR_FILENO; number++) {
+        if (stat(name, &named) == 0 && fstat(number, &standard) == 0 && S_ISREG(standard.st_mode) &&
+            named.st_dev == standard.st_dev && named.st_ino == standard.st_ino) {
+            return number == STDOUT_FILENO ? "standard output" : "standard error";
+        }
+    }
+    return NULL;
 }

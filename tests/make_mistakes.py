@@ -139,14 +139,14 @@ OPTIONS = [
 
 
 # a file named "fails" cannot take its place
-NO_RENAME = r"""#include <errno.h>
-#include <fcntl.h>
-#include <stdio.h>
+NO_LINK = r"""#include <errno.h>
 #include <string.h>
-int rename(const char *from, const char *to)
+#include <sys/syscall.h>
+#include <unistd.h>
+int linkat(int folder, const char *from, int other, const char *to, int flags)
 {
     errno = EIO;
-    return strstr(to, "fails") != NULL ? -1 : renameat(AT_FDCWD, from, AT_FDCWD, to);
+    return strstr(to, "fails") != NULL ? -1 : (int)syscall(SYS_linkat, folder, from, other, to, flags);
 }
 """
 
@@ -279,12 +279,15 @@ def check_outputs(tally, folder):
     with open("/dev/full", "wb") as full:
         ran = run(folder, "o.plan", "-o", "x", "--pencil", "s", "f", stdout=full)
     lines = ran[2].splitlines()
-    tally.check(lines[0].startswith("stripe 0, layer 1: "), "a full standard output loses lines: %s" % (ran,))
-    check_refusal(tally, folder, "a full standard output", (ran[0], ran[1], lines[-1] + "\n"), 1,
-                  "standard output cannot be written: No space left on device")
-    shim = os.path.join(folder, "no_rename.so")
-    subprocess.run(["cc", "-shared", "-fPIC", "-x", "c", "-", "-o", shim], check=True,
-                   input=NO_RENAME.encode())
+    tally.check(ran[0] == 1 and lines[0].startswith("stripe 0, layer 1: ")
+                and lines[-2].startswith("written: x, ") and lines[-1] == "spirerook-make: standard "
+                "output: No space left on device; what was meant for it stands here",
+                "a full standard output: %s" % (ran,))
+    for name in "xsf":
+        os.remove(os.path.join(folder, name))
+    shim = os.path.join(folder, "no_link.so")
+    subprocess.run(["cc", "-shared", "-fPIC", "-D_GNU_SOURCE", "-x", "c", "-", "-o", shim],
+                   check=True, input=NO_LINK.encode())
     for names in (("fails", "s", "f"), ("x", "fails", "f"), ("x", "s", "fails")):
         ran = run(folder, "o.plan", "-o", names[0], "--pencil", *names[1:],
                   env=dict(os.environ, LD_PRELOAD=shim))

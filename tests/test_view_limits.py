@@ -50,8 +50,8 @@ class Folder:
         return self.path(name)
 
     def parts(self):
-        """What stands beside the picture's place."""
-        return [name for name in os.listdir(self.coders.folder) if name.startswith("a.png.")]
+        """New files that did not take their place."""
+        return [name for name in os.listdir(self.coders.folder) if name.startswith(".")]
 
 
 # Options
@@ -332,7 +332,7 @@ def plain_signals():
 
 def check_signals(tally, folder):
     page = folder.new("slow.page", jpeg_page(slow_jpeg(folder, 25)))
-    for number in (signal.SIGTERM, signal.SIGINT, signal.SIGHUP, signal.SIGKILL):
+    for number in (signal.SIGTERM, signal.SIGINT, signal.SIGHUP, signal.SIGQUIT, signal.SIGKILL):
         write(folder.out, b"an old picture")
         run = subprocess.Popen([VIEW, page, "-o", folder.out, "--memory", "2G"],
                                stdout=subprocess.DEVNULL, preexec_fn=plain_signals)

@@ -3,6 +3,7 @@
 #include <stdlib.h>
 #include <string.h>
 
+#include "file.h"
 #include "layers.h"
 #include "lines.h"
 #include "outputs.h"
@@ -115,6 +116,20 @@ static bool is_input(const plan *from, const char *name)
     return found;
 }
 
+/* Whether the file may be written over: it is neither read nor told to. */
+static bool is_free(const plan *from, const char *name, trouble *what)
+{
+    const char *standard = standard_file(name);
+    if (is_input(from, name)) {
+        return bad_option(what, "%s is read from, and would be written over", name);
+    }
+    if (standard != NULL) {
+        tell(what, "%s would take the place of %s", name, standard);
+        what->status = STATUS_BAD_OPTION;
+    }
+    return standard == NULL;
+}
+
 /* Whether the options fit each other and the plan. */
 static bool fits(const options *given, const plan *from, trouble *what)
 {
@@ -128,8 +143,8 @@ static bool fits(const options *given, const plan *from, trouble *what)
                           from->file);
     }
     for (unsigned k = 0; k < count; k++) {
-        if (is_input(from, names[k])) {
-            return bad_option(what, "%s is read from, and would be written over", names[k]);
+        if (!is_free(from, names[k], what)) {
+            return false;
         }
         for (unsigned before = 0; before < k; before++) {
             if (same_place(names[before], names[k])) {
@@ -152,44 +167,39 @@ static void list_layer(const plan_layer *layer, const spirerook_record *record)
              (unsigned)record->length);
 }
 
-static bool is_said(trouble *what)
-{
-    return output_fault() == NULL ||
-           tell(what, "standard output cannot be written: %s", output_fault());
-}
-
-static bool list_layers(const plan *from, const coded_layers *layers, trouble *what)
+static void list_layers(const plan *from, const coded_layers *layers)
 {
     for (unsigned s = 0; s < from->stripe_count; s++) {
         for (unsigned k = 0; k < from->stripes[s].layer_count; k++) {
             list_layer(&from->stripes[s].layers[k], &layers->records[s][k]);
         }
     }
-    return is_said(what);
 }
 
-static bool list_files(const output *outputs, unsigned count, trouble *what)
+static void list_files(const output *outputs, unsigned count)
 {
     add_words("written:");
     for (unsigned k = 0; k < count; k++) {
         add_words("%s %s, %zu octets", k == 0 ? "" : ";", outputs[k].name, outputs[k].length);
     }
     say_line("%s", "");
-    return is_said(what);
 }
 
-/* The list of layers is printed when the files are whole but not yet in their places. */
+/* The list of layers is printed when the files are whole but not yet in their places.  Where lines
+ * cannot go to standard output, the files are none the worse: they are kept, and the status tells. */
 static bool write_outputs(output *outputs, unsigned count, const plan *from,
                           const coded_layers *layers, trouble *what)
 {
     if (!begin_outputs(outputs, count, what)) {
         return false;
     }
-    if (!list_layers(from, layers, what)) {
-        drop_outputs(outputs, count);
+    list_layers(from, layers);
+    if (!keep_outputs(outputs, count, what)) {
         return false;
     }
-    return keep_outputs(outputs, count, what) && list_files(outputs, count, what);
+    list_files(outputs, count);
+    return output_fault() == NULL ||
+           tell(what, "standard output: %s; what was meant for it stands here", output_fault());
 }
 
 /* The side file stands behind the three that it tells of, which are in the order of its lines. */

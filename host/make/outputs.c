@@ -3,7 +3,8 @@
 #include <errno.h>
 #include <stdlib.h>
 #include <string.h>
-#include <unistd.h>
+
+#include "file.h"
 
 /* The folder of a name, the caller's to free. */
 static char *folder_of(const char *name)
@@ -39,12 +40,10 @@ static const char *write_beside(output *to)
     if (why != NULL) {
         return why;
     }
-    FILE *file = to->file.file;
-    if ((to->length > 0 && fwrite(to->octets, 1, to->length, file) != to->length) ||
-        fflush(file) != 0 || fsync(fileno(file)) != 0) {
+    if (to->length > 0 && fwrite(to->octets, 1, to->length, to->file.file) != to->length) {
         return strerror(errno);
     }
-    return NULL;
+    return complete_file(&to->file);
 }
 
 bool begin_outputs(output *outputs, unsigned count, trouble *what)
@@ -59,31 +58,15 @@ bool begin_outputs(output *outputs, unsigned count, trouble *what)
     return true;
 }
 
-/* The file itself where the name is a link to it, as open_beside has it. */
-static void take_away(const char *name)
-{
-    char *place = realpath(name, NULL);
-    if (place != NULL) {
-        unlink(place);
-    }
-    free(place);
-}
-
-/* Where a later one fails, those that took their places already are taken away again. */
 bool keep_outputs(output *outputs, unsigned count, trouble *what)
 {
+    new_file *files[MOST_NEW_FILES];
+    unsigned failed = 0;
     for (unsigned k = 0; k < count; k++) {
-        const char *why = keep_file(&outputs[k].file);
-        if (why == NULL) {
-            continue;
-        }
-        for (unsigned before = 0; before < k; before++) {
-            take_away(outputs[before].name);
-        }
-        drop_outputs(outputs, count);
-        return tell(what, "%s: %s", outputs[k].name, why);
+        files[k] = &outputs[k].file;
     }
-    return true;
+    const char *why = keep_files(files, count, &failed);
+    return why == NULL || tell(what, "%s: %s", outputs[failed].name, why);
 }
 
 void drop_outputs(output *outputs, unsigned count)

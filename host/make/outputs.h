@@ -6,7 +6,7 @@
 #include <stddef.h>
 #include <stdint.h>
 
-#include "file.h"
+#include "new_file.h"
 #include "trouble.h"
 
 typedef struct {
@@ -19,10 +19,10 @@ typedef struct {
 /* Whether two names are of one place, though nothing may stand there yet. */
 bool same_place(const char *one, const char *other);
 
-/* Writes all beside their places, to the disk. */
+/* Writes all to the disk, but not in their places. */
 bool begin_outputs(output *outputs, unsigned count, trouble *what);
 
-/* Puts them in their places. */
+/* Puts them in their places, at most MOST_NEW_FILES of them. */
 bool keep_outputs(output *outputs, unsigned count, trouble *what);
 
 void drop_outputs(output *outputs, unsigned count);

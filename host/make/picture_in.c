@@ -2,7 +2,6 @@
 
 #include <stdlib.h>
 #include <string.h>
-#include <sys/stat.h>
 
 #include "file.h"
 
@@ -73,20 +72,12 @@ static bool is_pnm(const whole_file *file)
            file->octets[1] <= '6';
 }
 
-static bool is_plain(const char *name)
-{
-    struct stat there;
-    return stat(name, &there) != 0 || S_ISREG(there.st_mode) || S_ISDIR(there.st_mode);
-}
-
-/* Twice: the first octets tell whether all are worth reading.  A folder, or nothing at all, is told
- * of by read_file. */
+/* Twice: the first octets tell whether all are worth reading. */
 static bool read_known(const char *name, whole_file *file, trouble *what)
 {
     const size_t limits[] = {sizeof png_mark, most_file};
     for (int k = 0; k < 2; k++) {
-        const char *why = is_plain(name) ? read_file(name, limits[k], file)
-                                         : "this is no plain file";
+        const char *why = read_plain_file(name, limits[k], file);
         if (why != NULL) {
             return tell(what, "%s", why);
         }

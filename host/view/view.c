@@ -11,6 +11,7 @@
 #include "colour_notes.h"
 #include "layers.h"
 #include "lines.h"
+#include "new_file.h"
 #include "picture.h"
 #include "screen.h"
 
@@ -295,6 +296,23 @@ static int bad_choice(const char *option, size_t stripe, size_t layer, const cha
     return STATUS_BAD_OPTION;
 }
 
+/* Whether the picture would be written over what is read, or over what is told. */
+static int check_place(const options *asked, const pencil_source *source)
+{
+    const char *inputs[] = {asked->page, source->sheet, source->file, source->side};
+    const char *what = standard_file(asked->out);
+    for (size_t k = 0; what == NULL && k < sizeof inputs / sizeof *inputs; k++) {
+        if (inputs[k] != NULL && same_file(asked->out, inputs[k])) {
+            what = "what is read";
+        }
+    }
+    if (what != NULL) {
+        complain("spirerook-view: -o %s: the picture would take the place of %s", asked->out, what);
+        return STATUS_BAD_OPTION;
+    }
+    return STATUS_WHOLE;
+}
+
 static int check_unread(const options *asked, const book *opened)
 {
     for (size_t stripe = 0; stripe < SPIREROOK_STRIPES; stripe++) {
@@ -318,22 +336,14 @@ static int check_unread(const options *asked, const book *opened)
     return STATUS_WHOLE;
 }
 
-/* Options that name what the page does not have, or would write over what is read. */
+/* Options that name what the page does not have, or a place that is taken. */
 static int check_choices(const options *asked, const book *opened)
 {
-    const pencil_source *source = &opened->source;
-    const char *inputs[] = {asked->page, source->sheet, source->file, source->side};
     if (asked->one_stripe && asked->stripe >= opened->stripes) {
         return bad_choice("--stripe", asked->stripe, 0, "the page has no such stripe");
     }
-    for (size_t k = 0; asked->out != NULL && k < sizeof inputs / sizeof *inputs; k++) {
-        if (inputs[k] != NULL && same_file(asked->out, inputs[k])) {
-            complain("spirerook-view: -o %s: the picture would take the place of what is read",
-                     asked->out);
-            return STATUS_BAD_OPTION;
-        }
-    }
-    return check_unread(asked, opened);
+    int status = asked->out == NULL ? STATUS_WHOLE : check_place(asked, &opened->source);
+    return status == STATUS_WHOLE ? check_unread(asked, opened) : status;
 }
 
 static void list(const options *asked, const book *opened)
