@@ -174,9 +174,9 @@ static bool make_file(new_file *file, const struct stat *old)
 }
 
 /* The folder of the place and the name in it; of a link to a file, those of the file. */
-static bool find_place(const char *name, bool exists, new_file *file)
+static bool find_place(const char *name, bool is_link, new_file *file)
 {
-    file->path = exists ? realpath(name, NULL) : strdup(name);
+    file->path = is_link ? realpath(name, NULL) : strdup(name);
     if (file->path == NULL) {
         return false;
     }
@@ -198,21 +198,22 @@ static bool find_place(const char *name, bool exists, new_file *file)
 
 const char *open_beside(const char *name, new_file *file)
 {
-    struct stat there;
+    struct stat there, itself;
     sigset_t before;
     bool exists = stat(name, &there) == 0;
+    bool is_link = lstat(name, &itself) == 0 && S_ISLNK(itself.st_mode);
     *file = (new_file){.folder = -1};
+    if (is_link && !exists) {
+        return "a link that leads nowhere stands there";
+    }
     if (exists && !S_ISREG(there.st_mode)) {
         return "something that is no file stands there";
     }
     if (exists && access(name, W_OK) != 0) {
         return strerror(errno);
     }
-    if (!exists && lstat(name, &there) == 0 && S_ISLNK(there.st_mode)) {
-        return "a link that leads nowhere stands there";
-    }
     hold_signals(&before);
-    bool made = find_place(name, exists, file) && make_file(file, exists ? &there : NULL) &&
+    bool made = find_place(name, is_link, file) && make_file(file, exists ? &there : NULL) &&
                 remember(file);
     const char *why = made ? NULL : strerror(errno);
     if (!made) {

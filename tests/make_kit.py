@@ -9,7 +9,7 @@ import zlib
 
 import reference_run
 
-PROGRAM = os.path.join(reference_run.ROOT, "build", "spirerook-make")
+PROGRAM = os.environ.get("MAKE_PAGE") or os.path.join(reference_run.ROOT, "build", "spirerook-make")
 NEEDS = ["fax2tiff:libtiff-tools", "tifftopnm:netpbm", "jbgtopbm85:jbigkit-bin",
          "jpgicc:liblcms2-utils", "djpeg:libjpeg-turbo-progs"]
 CODERS = {"mh": 1, "mr": 2, "mmr": 4, "t85": 8}
