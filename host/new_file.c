@@ -7,6 +7,7 @@
 #include <string.h>
 #include <sys/random.h>
 #include <sys/stat.h>
+#include <sys/xattr.h>
 #include <unistd.h>
 
 #include "lines.h"
@@ -111,13 +112,29 @@ static bool give_name(const new_file *file, const char *name)
     return linkat(AT_FDCWD, own, file->folder, name, AT_SYMLINK_FOLLOW) == 0;
 }
 
-/* The owner, group and mode of the file that is replaced.  Where the group cannot be had, its
- * members get what all others do, and none is anybody's program. */
-static bool take_rights(int made, const struct stat *old)
+/* The access list of the old file, which its mode only sums up; or none, though the folder gives
+ * its new files one. */
+static bool take_access_list(int made, const char *old_name)
+{
+    static const char list[] = "system.posix_acl_access";
+    char octets[4096];
+    ssize_t size = getxattr(old_name, list, octets, sizeof octets);
+    if (size > 0) {
+        return fsetxattr(made, list, octets, (size_t)size, 0) == 0;
+    }
+    return errno == ENOTSUP ||
+           (errno == ENODATA && (fremovexattr(made, list) == 0 || errno == ENODATA));
+}
+
+/* The owner, group and rights of the file that is replaced.  Where the group or the list cannot be
+ * had, the group gets what all others do; and none runs in the name of another owner. */
+static bool take_rights(int made, const char *old_name, const struct stat *old)
 {
     struct stat now;
     mode_t mode = old->st_mode & 07777;
-    if (fchown(made, old->st_uid, old->st_gid) != 0 && fchown(made, (uid_t)-1, old->st_gid) != 0) {
+    bool group = fchown(made, old->st_uid, old->st_gid) == 0 ||
+                 fchown(made, (uid_t)-1, old->st_gid) == 0;
+    if (!take_access_list(made, old_name) || !group) {
         mode = (mode & ~(mode_t)S_IRWXG) | (mode & S_IRWXO) << 3;
     }
     if (fstat(made, &now) != 0) {
@@ -166,7 +183,7 @@ static bool make_file(new_file *file, const struct stat *old)
     if (made < 0) {
         return false;
     }
-    file->file = old == NULL || take_rights(made, old) ? fdopen(made, "wb") : NULL;
+    file->file = old == NULL || take_rights(made, file->path, old) ? fdopen(made, "wb") : NULL;
     if (file->file == NULL) {
         close(made);
     }

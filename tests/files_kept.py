@@ -7,7 +7,9 @@ import random
 import shutil
 import signal
 import stat
+import struct
 import subprocess
+import tempfile
 import time
 
 import files_kit
@@ -57,6 +59,37 @@ def check_modes(tally, folder):
     modes = [rights(os.path.join(inner, name))[0] for name in OUTPUTS]
     tally.check(ran.status == 0 and modes == [0o600, 0o644, 0o660] and found(inner) == folder.new,
                 "the maker's files have modes %s; %s" % (list(map(oct, modes)), ran))
+
+
+def access_list(*entries):
+    """The octets that the system keeps of entries (kind, rights, user or group)."""
+    return struct.pack("<I", 2) + b"".join(struct.pack("<HHI", *entry) for entry in entries)
+
+
+def check_access_lists(tally, folder):
+    """A list stays, and a file without one gets none from its folder."""
+    inner = folder.sub("lists")
+    shutil.copy(folder.path("p.page"), os.path.join(inner, "in.page"))
+    out, nobody = os.path.join(inner, "a.png"), 0xFFFFFFFF
+    octets = access_list((1, 6, nobody), (2, 4, 1234), (4, 0, nobody), (16, 4, nobody), (32, 0, nobody))
+    for own, folders in ((True, False), (False, True), (True, True)):
+        write(out, b"old")
+        os.chmod(out, 0o640)
+        try:
+            if own:
+                os.setxattr(out, "system.posix_acl_access", octets)
+            if folders:
+                os.setxattr(inner, "system.posix_acl_default", octets)
+        except OSError as why:
+            print("access lists are not tried: %s" % why.strerror)
+            return
+        ran = Run(folder.showing("in.page"), inner)
+        found_list = "system.posix_acl_access" in os.listxattr(out) and os.getxattr(
+            out, "system.posix_acl_access")
+        tally.check(ran.status == 0 and read(out) == folder.picture and rights(out)[0] == 0o640
+                    and found_list == (own and octets), "access lists %s %s: %o %s, %s" % (
+                        own, folders, rights(out)[0], found_list, ran))
+        os.remove(out)
 
 
 def check_links(tally, folder):
@@ -255,7 +288,7 @@ def slow_page():
 def check_nameless(tally):
     """While a picture is made nothing stands beside its place, and after SIGKILL nothing is left."""
     within = next((place for place in (None, "/dev/shm", "/var/tmp") if files_kit.has_nameless(
-        place or files_kit.tempfile.gettempdir())), 0)
+        place or tempfile.gettempdir())), 0)
     if within == 0:
         print("files without a name are not tried: no file system here has them")
         return
@@ -267,7 +300,7 @@ def check_nameless(tally):
         run = subprocess.Popen(folder.showing("in.page"), cwd=inner, stdout=subprocess.DEVNULL)
         until, seen = time.monotonic() + 0.7, set()
         while time.monotonic() < until:
-            seen.update(found(inner))
+            seen.update(name for name in os.listdir(inner) if name not in files_kit.READ)
             time.sleep(0.002)
         tally.check(run.poll() is None and seen == set(olds), "during a run there were %s" % seen)
         run.kill()
@@ -278,6 +311,7 @@ def check_nameless(tally):
 def check_all(tally, folder, rng, rounds):
     shim = files_kit.build_faults(folder)
     check_modes(tally, folder)
+    check_access_lists(tally, folder)
     check_links(tally, folder)
     check_deep(tally, folder)
     check_nobody(tally, folder)

@@ -1,6 +1,7 @@
 """Runs of the viewer and the page maker in a folder of their own, for the tests of their files."""
 
 import os
+import resource
 import shutil
 import signal
 import subprocess
@@ -13,6 +14,7 @@ from view_making import VIEW
 
 MAKE = make_kit.PROGRAM
 PLAN = "resolution 400\nstripe\nmask m.pbm\npencil-mask m.pbm at 3 4\npencil-image none\n"
+READ = ("m.pbm", "p.plan", "in.page")
 OUTPUTS = ("p.page", "p.sheet", "p.pencil")
 NOBODY = 65534
 SECONDS = 60         # by the clock; others may work on the machine
@@ -81,7 +83,7 @@ def old_octets(name):
 def put_old(folder, names):
     """Old files there and nothing else but what is read; answers their numbers in the file system."""
     for name in os.listdir(folder):
-        if name not in ("m.pbm", "p.plan", "in.page"):
+        if name not in READ:
             os.remove(os.path.join(folder, name))
     for name in names:
         write(os.path.join(folder, name), old_octets(name))
@@ -92,7 +94,7 @@ def put_old(folder, names):
 def found(folder):
     """All that stands there but what is read."""
     return {name: read(os.path.join(folder, name)) for name in sorted(os.listdir(folder))
-            if name not in ("m.pbm", "p.plan", "in.page")}
+            if name not in READ}
 
 
 def build_faults(folder):
@@ -110,7 +112,9 @@ def as_nobody():
 
 
 def plain_signals():
-    """Under nohup, or in the background of a shell, some are ignored by all that is started."""
+    """Under nohup, or in the background of a shell, some are ignored by all that is started. No signal
+    leaves a core."""
+    resource.setrlimit(resource.RLIMIT_CORE, (0, 0))
     for number in (signal.SIGHUP, signal.SIGINT, signal.SIGQUIT, signal.SIGTERM, signal.SIGPIPE):
         signal.signal(number, signal.SIG_DFL)
 
