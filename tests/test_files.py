@@ -226,7 +226,7 @@ def check_descriptors(tally, folder):
 
 def main():
     tally = reference_run.Tally()
-    rng = random.Random(view_making.seed_of_run())
+    rng = random.Random(11)      # no seed brings back the moment at which a signal came
     if not (os.path.exists(VIEW) and os.path.exists(MAKE)):
         tally.check(False, "no build/spirerook-view or build/spirerook-make: make them first")
         return tally.end()
