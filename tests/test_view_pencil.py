@@ -205,14 +205,14 @@ def check_side(tally, folder):
     check_last(tally, folder.show(*given, "--no-digests"), "show.page: %s, all seen; pencil: show.sheet, "
                "show.pencil, not checked (--no-digests)" % SIZE)
     os.mkdir(side)
-    check_refused(tally, folder.show(*given), "show.sheet.sha256: cannot be read: it is no plain file")
+    check_refused(tally, folder.show(*given), "show.sheet.sha256: cannot be read: this is no plain file")
     os.rmdir(side)
     os.symlink("nowhere", side)
     check_refused(tally, folder.show(*given), "show.sheet.sha256: cannot be read: No such file or directory")
     os.remove(side)
     os.mkfifo(side)                              # nobody writes to it: this must not wait
     check_refused(tally, folder.show("show.page", seconds=30),
-                  "show.sheet.sha256: cannot be read: it is no plain file" + OUT)
+                  "show.sheet.sha256: cannot be read: this is no plain file" + OUT)
     os.remove(side)
     write(side, good)
 
@@ -295,8 +295,8 @@ def check_bad_sheets(tally, folder):
     sheet, good = folder.path("show.sheet"), read(folder.path("show.sheet"))
     for make, why in ((lambda: os.symlink("nowhere", sheet), "No such file or directory"),
                       (lambda: os.symlink("show.sheet", sheet), "Too many levels of symbolic links"),
-                      (lambda: os.mkdir(sheet), "it is no plain file"),
-                      (lambda: os.mkfifo(sheet), "it is no plain file")):
+                      (lambda: os.mkdir(sheet), "Is a directory"),
+                      (lambda: os.mkfifo(sheet), "this is no plain file")):
         os.remove(sheet)
         make()
         check_refused(tally, folder.show("show.page", seconds=30), "show.sheet: cannot be read: %s%s" % (why, OUT))

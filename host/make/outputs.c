@@ -5,29 +5,15 @@
 #include <string.h>
 
 #include "file.h"
-
-/* The folder of a name, the caller's to free. */
-static char *folder_of(const char *name)
-{
-    const char *slash = strrchr(name, '/');
-    return slash == NULL   ? strdup(".")
-           : slash == name ? strdup("/")
-                           : strndup(name, (size_t)(slash - name));
-}
-
-static const char *last_of(const char *name)
-{
-    const char *slash = strrchr(name, '/');
-    return slash == NULL ? name : slash + 1;
-}
+#include "names.h"
 
 bool same_place(const char *one, const char *other)
 {
     if (strcmp(one, other) == 0 || same_file(one, other)) {
         return true;
     }
-    char *first = folder_of(one), *second = folder_of(other);
-    bool same = first != NULL && second != NULL && strcmp(last_of(one), last_of(other)) == 0 &&
+    char *first = folder_part(one), *second = folder_part(other);
+    bool same = first != NULL && second != NULL && strcmp(last_part(one), last_part(other)) == 0 &&
                 same_file(first, second);
     free(first);
     free(second);

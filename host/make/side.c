@@ -4,6 +4,7 @@
 #include <stdlib.h>
 #include <string.h>
 
+#include "file.h"
 #include "names.h"
 
 /* The whole name of a file in a folder. */

@@ -72,18 +72,9 @@ static bool find_beside(const char *page, pencil_source *source)
     return done;
 }
 
-static const char *read_plain(const char *name, size_t most, whole_file *file)
-{
-    struct stat there;
-    if (stat(name, &there) != 0) {
-        return strerror(errno);
-    }
-    return S_ISREG(there.st_mode) ? read_file(name, most, file) : "it is no plain file";
-}
-
 const char *read_part(const pencil_source *source, const char *name, size_t most, whole_file *file)
 {
-    return source->found ? read_plain(name, most, file) : read_file(name, most, file);
+    return source->found ? read_plain_file(name, most, file) : read_file(name, most, file);
 }
 
 static int no_side(const options *asked, const pencil_source *source)
@@ -106,7 +97,7 @@ static int read_side_file(const options *asked, pencil_source *source)
     if (!stands(source->side)) {
         return no_side(asked, source);
     }
-    const char *why = read_plain(source->side, MOST_SIDE_OCTETS + 1, &side);
+    const char *why = read_plain_file(source->side, MOST_SIDE_OCTETS + 1, &side);
     if (why != NULL) {
         complain("%s: cannot be read: %s%s", source->side, why, way_out(source));
         return STATUS_REFUSED;
