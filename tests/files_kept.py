@@ -45,19 +45,19 @@ def check_modes(tally, folder):
                 os.chown(out, *owner)
             os.chmod(out, mode)
             due = rights(out)
-            ran = Run(folder.showing("in.page"), inner)
+            ran = Run(folder.showing(), inner)
             tally.check(ran.status == 0 and rights(out) == due and read(out) == folder.picture,
                         "over a file of rights %o %s: %o %s, %s" % (*due[:2], *rights(out)[:2], ran))
     for mask in (0o022, 0o027, 0o077):
         os.remove(out)
-        ran = Run(folder.showing("in.page"), inner, preexec_fn=lambda mask=mask: os.umask(mask))
+        ran = Run(folder.showing(), inner, preexec_fn=lambda mask=mask: os.umask(mask))
         tally.check(rights(out)[0] == 0o666 & ~mask, "umask %o: %o" % (mask, rights(out)[0]))
     put_old(inner, OUTPUTS)
-    for name, mode in zip(OUTPUTS, (0o600, 0o644, 0o660)):
+    for name, mode in zip(OUTPUTS, (0o600, 0o644, 0o660, 0o640)):
         os.chmod(os.path.join(inner, name), mode)
     ran = Run(folder.making(), inner)
     modes = [rights(os.path.join(inner, name))[0] for name in OUTPUTS]
-    tally.check(ran.status == 0 and modes == [0o600, 0o644, 0o660] and found(inner) == folder.new,
+    tally.check(ran.status == 0 and modes == [0o600, 0o644, 0o660, 0o640] and found(inner) == folder.new,
                 "the maker's files have modes %s; %s" % (list(map(oct, modes)), ran))
 
 
@@ -83,7 +83,7 @@ def check_access_lists(tally, folder):
         except OSError as why:
             print("access lists are not tried: %s" % why.strerror)
             return
-        ran = Run(folder.showing("in.page"), inner)
+        ran = Run(folder.showing(), inner)
         found_list = "system.posix_acl_access" in os.listxattr(out) and os.getxattr(
             out, "system.posix_acl_access")
         tally.check(ran.status == 0 and read(out) == folder.picture and rights(out)[0] == 0o640
@@ -121,7 +121,7 @@ def check_deep(tally, folder):
             file.write(b"old")
     os.symlink("b.png", "link.png", dir_fd=inner)
     go_there = lambda: os.fchdir(inner)
-    page = folder.path("p.page")
+    page = folder.path("in.page")
     ran = Run(folder.showing(page), None, preexec_fn=go_there, pass_fds=[inner])
     with open(os.open("a.png", os.O_RDONLY, dir_fd=inner), "rb") as file:
         tally.check(ran.status == 0 and file.read() == folder.picture, "in a deep folder: %s" % ran)
@@ -137,7 +137,7 @@ def check_nobody(tally, folder):
     if os.getuid():
         print("other users are not tried: only root can")
         return
-    show, make = folder.showing(folder.path("p.page")), folder.making()
+    show, make = folder.showing(folder.path("in.page")), folder.making()
     for words in (show, make):
         words[0] = shutil.copy(words[0], folder.path(os.path.basename(words[0])))
     inner = folder.sub("nobody", 0o777)
@@ -262,7 +262,7 @@ def check_random_signals(tally, folder, rng, rounds):
     shutil.copy(folder.path("p.page"), os.path.join(inner, "in.page"))
     nameless = files_kit.has_nameless(inner)
     for words, names, new in ((folder.making(), OUTPUTS, folder.new),
-                              (folder.showing("in.page"), ("a.png",), {"a.png": folder.picture})):
+                              (folder.showing(), ("a.png",), {"a.png": folder.picture})):
         began = time.monotonic()
         Run(words, inner)
         longest = 1.2 * (time.monotonic() - began)
@@ -297,7 +297,7 @@ def check_nameless(tally):
     write(os.path.join(inner, "in.page"), slow_page())
     for olds in (("a.png",), ()):
         numbers = put_old(inner, olds)
-        run = subprocess.Popen(folder.showing("in.page"), cwd=inner, stdout=subprocess.DEVNULL)
+        run = subprocess.Popen(folder.showing(), cwd=inner, stdout=subprocess.DEVNULL)
         until, seen = time.monotonic() + 0.7, set()
         while time.monotonic() < until:
             seen.update(name for name in os.listdir(inner) if name not in files_kit.READ)

@@ -15,7 +15,7 @@ from view_making import VIEW
 MAKE = make_kit.PROGRAM
 PLAN = "resolution 400\nstripe\nmask m.pbm\npencil-mask m.pbm at 3 4\npencil-image none\n"
 READ = ("m.pbm", "p.plan", "in.page")
-OUTPUTS = ("p.page", "p.sheet", "p.pencil")
+OUTPUTS = ("p.page", "p.sheet", "p.pencil", "p.sheet.sha256")
 NOBODY = 65534
 SECONDS = 60         # by the clock; others may work on the machine
 NAMELESS = getattr(os, "O_TMPFILE", 0)
@@ -37,7 +37,7 @@ class Run:
 
 
 class Folder:
-    """A folder with pictures and a plan, and the page, sheet and pencil file made of them; `new` is
+    """A folder with pictures and a plan, and the page, sheet, pencil file and side file made of them; `new` is
     what these are, and `picture` what the viewer makes of the page."""
 
     def __init__(self, within=None):
@@ -47,6 +47,7 @@ class Folder:
         write(self.path("m.pbm"), make_kit.pbm(make_kit.strokes(200, 90)))
         write(self.path("p.plan"), PLAN)
         self.made = Run(self.making(), self.name)
+        shutil.copy(self.path("p.page"), self.path("in.page"))      # without its pencil
         self.shown = Run(self.showing(), self.name)
         self.new = {name: self.octets(name) for name in OUTPUTS}
         self.picture = self.octets("a.png")
@@ -70,9 +71,9 @@ class Folder:
         return inner
 
     def making(self, outputs=OUTPUTS):
-        return [MAKE, "p.plan", "-o", outputs[0], "--pencil", *outputs[1:]]
+        return [MAKE, "p.plan", "-o", outputs[0], "--pencil", *outputs[1:3]]
 
-    def showing(self, page="p.page", out="a.png"):
+    def showing(self, page="in.page", out="a.png"):
         return [VIEW, page, "-o", out]
 
 

@@ -283,7 +283,7 @@ def check_outputs(tally, folder):
                 and lines[-2].startswith("written: x, ") and lines[-1] == "spirerook-make: standard "
                 "output: No space left on device; what was meant for it stands here",
                 "a full standard output: %s" % (ran,))
-    for name in "xsf":
+    for name in ("x", "s", "f", "s.sha256"):
         os.remove(os.path.join(folder, name))
     shim = os.path.join(folder, "no_link.so")
     subprocess.run(["cc", "-shared", "-fPIC", "-D_GNU_SOURCE", "-x", "c", "-", "-o", shim],

@@ -33,7 +33,7 @@ BROKE_OFF = "its decoder broke off"
 # deed, the reason that is due in the sandbox, and without
 DEEDS = [("stray-below", BROKE_OFF, BROKE_OFF), ("stray-above", BROKE_OFF, BROKE_OFF),
          ("stray-all", BROKE_OFF, BROKE_OFF), ("exit:0", BROKE_OFF, BROKE_OFF), ("exit:1", BROKE_OFF, BROKE_OFF),
-         ("exit:113", BROKE_OFF, BROKE_OFF), ("leave:0", BROKE_OFF, BROKE_OFF), ("forge", BROKE_OFF, BROKE_OFF),
+         ("exit:113", BROKE_OFF, BROKE_OFF), ("leave:0", FORBIDDEN, BROKE_OFF), ("forge", BROKE_OFF, BROKE_OFF),
          ("flood", BROKE_OFF, BROKE_OFF), ("keep", FORBIDDEN, BROKE_OFF),
          ("spin", "its decoder took over 1 seconds of the processor", "its decoder took over 1 seconds of the processor")]
 OTHERS = ["write-file", "read-file", "socket", "unix-socket", "memory-file", "stop-viewer", "read-input", "speak",

@@ -115,21 +115,22 @@ def start_inputs(folder, stop):
 def check_pipes(tally, folder):
     """Octets that come are read, from one pipe or three, and a pipe that ends empty ends at once."""
     pipes = []
-    for name in OUTPUTS:
+    for name in OUTPUTS[:3]:
         read_end, write_end = os.pipe()
         threading.Thread(target=lambda end=write_end, octets=folder.new[name]: (
             os.write(end, octets), os.close(end))).start()
         pipes.append(read_end)
-    words = [VIEW, "/dev/fd/%d" % pipes[0], "--pencil", *("/dev/fd/%d" % end for end in pipes[1:])]
+    words = [VIEW, "/dev/fd/%d" % pipes[0], "--pencil", *("/dev/fd/%d" % end for end in pipes[1:]),
+             "--no-digests"]
     plain = Run([VIEW, "p.page", "--pencil", "p.sheet", "p.pencil"], folder.name)
     piped = Run(words, folder.name, pass_fds=pipes)
-    names = lambda told: [line.split(": ", 1)[1] for line in told.splitlines()[:-1]]
+    names = lambda told: [line.split(": ", 1)[1] for line in told.splitlines() if ": stripe " in line]
     tally.check(piped.status == plain.status == 0 and names(piped.told) == names(plain.told),
                 "three pipes: %s; files: %s" % (piped, plain))
     for end in pipes:
         os.close(end)
     shell = lambda words: Run(["bash", "-c", words, "bash", VIEW, MAKE], folder.name)
-    ran = shell('cat p.page | "$1" /dev/stdin -o piped.png')
+    ran = shell('cat in.page | "$1" /dev/stdin -o piped.png')
     tally.check(ran.status == 0 and folder.octets("piped.png") == folder.picture, "a pipe: %s" % ran)
     ran = shell('sed "s|m.pbm|$PWD/m.pbm|" p.plan | "$2" /dev/stdin -o q.page --pencil q.sheet q.pencil')
     tally.check(ran.status == 0 and folder.octets("q.page") == folder.new["p.page"],
@@ -162,10 +163,9 @@ def check_lines(tally, folder):
     """Where standard output is closed, full or without a reader all lines stand on standard error,
     and the files are written."""
     bounded = view_making.bounded(resource.RLIMIT_FSIZE, 1 << 20)
-    for words, due, outs in ((folder.showing("in.page"), folder.shown.told, ("a.png",)),
+    for words, due, outs in ((folder.showing(), folder.shown.told, ("a.png",)),
                              (folder.making(), folder.made.told, OUTPUTS)):
         new = {name: folder.octets(name) for name in outs}
-        due = due.replace("p.page: ", "in.page: ") if outs == ("a.png",) else due
         for what in ("closed", "full", "a full file", "without a reader", "read by head -1"):
             for name in outs:
                 os.remove(folder.path(name))
@@ -192,7 +192,7 @@ def check_lines(tally, folder):
 
 def check_replaced(tally, folder):
     """No output takes the place of the file that lines go to."""
-    show = folder.showing("in.page")
+    show = folder.showing()
     for words, names in ((show, ("a.png",)), (folder.making(), OUTPUTS)):
         for name in names:
             for number, standard in ((1, "standard output"), (2, "standard error")):
@@ -213,7 +213,7 @@ def check_replaced(tally, folder):
 
 def check_descriptors(tally, folder):
     """Too few descriptors are told as that."""
-    for words, least in ((folder.showing("in.page"), 5), (folder.making(), 7)):
+    for words, least in ((folder.showing(), 5), (folder.making(), 7)):
         told = set()
         for most in range(4, least + 6):
             bounded = view_making.bounded(resource.RLIMIT_NOFILE, most)
@@ -231,7 +231,6 @@ def main():
         tally.check(False, "no build/spirerook-view or build/spirerook-make: make them first")
         return tally.end()
     folder, stop = Folder(), threading.Event()
-    write(folder.path("in.page"), folder.new["p.page"])
     tally.check(folder.made.status == 0 and folder.shown.status == 0, "the start: %s, %s" % (
         folder.made, folder.shown))
     started, held = start_inputs(folder, stop)

@@ -205,7 +205,7 @@ def check_side(tally, folder):
     check_last(tally, folder.show(*given, "--no-digests"), "show.page: %s, all seen; pencil: show.sheet, "
                "show.pencil, not checked (--no-digests)" % SIZE)
     os.mkdir(side)
-    check_refused(tally, folder.show(*given), "show.sheet.sha256: cannot be read: this is no plain file")
+    check_refused(tally, folder.show(*given), "show.sheet.sha256: cannot be read: Is a directory")
     os.rmdir(side)
     os.symlink("nowhere", side)
     check_refused(tally, folder.show(*given), "show.sheet.sha256: cannot be read: No such file or directory")

@@ -93,6 +93,9 @@ static finding decode_into(const options *asked, const coded_layer *layer, uint8
     left->clock -= seconds_now() - began;
     bool share = (found == LAYER_TOO_SLOW && bounds.seconds < asked->seconds) ||
                  (found == LAYER_TOO_LATE && bounds.clock < asked->clock_seconds);
+    if (share) {
+        left->processor = 0;
+    }
     return share ? LAYER_NO_TIME : found;
 }
 
