@@ -163,6 +163,7 @@ def check_no_seccomp(tally, desk):
         done = subprocess.run([desk.no_seccomp, VIEW, *desk.words, *words], check=False, stdout=subprocess.PIPE)
         told = done.stdout.decode()
         unread = told.count("UNREAD: this system has no sandbox for its decoder (--no-sandbox does without)")
+        tally.check(("decoded without a sandbox (--no-sandbox)\n" in told) == all_read, "told: %s" % told)
         tally.check(unread == (0 if all_read else 5) and told.count(": read\n") == (5 if all_read else 0)
                     and done.returncode in ((0, 3) if all_read else (3,)), "no seccomp %s: %s" % (words, told))
 

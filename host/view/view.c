@@ -270,6 +270,9 @@ static int show(const options *asked, const book *opened, double began)
     }
     if (status == STATUS_WHOLE) {
         tell_uncomposed(&r);
+        if (asked->no_sandbox) {
+            say_line("%s: decoded without a sandbox (--no-sandbox)", asked->page);
+        }
         if (asked->times) {
             tell_times(&r, began);
         }
