@@ -11,9 +11,10 @@ BINDIR = $(PREFIX)/bin
 PROGRAMS = spirerook-view spirerook-make
 
 # the programs over the library: host/NAME.c each
-VIEW = $(addprefix view/,view options book pencil colour_notes layers decode decode_fax decode_t85 decode_jpeg picture screen) apart apart_inside colour digest file new_file lines names
+BOTH = apart apart_inside digest file new_file lines names
+VIEW = $(addprefix view/,view options book pencil colour_notes layers decode decode_fax decode_t85 decode_jpeg picture screen) $(BOTH)
 MAKE_PAGE = $(addprefix make/,make plan plan_layer plan_words picture_in picture_png picture_pnm to_lab code_fax code_t85 code_jpeg layers sheets side outputs octets trouble) \
-	apart apart_inside colour digest file new_file lines names
+	colour $(BOTH)
 # they open what strangers send
 HARDENED = -D_FORTIFY_SOURCE=2 -fstack-protector-strong
 HOST_C = cc -std=c11 -D_GNU_SOURCE -Wall -Wextra -Werror -O2 $(HARDENED) -Iinclude -Ihost
@@ -94,7 +95,7 @@ build/spirerook-make: $(MAKE_PAGE:%=build/host/%.o) build/libspirerook.a
 install: all
 	@case "$(LIBDIR):$(INCLUDEDIR)" in /*:/*) ;; *) echo "install: PREFIX must be an absolute path, not '$(PREFIX)'" >&2; exit 1 ;; esac
 	install -d "$(DESTDIR)$(LIBDIR)/pkgconfig" "$(DESTDIR)$(INCLUDEDIR)"
-	install -m 644 include/spirerook.h "$(DESTDIR)$(INCLUDEDIR)/spirerook.h"
+	install -m 644 include/spirerook.h host/spirerook_colour.h "$(DESTDIR)$(INCLUDEDIR)"
 	install -m 644 build/libspirerook.a "$(DESTDIR)$(LIBDIR)/libspirerook.a"
 	install -m 755 build/libspirerook.so "$(DESTDIR)$(LIBDIR)/libspirerook.so.$(VERSION)"
 	ln -sf libspirerook.so.$(VERSION) "$(DESTDIR)$(LIBDIR)/libspirerook.so.$(MAJOR)"
@@ -110,5 +111,6 @@ install-programs: $(PROGRAMS:%=build/%)
 
 uninstall:
 	rm -f $(PROGRAMS:%="$(DESTDIR)$(BINDIR)/%")
-	rm -f "$(DESTDIR)$(INCLUDEDIR)/spirerook.h" "$(DESTDIR)$(LIBDIR)/pkgconfig/spirerook.pc" "$(DESTDIR)$(LIBDIR)/libspirerook.a"
+	rm -f "$(DESTDIR)$(INCLUDEDIR)/spirerook.h" "$(DESTDIR)$(INCLUDEDIR)/spirerook_colour.h"
+	rm -f "$(DESTDIR)$(LIBDIR)/pkgconfig/spirerook.pc" "$(DESTDIR)$(LIBDIR)/libspirerook.a"
 	rm -f "$(DESTDIR)$(LIBDIR)/libspirerook.so" "$(DESTDIR)$(LIBDIR)/libspirerook.so.$(MAJOR)" "$(DESTDIR)$(LIBDIR)/libspirerook.so.$(VERSION)"

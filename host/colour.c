@@ -1,5 +1,5 @@
-/* T.42: the default range of codes, under D50; sRGB stands under D65, and the matrices adapt from
- * one to the other (Bradford). */
+/* T.42: the default range of codes, under D50; sRGB stands under D65, and the matrix adapts from one
+ * to the other (Bradford).  The way back is in spirerook_colour.h. */
 #include "colour.h"
 
 #include <math.h>
@@ -10,22 +10,12 @@ static const double lightest = 255.0;
 /* CIE 15: the cube root, with a straight line near black. */
 static const double edge = 6.0 / 29.0;
 
-static double cube(double t)
-{
-    return t > edge ? t * t * t : 3 * edge * edge * (t - 4.0 / 29.0);
-}
-
 static double root(double t)
 {
     return t > edge * edge * edge ? cbrt(t) : t / (3 * edge * edge) + 4.0 / 29.0;
 }
 
 /* IEC 61966-2-1 */
-static double to_screen(double linear)
-{
-    return linear <= 0.0031308 ? 12.92 * linear : 1.055 * pow(linear, 1 / 2.4) - 0.055;
-}
-
 static double from_screen(double value)
 {
     return value <= 0.04045 ? value / 12.92 : pow((value + 0.055) / 1.055, 2.4);
@@ -34,21 +24,6 @@ static double from_screen(double value)
 static uint8_t nearest(double value)
 {
     return value <= 0 ? 0 : value >= lightest ? 255 : (uint8_t)lround(value);
-}
-
-void srgb_of_lab(const uint8_t lab[3], uint8_t srgb[3])
-{
-    static const double matrix[3][3] = {{3.1338561, -1.6168667, -0.4906146},
-                                        {-0.9787684, 1.9161415, 0.0334540},
-                                        {0.0719453, -0.2289914, 1.4052427}};
-    double y = (lab[0] * 100 / lightest + 16) / 116;
-    double x = y + (lab[1] - 128) * 170 / lightest / 500;
-    double z = y - (lab[2] - 96) * 200 / lightest / 200;
-    double light[3] = {white[0] * cube(x), white[1] * cube(y), white[2] * cube(z)};
-    for (int k = 0; k < 3; k++) {
-        double linear = matrix[k][0] * light[0] + matrix[k][1] * light[1] + matrix[k][2] * light[2];
-        srgb[k] = nearest(lightest * to_screen(linear < 0 ? 0 : linear > 1 ? 1 : linear));
-    }
 }
 
 void lab_of_srgb(const uint8_t srgb[3], uint8_t lab[3])

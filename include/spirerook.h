@@ -46,6 +46,23 @@ extern "C" {
 #define SPIREROOK_LINE_OCTETS 131072    /* of a line, at most: 4 times the width */
 #define SPIREROOK_STACK 16384           /* a thread of this stack size may make any call */
 
+/* clang-format on */
+
+/* ---- Colours ---- */
+
+/* A colour is three octets, the CIELAB codes of T.42 in its default range, under D50:
+ *   L* = L x 100/255     a* = (a - 128) x 170/255     b* = (b - 96) x 200/255
+ * White is 255 128 96, black 0 128 96, and every grey has 128 96 behind its lightness.  Base colours,
+ * the samples of image layers and the pixels of a line are all such codes; the library carries them
+ * as they stand.
+ * The JPEG data of an image layer holds them as its three components.  It is not YCbCr, though
+ * decoders take it for that: their conversion of colours must be off.  With libjpeg, behind
+ * jpeg_read_header and before jpeg_start_decompress:
+ *   jpeg.jpeg_color_space = jpeg.out_color_space = JCS_YCbCr;
+ * A layer of one component has lightness alone: each of its samples is widened by 128 96.
+ * For a screen, spirerook_lab_to_srgb in spirerook_colour.h makes sRGB of a colour. */
+
+/* clang-format off */
 /* ---- Numbers ---- */
 
 /* Each answer has one of these: number, constant, name, and what it tells. */

@@ -44,9 +44,9 @@ def check_steps(tally, text):
 def check_program(tally, text):
     """Clean where the header is, and short functions."""
     strict = ["-Wall", "-Wextra", "-Wpedantic", "-Wconversion", "-Wshadow", "-Werror"]
-    done = subprocess.run(["cc", "-std=c11", *strict, "-fsyntax-only", "-I", reference_run.HEADERS,
-                           "-x", "c", "-"], input=blocks(text, "c")[0].encode(), check=False,
-                          stderr=subprocess.PIPE)
+    folders = ["-I", reference_run.HEADERS, "-I", os.path.join(reference_run.ROOT, "host")]
+    done = subprocess.run(["cc", "-std=c11", *strict, "-fsyntax-only", *folders, "-x", "c", "-"],
+                          input=blocks(text, "c")[0].encode(), check=False, stderr=subprocess.PIPE)
     tally.check(done.returncode == 0, done.stderr.decode("utf-8", "replace")[:600])
 
 

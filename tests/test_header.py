@@ -1,5 +1,6 @@
 """include/spirerook.h: clean for C11, C17 and C++17; its numbers, bounds, readers and makers;
-and its calls, which are those that the archive and the shared object export.
+and its calls, which are those that the archive and the shared object export. host/spirerook_colour.h:
+clean too, and colours on a screen as the reference of the viewer has them.
 
 The numbers and bounds due are held here, copied from the paper.
 """
@@ -13,10 +14,12 @@ import sys
 import counts
 import reference_run
 import sheet_random
+import view_reference
 from sheet_making import record
 from write_random import record_row
 
 HEADER = os.path.join(reference_run.HEADERS, "spirerook.h")
+FOLDERS = ["-I", reference_run.HEADERS, "-I", os.path.join(reference_run.ROOT, "host")]
 STRICT = ["-Wall", "-Wextra", "-Wpedantic", "-Wconversion", "-Wshadow", "-Werror"]
 COMPILERS = [("cc", "c", "c11"), ("cc", "c", "c17"), ("c++", "c++", "c++17"),
              ("clang", "c", "c11"), ("clang++", "c++", "c++17")]
@@ -32,7 +35,13 @@ FACTS = {1: ["field", "coded data"], 2: ["marker", "ident"], 3: ["length", "segm
          11: ["JPEG"], 12: ["zero", "end"], 13: ["buffer"], 14: ["sheet"],
          15: ["plane", "coded", "order", "samples"], 16: ["record", "mask"],
          17: ["stripe", "line", "layer"], 18: ["page", "16777215"]}
+# what a caller has to know of colours
+COLOURS = ["CIELAB", "T.42", "D50", "L x 100/255", "(a - 128) x 170/255", "(b - 96) x 200/255",
+           "White is 255 128 96, black 0 128 96", "Base colours", "samples of image layers",
+           "pixels of a line", "not YCbCr", "conversion of colours must be off",
+           "jpeg_color_space = jpeg.out_color_space = JCS_YCbCr", "spirerook_colour.h"]
 RECORDS = 300
+CODES = 4000         # random colours
 
 
 def has(command):
@@ -44,24 +53,25 @@ def compiled(tally, compiler, language, standard):
     """The program of tests/driver/header.c, or None."""
     program = os.path.join(reference_run.ROOT, "build", "header_%s_%s" % (compiler, standard))
     done = subprocess.run([compiler, "-std=" + standard, *STRICT, "-O2", "-x", language,
-                           "-I", reference_run.HEADERS, os.path.join(reference_run.DRIVER, "header.c"),
-                           "-o", program], check=False, stderr=subprocess.PIPE)
+                           *FOLDERS, os.path.join(reference_run.DRIVER, "header.c"),
+                           "-o", program, "-lm"], check=False, stderr=subprocess.PIPE)
     tally.check(done.returncode == 0 and not done.stderr, "%s -std=%s: %s" % (
         compiler, standard, done.stderr.decode("utf-8", "replace")[:600]))
     return program if done.returncode == 0 else None
 
 
 def check_alone(tally):
-    """The header asks for nothing before it, twice is once, and nothing of it is unused."""
+    """Each header asks for nothing before it, twice is once, and nothing of it is unused."""
     for compiler, language, standard in COMPILERS:
-        if not has(compiler):
-            continue
-        done = subprocess.run(
-            [compiler, "-std=" + standard, *STRICT, "-fsyntax-only", "-I", reference_run.HEADERS,
-             "-x", language, "-"], input=b'#include "spirerook.h"\n#include "spirerook.h"\n'
-            b"extern int only;\n", check=False, stderr=subprocess.PIPE)
-        tally.check(done.returncode == 0 and not done.stderr,
-                    "%s -std=%s, the header alone: %s" % (compiler, standard, done.stderr[:600]))
+        for name in (b"spirerook.h", b"spirerook_colour.h"):
+            if not has(compiler):
+                continue
+            done = subprocess.run(
+                [compiler, "-std=" + standard, *STRICT, "-fsyntax-only", *FOLDERS, "-x", language,
+                 "-"], input=b'#include "%s"\n' % name * 2 + b"extern int only;\n", check=False,
+                stderr=subprocess.PIPE)
+            tally.check(done.returncode == 0 and not done.stderr, "%s -std=%s, %s alone: %s"
+                        % (compiler, standard, name, done.stderr[:600]))
 
 
 def check_numbers(tally, program):
@@ -118,6 +128,33 @@ def check_planes(tally, program):
     tally.check(lines == due, "plane entries %s, not %s" % (lines, due))
 
 
+def check_colours(tally, program, rng):
+    """All greys and random codes come out as the octets of the definitions, at most a step away
+    where digits of the matrix tell: of all 2^24 codes, 114104 are not the nearest, none by 0.95."""
+    greys = [(lightness, 128, 96) for lightness in range(256)]
+    codes = greys + [tuple(rng.randbytes(3)) for _ in range(CODES)]
+    lines = reference_run.run(program, b"".join(map(bytes, codes)), "colours")[0].splitlines()
+    tally.check(len(lines) == len(codes), "%d lines of colours" % len(lines))
+    tally.check((lines[0], lines[255]) == ("000000", "ffffff"), "black is %s, white %s"
+                % (lines[0], lines[255]))
+    nearest = 0
+    for lab, line in zip(codes, lines):
+        due = view_reference.screen_exactly(lab)
+        far = max(abs(a - b) for a, b in zip(due, bytes.fromhex(line)))
+        nearest += far <= 0.5
+        tally.check(far < (0.505 if lab in greys else 0.95),
+                    "codes %s are %s on a screen, not %s" % (lab, line, due))
+    tally.check(nearest > 0.98 * len(codes), "%d of %d are the nearest" % (nearest, len(codes)))
+
+
+def check_colour_words(tally, text):
+    """The header tells what a colour is, and what a decoder must not do with it."""
+    section = re.search(r"/\* ---- Colours ---- \*/(.*?)/\* ---- ", text, re.S)
+    told = " ".join(re.sub(r"^ \* *", "", section[1] if section else "", flags=re.M).split())
+    for words in COLOURS:
+        tally.check(words in told, "the header's colours tell nothing of '%s'" % words)
+
+
 def declared():
     """(name, the comment before it) of each function that the header only declares."""
     with open(HEADER, encoding="ascii") as file:
@@ -167,8 +204,10 @@ def main():
             check_bounds(tally, program)
             check_records(tally, program, random.Random(seed))
             check_planes(tally, program)
+            check_colours(tally, program, random.Random(seed))
             check_misuse(tally, program)
     check_calls(tally)
+    check_colour_words(tally, declared()[1])
     return tally.end()
 
 

@@ -1,5 +1,5 @@
 """`make install` into an empty prefix: what stands there, a small C program that finds the library
-through pkg-config and links it both ways, and `make uninstall`.
+and both headers through pkg-config and links it both ways, and `make uninstall`.
 
 The program is compiled and run with nothing of this repository in its paths.
 """
@@ -15,18 +15,21 @@ import reference_run
 from page_making import MASK, start, stripe
 
 PROGRAM = r"""#include <spirerook.h>
+#include <spirerook_colour.h>
 #include <stdio.h>
 int main(void)
 {
-    static uint8_t page[1000], sheet[SPIREROOK_PAGE_SHEET_OCTETS];
+    static uint8_t page[1000], sheet[SPIREROOK_PAGE_SHEET_OCTETS], red[3] = {138, 221, 178};
     size_t octets = fread(page, 1, sizeof page, stdin);
     spirerook_answer answer = spirerook_read(page, octets, sheet, sizeof sheet);
     printf("%s at %u, %u records\n", spirerook_name(answer.number), (unsigned)answer.place, (unsigned)answer.count);
+    spirerook_lab_to_srgb(red, red);
+    printf("%d %d %d\n", red[0], red[1], red[2]);
     return answer.number != SPIREROOK_DONE;
 }
 """
 PAGE = start() + stripe() + MASK + b"\xff\xd9\xff\xd9"
-FILES = ["include/spirerook.h", "lib/libspirerook.a", "lib/libspirerook.so",
+FILES = ["include/spirerook.h", "include/spirerook_colour.h", "lib/libspirerook.a", "lib/libspirerook.so",
          "lib/libspirerook.so.1", "lib/libspirerook.so.%s", "lib/pkgconfig/spirerook.pc"]
 
 
@@ -59,13 +62,13 @@ def check_program(tally, prefix, folder, how, flags):
     with open(source, "w", encoding="ascii") as file:
         file.write(PROGRAM)
     built = subprocess.run(["cc", "-std=c11", "-Wall", "-Wextra", "-Werror", source, "-o", program,
-                            *words, *flags], cwd=folder, check=False, stderr=subprocess.PIPE)
+                            *words, *flags, "-lm"], cwd=folder, check=False, stderr=subprocess.PIPE)
     tally.check(built.returncode == 0, "%s: %s" % (how, built.stderr.decode()[:500]))
     if built.returncode != 0:
         return
     paths = {"LD_LIBRARY_PATH": os.path.join(prefix, "lib")} if how == "shared" else {}
-    for page, due in ((PAGE, (0, b"Done at 0, 3 records\n")),
-                      (PAGE[:-1], (1, b"Short at %d, 0 records\n" % (len(PAGE) - 2)))):
+    for page, due in ((PAGE, (0, b"Done at 0, 3 records\n231 69 8\n")),
+                      (PAGE[:-1], (1, b"Short at %d, 0 records\n231 69 8\n" % (len(PAGE) - 2)))):
         ran = subprocess.run([program], input=page, env=paths, check=False, stdout=subprocess.PIPE)
         tally.check((ran.returncode, ran.stdout) == due, "%s: %s" % (how, ran))
     needed = subprocess.run(["readelf", "-d", program], check=True,

@@ -185,13 +185,14 @@ class Difference:
         self.shown_unseen += unseen
 
     def is_a_step(self, due, shown):
-        """Rounding near a half, where digits of the constants may tell, most for light near 0; or one
-        of the two colours kept free, for which the manual does not say what is darkened."""
+        """Rounding near a half, where digits of the constants may tell, most for light near 0 (of all
+        codes none by 0.95); or one of the two colours kept free, for which the manual does not say
+        what is darkened."""
         exact = screen_exactly(due)
         rounded = tuple(int(part + 0.5) for part in exact)
         if rounded in (MAGENTA, GREEN):
             return shown != rounded and all(0 <= r - s <= 1 for r, s in zip(rounded, shown))
-        near = all(abs(part - s) < 0.75 for part, s in zip(exact, shown))
+        near = all(abs(part - s) < 0.95 for part, s in zip(exact, shown))
         if near:
             self.steps.add(due)
         return near and shown not in (MAGENTA, GREEN)

@@ -2,7 +2,7 @@
 
 #include <string.h>
 
-#include "colour.h"
+#include "spirerook_colour.h"
 
 /* Green squares on magenta: neither is a colour that a seen pixel ever has (see below), so not one
  * pixel of the pattern can be taken for ink.  Green has a quarter of the area: half of each would
@@ -17,7 +17,7 @@ static const uint8_t *pattern_at(size_t x, uint32_t y)
 /* A seen colour that would come out as one of the pattern's is shown a step darker. */
 static void shown_colour(const uint8_t *lab, uint8_t *srgb)
 {
-    srgb_of_lab(lab, srgb);
+    spirerook_lab_to_srgb(lab, srgb);
     if (memcmp(srgb, magenta, 3) == 0) {
         srgb[0] = 254;
     } else if (memcmp(srgb, green, 3) == 0) {

@@ -1,5 +1,5 @@
-/* What include/spirerook.h says and its inline functions do; C11 and C++17 both
- * compile it.
+/* What include/spirerook.h says, and what its inline functions and that of
+ * host/spirerook_colour.h do; C11 and C++17 both compile it.
  *
  *   header numbers   a line a number from 0 to 20: number, name, text
  *   header bounds    a line a constant: its value and its name
@@ -7,8 +7,11 @@
  *                    fields each, as "A listing" has them, then whether it is
  *                    coded and a mask, and the octets of its samples; the same
  *                    record made again of its fields follows in hexadecimal
- *   header planes    lines of a layer and a start: the entry in hexadecimal */
+ *   header planes    lines of a layer and a start: the entry in hexadecimal
+ *   header colours   three octets a colour from standard input: its sRGB in
+ *                    hexadecimal */
 #include "spirerook.h"
+#include "spirerook_colour.h"
 
 #include <stddef.h>
 #include <stdio.h>
@@ -128,6 +131,15 @@ static void print_planes(void)
     }
 }
 
+static void print_colours(void)
+{
+    uint8_t lab[3], srgb[3];
+    while (fread(lab, sizeof lab, 1, stdin) == 1) {
+        spirerook_lab_to_srgb(lab, srgb);
+        print_octets(srgb, sizeof srgb);
+    }
+}
+
 int main(int arguments, char **words)
 {
     const char *what = arguments == 2 ? words[1] : "";
@@ -139,8 +151,10 @@ int main(int arguments, char **words)
         print_records();
     } else if (strcmp(what, "planes") == 0) {
         print_planes();
+    } else if (strcmp(what, "colours") == 0) {
+        print_colours();
     } else {
-        fputs("use: header numbers | bounds | records | planes\n", stderr);
+        fputs("use: header numbers | bounds | records | planes | colours\n", stderr);
         return 1;
     }
     return 0;
