@@ -102,12 +102,14 @@ PLANS = [
 ]
 # (plan, words of the refusal)
 REFUSED = [
-    (HEAD, "BadSheet (14) at record 2 (stripe 0, layer 3): the sheet breaks one of its rules; "
-     "see line 3"),
+    (HEAD, "BadSheet (14) at record 2 (stripe 0, layer 3): the sheet breaks one of its rules: "
+     "at least one of layers 1 to 3 must be coded (docs/FIELDS.md, section 7); see line 3"),
     (HEAD + "foreground i.ppm\nbackground i.ppm\n", "BadSheet (14) at record 2 (stripe 0, layer 3): "
-     "the sheet breaks one of its rules; see line 5"),
+     "the sheet breaks one of its rules: layers 1 and 3 must not both be coded without layer 2 "
+     "(docs/FIELDS.md, section 7); see line 5"),
     (HEAD + "background i.ppm\nstripe\nheight 65535\nbackground i.ppm\n",
-     "BadSheet (14) at record 4 (stripe 1, layer 2): the sheet breaks one of its rules; see line 7"),
+     "BadSheet (14) at record 4 (stripe 1, layer 2): the sheet breaks one of its rules: the heights "
+     "of all stripes must sum to 65535 at most (docs/FIELDS.md, section 7); see line 7"),
     ("resolution 400\ncoder mh\n" + "stripe\nmask noise.pbm\n" * 2,
      "TooLong (18): a page has at most 16777215 octets; this one would have "),
 ]

@@ -1,8 +1,12 @@
 #include "sheets.h"
 
+#include <stdio.h>
 #include <string.h>
 
+#include "sheet_words.h"
+
 enum { PAGE_LAYERS = 3, PAGE_ENDS = 26, STRIPE_HEAD = 39, START_AT = 18, START_END = 22 };
+enum { WORDS_ROOM = 256 };
 
 typedef struct {
     const uint8_t *octets;
@@ -18,22 +22,34 @@ static unsigned line_of(const plan *from, unsigned stripe, unsigned layer)
     return line != 0 ? line : layer == 2 && in->height_line != 0 ? in->height_line : in->line;
 }
 
+/* What a refusal tells, and of a bad sheet the rule. */
+static void put_words(char *words, size_t room, lent_sheet sheet, uint32_t number, uint32_t place)
+{
+    if (number == SPIREROOK_BAD_SHEET) {
+        snprintf(words, room, "%s: %s (%s)", spirerook_text(number),
+                 broken_rule(sheet.octets, sheet.length, place), SHEET_RULES);
+    } else {
+        snprintf(words, room, "%s", spirerook_text(number));
+    }
+}
+
 /* A refusal whose place is a record of the sheet. */
 static bool refused_at(const plan *from, lent_sheet sheet, uint32_t number, uint32_t place,
                        trouble *what)
 {
+    char words[WORDS_ROOM];
+    put_words(words, sizeof words, sheet, number, place);
     if (place >= sheet.length / SPIREROOK_RECORD_OCTETS) {
         return tell_at(what, from->file, 0, "refused: %s (%u) at record %u: %s",
-                       spirerook_name(number), (unsigned)number, (unsigned)place,
-                       spirerook_text(number));
+                       spirerook_name(number), (unsigned)number, (unsigned)place, words);
     }
     const uint8_t *record = spirerook_record_at(sheet.octets, place);
     unsigned stripe = (unsigned)spirerook_record_stripe(record),
              layer = (unsigned)spirerook_record_layer(record);
     return tell_at(what, from->file, 0,
                    "refused: %s (%u) at record %u (stripe %u, layer %u): %s; see line %u",
-                   spirerook_name(number), (unsigned)number, (unsigned)place, stripe, layer,
-                   spirerook_text(number), line_of(from, stripe, layer));
+                   spirerook_name(number), (unsigned)number, (unsigned)place, stripe, layer, words,
+                   line_of(from, stripe, layer));
 }
 
 static bool refused(const plan *from, lent_sheet sheet, spirerook_answer answer, uint64_t octets,

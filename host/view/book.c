@@ -4,12 +4,21 @@
 #include <string.h>
 
 #include "lines.h"
+#include "sheet_words.h"
 
-static int refused(const book *opened, const char *name, spirerook_answer answer, const char *unit)
+static int refused_page(const options *asked, spirerook_answer answer)
 {
-    complain("%s: refused: %s (%u) at %s %u: %s%s", name, spirerook_name(answer.number),
-             (unsigned)answer.number, unit, (unsigned)answer.place, spirerook_text(answer.number),
-             way_out(&opened->source));
+    complain("%s: refused: %s (%u) at octet %u: %s", asked->page, spirerook_name(answer.number),
+             (unsigned)answer.number, (unsigned)answer.place, spirerook_text(answer.number));
+    return STATUS_REFUSED;
+}
+
+static int refused_sheet(const book *opened, const whole_file *sheet, uint32_t place)
+{
+    complain("%s: refused: %s (%d) at record %u: %s: %s (%s)%s", opened->source.sheet,
+             spirerook_name(SPIREROOK_BAD_SHEET), SPIREROOK_BAD_SHEET, (unsigned)place,
+             spirerook_text(SPIREROOK_BAD_SHEET), broken_rule(sheet->octets, sheet->length, place),
+             SHEET_RULES, way_out(&opened->source));
     return STATUS_REFUSED;
 }
 
@@ -29,8 +38,7 @@ static int read_page(const options *asked, book *opened)
     spirerook_answer read = spirerook_read(opened->page.octets, opened->page.length, opened->sheet,
                                            sizeof opened->sheet);
     opened->sheet_octets = (size_t)read.count * SPIREROOK_RECORD_OCTETS;
-    return read.number == SPIREROOK_DONE ? STATUS_WHOLE
-                                         : refused(opened, asked->page, read, "octet");
+    return read.number == SPIREROOK_DONE ? STATUS_WHOLE : refused_page(asked, read);
 }
 
 /* Record `at` of a pencil sheet cannot stand over this page. */
@@ -77,9 +85,8 @@ static int judge_sheet(const options *asked, const whole_file *sheet, book *open
         return status;
     }
     spirerook_answer judged = spirerook_judge(sheet->octets, sheet->length);
-    return judged.number == SPIREROOK_BAD_SHEET
-               ? refused(opened, opened->source.sheet, judged, "record")
-               : own_layers(sheet, opened);
+    return judged.number == SPIREROOK_BAD_SHEET ? refused_sheet(opened, sheet, judged.place)
+                                                : own_layers(sheet, opened);
 }
 
 /* The judge looks at no more octets than this, one record over the most that a sheet has. */
