@@ -1,8 +1,8 @@
 """spirerook-make: what it codes is decoded by outside programs, its pages and sheets are read by the
 reference, and each mistake has its message and status.
 
-make_kit.py has the pictures and decoders, make_kinds.py the kinds of files, make_mistakes.py the
-mistakes and the damaged files.
+make_kit.py has the pictures and decoders, make_kinds.py the kinds of files, make_notes.py what is
+noted, make_mistakes.py the mistakes and the damaged files.
 SEED makes a run again.
 """
 
@@ -16,6 +16,7 @@ import tempfile
 
 import make_kit
 import make_mistakes
+import make_notes
 import reference_run
 from make_kinds import kinds
 from make_kit import CODERS, SHOWN, make, read, write
@@ -34,9 +35,9 @@ def listing(reader, page):
 
 
 def layer_sizes(told):
-    """(stripe, layer) to the octets that a run lists."""
+    """(stripe, layer) to the octets that a run lists, behind its notes."""
     sizes = {}
-    for line in told.splitlines()[:-1]:
+    for line in make_notes.notes_of(told)[1][:-1]:
         head, rest = line.split(": ", 1)
         stripe, layer = (int(part.split()[1]) for part in head.split(", "))
         sizes[stripe, layer] = 0 if rest == "not coded" else int(rest.split(", ")[-1].split()[0])
@@ -342,6 +343,7 @@ def main():
             check_kinds(tally, folder)
             check_stripes(tally, reader, folder)
             check_pencil(tally, folder, reader, finder)
+            make_notes.check_all(tally, folder, seed)
         make_mistakes.check_all(tally, random.Random(seed))
     return tally.end()
 

@@ -6,6 +6,7 @@
 #include "file.h"
 #include "layers.h"
 #include "lines.h"
+#include "notes.h"
 #include "outputs.h"
 #include "picture_in.h"
 #include "plan.h"
@@ -185,7 +186,7 @@ static void list_files(const output *outputs, unsigned count)
     say_line("%s", "");
 }
 
-/* The list of layers is printed when the files are whole but not yet in their places.  Where lines
+/* Notes and the list of layers are printed when the files are whole but not yet in their places.  Where lines
  * cannot go to standard output, the files are none the worse: they are kept, and the status tells. */
 static bool write_outputs(output *outputs, unsigned count, const plan *from,
                           const coded_layers *layers, trouble *what)
@@ -193,6 +194,7 @@ static bool write_outputs(output *outputs, unsigned count, const plan *from,
     if (!begin_outputs(outputs, count, what)) {
         return false;
     }
+    say_notes(from, layers);
     list_layers(from, layers);
     if (!keep_outputs(outputs, count, what)) {
         return false;

@@ -16,6 +16,8 @@ typedef struct {
     uint32_t coder; /* of a mask */
     uint32_t resolution, x, y;
     uint8_t base[3];
+    bool is_srgb; /* the plan gives the base colour in sRGB, and this is it */
+    uint8_t srgb[3];
     int quality;
     bool progressive, half;
 } plan_layer;

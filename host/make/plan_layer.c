@@ -2,6 +2,7 @@
 #include <stdlib.h>
 #include <string.h>
 
+#include "colour.h"
 #include "plan.h"
 
 enum { RESOLUTION = 1, AT = 2, COLOUR = 4, QUALITY = 8, PROGRESSIVE = 16, HALF = 32, CODER = 64 };
@@ -39,6 +40,13 @@ static bool take_quality(plan_line *line, int *quality)
     return true;
 }
 
+static bool take_base(plan_line *line, plan_layer *layer)
+{
+    layer->is_srgb = take_srgb(line, layer->srgb);
+    lab_of_srgb(layer->srgb, layer->base);
+    return layer->is_srgb;
+}
+
 static bool take_option(plan_line *line, const char *name, int option, plan_layer *layer)
 {
     switch (option) {
@@ -47,8 +55,7 @@ static bool take_option(plan_line *line, const char *name, int option, plan_laye
         return take_number(line, "at", 0, MOST_OFFSET, &layer->x) &&
                take_number(line, "at", 0, MOST_OFFSET, &layer->y);
     case COLOUR:
-        return strcmp(name, "lab") == 0 ? take_lab(line, layer->base)
-                                        : take_srgb(line, layer->base);
+        return strcmp(name, "lab") == 0 ? take_lab(line, layer->base) : take_base(line, layer);
     case QUALITY: return take_quality(line, &layer->quality);
     case PROGRESSIVE: return layer->progressive = true;
     case HALF: return layer->half = true;
@@ -93,20 +100,6 @@ static bool take_options(plan_line *line, int allowed, plan_layer *layer)
     return true;
 }
 
-/* Names of pictures are seen from the plan's folder. */
-static char *path_of(const char *plan_file, const char *name)
-{
-    const char *slash = strrchr(plan_file, '/');
-    size_t folder = name[0] == '/' || slash == NULL ? 0 : (size_t)(slash - plan_file) + 1;
-    size_t length = strlen(name) + 1;
-    char *path = malloc(folder + length);
-    if (path != NULL) {
-        memcpy(path, plan_file, folder);
-        memcpy(path + folder, name, length);
-    }
-    return path;
-}
-
 static bool take_picture(const plan *made, plan_line *line, plan_layer *layer)
 {
     const plan_word *word = next_word(line);
@@ -120,7 +113,7 @@ static bool take_picture(const plan *made, plan_line *line, plan_layer *layer)
         return wrong(line, "the file name has no letters");
     }
     layer->name = strdup(word->text);
-    layer->path = path_of(made->file, word->text);
+    layer->path = beside(made->file, word->text); /* the plan's folder counts */
     return (layer->name != NULL && layer->path != NULL) ||
            wrong(line, "there is not enough memory");
 }

@@ -5,7 +5,6 @@
 #include <string.h>
 
 #include "coders.h"
-#include "colour.h"
 
 static bool is_blank(char octet)
 {
@@ -155,22 +154,17 @@ static int digit_of(char octet)
     return value > 15 ? value - 6 : value;
 }
 
-bool take_srgb(plan_line *line, uint8_t base[3])
+bool take_srgb(plan_line *line, uint8_t srgb[3])
 {
     const plan_word *word = next_word(line);
-    uint8_t srgb[3] = {0, 0, 0};
     bool known = word != NULL && strlen(word->text) == 6;
     for (size_t k = 0; known && k < 6; k++) {
         int digit = digit_of(word->text[k]);
         known = digit >= 0;
-        srgb[k / 2] = (uint8_t)(srgb[k / 2] * 16 + digit);
+        srgb[k / 2] = (uint8_t)((k % 2 == 0 ? 0 : srgb[k / 2] * 16) + digit);
     }
-    if (!known) {
-        return wrong(line, "'base' needs a colour of six digits, RRGGBB%s%s",
-                     word == NULL ? "" : ", not ", word == NULL ? "" : word->text);
-    }
-    lab_of_srgb(srgb, base);
-    return true;
+    return known || wrong(line, "'base' needs a colour of six digits, RRGGBB%s%s",
+                          word == NULL ? "" : ", not ", word == NULL ? "" : word->text);
 }
 
 bool take_lab(plan_line *line, uint8_t base[3])

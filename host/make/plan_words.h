@@ -41,8 +41,8 @@ bool take_number(plan_line *line, const char *key, uint32_t least, uint32_t most
 bool take_resolution(plan_line *line, uint32_t *resolution);
 bool take_coder(plan_line *line, uint32_t *coder);
 
-/* The codes of a base colour, from sRGB in six digits or from three numbers. */
-bool take_srgb(plan_line *line, uint8_t base[3]);
+/* A base colour: sRGB in six digits, or its codes in three numbers. */
+bool take_srgb(plan_line *line, uint8_t srgb[3]);
 bool take_lab(plan_line *line, uint8_t base[3]);
 
 #endif
