@@ -119,7 +119,7 @@ def check_both(tally, folder):
     with open("/dev/full", "wb") as full:
         os.remove(os.path.join(folder, "p.page"))
         status, _, wrong = make(folder, plan, stdout=full)
-    tally.check(status == 1 and wrong.splitlines()[:2] == due and not os.path.exists(
+    tally.check(status == 1 and wrong.splitlines()[:2] == due and os.path.exists(
         os.path.join(folder, "p.page")), "notes to a full standard output: %d, %s" % (status, wrong))
 
 

@@ -224,7 +224,7 @@ def check_viewer(tally, folder):
             ("cut 0", 0, "a sheet must not be empty")):
         view_making.write(os.path.join(folder, "s"), bytes(
             sheet_making.changed(bytearray(good), name)))
-        ran = subprocess.run([view_making.VIEW, "p.page", "--pencil", "s", "f"], cwd=folder,
+        ran = subprocess.run([view_making.VIEW, "p.page", "--pencil", "s", "f", "--no-digests"], cwd=folder,
                              check=False, stdout=subprocess.PIPE, stderr=subprocess.PIPE)
         due = "s: refused: BadSheet (14) at record %d: the sheet breaks one of its rules: %s%s\n" % (
             place, words, END)

@@ -3,6 +3,7 @@
 #include <string.h>
 
 #include "colour.h"
+#include "names.h"
 #include "plan.h"
 
 enum { RESOLUTION = 1, AT = 2, COLOUR = 4, QUALITY = 8, PROGRESSIVE = 16, HALF = 32, CODER = 64 };
