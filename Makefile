@@ -1,4 +1,4 @@
-.PHONY: all test demo pictures view-objects bench faults fuzz install install-programs uninstall clean
+.PHONY: all test demo pictures view-objects bench faults fuzz codecs install install-programs uninstall clean
 .NOTPARALLEL:
 
 # the header has the version, since C programs can ask for it there; names of shared objects and pkg-config repeat it
@@ -54,6 +54,13 @@ fuzz: export SPIREROOK_TRIALS ?= 5
 fuzz: build/libspirerook.a build/spirerook-view build/spirerook-make
 	@python3 tests/fuzz.py
 	@for t in $(RANDOM_TESTS); do echo "tests/test_$$t.py"; python3 tests/test_$$t.py || exit 1; done
+
+# the coders from Debian's source with sanitizers, in the folder CODECS, and damage under programs with these; what is found is kept in CODECS/found
+CODECS = $(or $(TMPDIR),/tmp)/spirerook-codecs
+codecs: export SPIREROOK_TRIALS ?= 20
+codecs: build/libspirerook.a build/spirerook-view build/spirerook-make
+	@bash tools/sanitized-codecs "$(CODECS)"
+	@for t in view_damage make; do echo "tests/test_$$t.py"; SPIREROOK_CODECS="$(CODECS)" KEEP="$(CODECS)/found" python3 tests/test_$$t.py || exit 1; done
 
 bench:
 	@bash bench/run

@@ -7,6 +7,7 @@ import resource
 import subprocess
 import tempfile
 
+import codecs_built
 import make_kit
 import reference_run
 from make_kit import make, png, read, run, write
@@ -308,6 +309,7 @@ def check_outputs(tally, folder):
 DAMAGED = reference_run.trials(80)
 SAFE = ["-fsanitize=address,undefined", "-fno-sanitize-recover=all", "-g", "-O1"]
 REPORT = 99
+LIBRARIES = ("-ltiff", "-ljbig", "-ljpeg", "-lnettle", "-lpng", "-lz", "-lm")
 
 
 def sanitized(tally):
@@ -315,9 +317,11 @@ def sanitized(tally):
     program = os.path.join(reference_run.ROOT, "build", "make_sanitized")
     host = os.path.join(reference_run.ROOT, "host")
     files = sorted(glob.glob(os.path.join(host, "*.c")) + glob.glob(os.path.join(host, "make", "*.c")))
-    done = subprocess.run(["cc", "-std=c11", "-D_GNU_SOURCE", *SAFE, "-I", reference_run.HEADERS,
-                           "-I", host, *files, reference_run.archive(), "-o", program, "-ltiff", "-ljbig",
-                           "-ljpeg", "-lnettle", "-lpng", "-lm"], check=False, stderr=subprocess.PIPE)
+    codecs_built.check(tally, ("tiff", "jbig", "jpeg", "png"))
+    done = subprocess.run(["cc", "-std=c11", "-D_GNU_SOURCE", *SAFE, *codecs_built.flags(), "-I",
+                           reference_run.HEADERS, "-I", host, *files, reference_run.archive(), "-o",
+                           program, *codecs_built.libraries(LIBRARIES)], check=False,
+                          stderr=subprocess.PIPE)
     tally.check(done.returncode == 0, "the sanitizers: %s" % done.stderr.decode()[-500:])
     return program if done.returncode == 0 else None
 
@@ -388,6 +392,8 @@ def check_damage(tally, folder, rng):
         good = status == 0 and wrong == "" or status in (1, 2) and is_message(wrong) and told == ""
         tally.check(good and (k % 20 or status == 0), "damage %d: status %d, %s" % (
             k, status, wrong[:2000]))
+        if not good:
+            codecs_built.keep("make-%d" % k, files, wrong)
         ends[status] = ends.get(status, 0) + 1
     tally.check(ends[0] >= DAMAGED // 10 and ends[1] >= DAMAGED // 3, "damage: ends %s" % ends)
     print("damaged files: %d made, %d refused" % (ends[0], DAMAGED - ends[0]))

@@ -1,7 +1,8 @@
 """Damaged layers and pages: nothing that is not read for certain is shown, nothing breaks the viewer.
 
 Cut layers, layers with one changed octet (the shares of docs/VIEWER.md, "Unnoticed damage"), cut
-pages; and damaged pages under a viewer with sanitizers. SEED repeats a run.
+pages; and damaged pages under a viewer with sanitizers. SEED repeats a run. With SPIREROOK_CODECS
+(tests/codecs_built.py) the decoders have sanitizers too, and only what these look at is tried.
 """
 
 import collections
@@ -13,6 +14,7 @@ import subprocess
 import sys
 import tempfile
 
+import codecs_built
 import page_making
 import reference_run
 import test_outside
@@ -39,15 +41,19 @@ OUTCOMES = ("unread", "refused", "the same", "unnoticed")
 class Place:
     """A folder of one process, and what is shown there."""
 
-    def __init__(self):
+    def __init__(self, **settings):
+        self.settings = settings
         self.kept = tempfile.TemporaryDirectory(prefix="damage.")
-        self.page, self.out = (os.path.join(self.kept.name, name) for name in ("d.page", "d.png"))
+        self.page, self.out = self.beside("d.page"), self.beside("d.png")
+
+    def beside(self, name):
+        return os.path.join(self.kept.name, name)
 
     def show(self, octets, *words, **settings):
         view_making.write(self.page, octets)
         if os.path.exists(self.out):
             os.remove(self.out)
-        return Shown([self.page, "-o", self.out, *words], self.out, **settings)
+        return Shown([self.page, "-o", self.out, *words], self.out, **{**self.settings, **settings})
 
     def masks(self, coder, layers, width, height):
         """What becomes of masks, up to 64 of them as the stripes of one page: rows, or None."""
@@ -205,8 +211,9 @@ def check_cut_pages(seed):
 def build_sanitized(folder):
     return view_making.build_viewer(
         os.path.join(folder, "sanitized-view"), ("-g", "-O1", "-fsanitize=address,undefined",
-        "-fno-sanitize-recover", *os.environ.get("CFLAGS", "").split(),
-        "-Wl,--wrap=setrlimit,--wrap=dup2"), reference_run.in_driver("no_limits.c"))
+        "-fno-sanitize-recover", *os.environ.get("CFLAGS", "").split(), *codecs_built.flags(),
+        "-Wl,--wrap=setrlimit,--wrap=dup2"), reference_run.in_driver("no_limits.c"),
+        codecs_built.libraries(view_making.LIBRARIES))
 
 
 NO_SANDBOX = ["--no-sandbox"]    # a sanitizer asks the system for more than a decoder may
@@ -280,33 +287,66 @@ def damaged_side(rng, number, page, octets, words):
     return rng.choice(([], ["--no-digests"]))
 
 
-def check_sanitized(program, seed, count):
-    rng, place, checks = random.Random(seed), Place(), []
-    pages, folder = list(whole_pages()), place.kept.name
-    settings = sanitizer_settings(folder)
-    for number in range(count):
-        words, page = [], rng.choice(pages)
-        if number % 25 == 0:
-            page, sheet, pencil = pencil_page(rng)
-        if number % 25 < 10:
-            words = ["--pencil", os.path.join(folder, "p.sheet"), os.path.join(folder, "p.pencil")]
-            view_making.write(words[1], damaged(rng, sheet) if number % 2 else sheet)
-            view_making.write(words[2], damaged(rng, pencil) if number % 3 else pencil)
-        is_good = words and number % 2
-        page = page if is_good else damaged(rng, page)
-        if words:
-            words += damaged_side(rng, number, place.page, page, words)
-        shown = place.show(page, *words, *NO_SANDBOX, view=program, env=settings)
-        good = (shown.status in (0, 1, 3) and not reports(folder)
-                and "runtime error" not in shown.wrong and shown.wrong.count("\n") <= 1
-                and "its decoder broke off" not in shown.told)
-        if not good and os.environ.get("KEEP"):
-            view_making.write(os.path.join(os.environ["KEEP"], "%d-%d.page" % (seed, number)), page)
-        checks.append((good, "damaged page %d of %d: status %s\n%s\n%s" % (
-            number, seed, shown.status, shown.wrong[:2000], reports(folder)[:3000])))
-        for name in os.listdir(folder):
+class Watched(Place):
+    """A folder where pages are shown by the sanitized viewer, and what it found is told and kept."""
+
+    def __init__(self, program, seed):
+        super().__init__()
+        self.settings = {"view": program, "env": sanitizer_settings(self.kept.name)}
+        self.seed, self.shown, self.files = seed, 0, {}
+
+    def show(self, octets, *words, **settings):
+        shown = super().show(octets, *words, *NO_SANDBOX, **settings)
+        self.shown += 1
+        self.files = {"page": octets, **{name.rpartition(".")[2]: view_making.read(name)
+                                         for name in words[1:3]}}
+        self.found = "" if (
+            shown.status in (0, 1, 3) and "runtime error" not in shown.wrong
+            and shown.wrong.count("\n") <= 1 and "its decoder broke off" not in shown.told
+        ) else "status %s\n%s\n%s" % (shown.status, shown.told, shown.wrong)
+        self.found += reports(self.kept.name)
+        if self.found:
+            codecs_built.keep("%d-%d" % (self.seed, self.shown), self.files, self.found)
+        for name in os.listdir(self.kept.name):
             if name.startswith("report"):
-                os.remove(os.path.join(folder, name))
+                os.remove(os.path.join(self.kept.name, name))
+        return shown
+
+    def check(self):
+        return not self.found, "damaged page %d of %d: %s" % (self.shown, self.seed, self.found[:5000])
+
+
+def check_sanitized(program, seed, count):
+    """Damaged pages; and pencils, damaged over a good page, since else they are never decoded."""
+    rng, place, checks = random.Random(seed), Watched(program, seed), []
+    pages = list(whole_pages())
+    for number in range(count):
+        if number % 25 == 0:
+            own, sheet, pencil = pencil_page(rng)
+        if number % 25 < 10:
+            words = ["--pencil", place.beside("p.sheet"), place.beside("p.pencil")]
+            view_making.write(words[1], damaged(rng, sheet) if number % 4 == 1 else sheet)
+            view_making.write(words[2], damaged(rng, pencil) if number % 3 else pencil)
+            page = damaged(rng, own) if number % 9 == 8 else own
+            place.show(page, *words, *damaged_side(rng, number, place.page, page, words))
+        else:
+            place.show(damaged(rng, rng.choice(pages)))
+        checks.append(place.check())
+    return checks
+
+
+def check_decoders(program, kind, seed, count):
+    """Damaged layers of a kind, masks 64 to a page: nearly all go through their decoder."""
+    rng, place, whole = random.Random(seed), Watched(program, seed), layer_of(kind)
+    checks, each = [], STRIPES if kind in MASKS else 1
+    checks.append((show_all(place, kind, [whole]) == ["the same"], "%s, whole, is not read" % kind))
+    for _ in range(0, count, each):
+        layers = [damaged(rng, whole) for _ in range(each)]
+        if kind in MASKS:
+            place.masks(MASKS[kind][0], layers, 208, 60)
+        else:
+            place.jpeg(layers[0], test_outside.stored()[JPEGS[kind]])
+        checks.append(place.check())
     return checks
 
 
@@ -315,18 +355,23 @@ def main():
     seed = view_making.seed_of_run()
     if not view_making.prepare(tally):
         return tally.end()
-    kinds = list(MASKS) + list(JPEGS)
+    kinds, counted = list(MASKS) + list(JPEGS), {}
+    codecs_built.check(tally, ("tiff", "jbig", "jpeg"))
     with tempfile.TemporaryDirectory() as folder, concurrent.futures.ProcessPoolExecutor(2) as pool:
         program = build_sanitized(folder)
         found = [pool.submit(check_sanitized, program, seed + n, DAMAGED // 4) for n in range(4)]
-        counted = {kind: pool.submit(shares, kind, seed, CHANGED) for kind in kinds}
-        found += [pool.submit(check_planted, program), pool.submit(check_cut_pages, seed),
-                  pool.submit(check_other_sizes)]
-        found += [pool.submit(check_cuts_of_layers, kind, seed) for kind in kinds]
+        found.append(pool.submit(check_planted, program))
+        if codecs_built.FOLDER:
+            found += [pool.submit(check_decoders, program, kind, seed, DAMAGED) for kind in kinds]
+        else:
+            counted = {kind: pool.submit(shares, kind, seed, CHANGED) for kind in kinds}
+            found += [pool.submit(check_cut_pages, seed), pool.submit(check_other_sizes)]
+            found += [pool.submit(check_cuts_of_layers, kind, seed) for kind in kinds]
         for one in found:
             for holds, told in one.result():
                 tally.check(holds, told)
-        check_shares(tally, {kind: one.result() for kind, one in counted.items()})
+        if counted:
+            check_shares(tally, {kind: one.result() for kind, one in counted.items()})
     return tally.end()
 
 

@@ -49,11 +49,11 @@ def sources_of_viewer():
             for name in objects if name.endswith(".o")]
 
 
-def build_viewer(program, flags, more=()):
-    """A viewer that is compiled otherwise, and with more files."""
+def build_viewer(program, flags, more=(), libraries=LIBRARIES):
+    """A viewer that is compiled otherwise, and with more files or other coders."""
     return compiling.link(program, [*sources_of_viewer(), *more, reference_run.archive()],
                           ("-std=c11", "-D_GNU_SOURCE", *flags),
-                          (reference_run.HEADERS, os.path.join(ROOT, "host")), LIBRARIES)
+                          (reference_run.HEADERS, os.path.join(ROOT, "host")), libraries)
 
 
 class Coders:
