@@ -203,17 +203,12 @@ def check_words(tally, program, rng):
     print("%d sheets, %d of the random ones refused; %d rules" % (len(sheets), refused, len(ALL)))
 
 
-def show_page(folder):
-    """A page of one mask, and its own sheet with a pencil pair."""
-    view_making.write(os.path.join(folder, "m.pbm"), make_kit.pbm(make_kit.strokes(40, 9)))
-    status, _, wrong = make_kit.make(folder, "resolution 400\nstripe\nmask m.pbm\npencil-mask m.pbm\n"
-                                     "pencil-image none\n", "--pencil", "s", "f")
-    return wrong if status else ""
-
-
 def check_viewer(tally, folder):
     """The viewer says the words of a pencil sheet, in its one line."""
-    tally.check(show_page(folder) == "", "no page is made: %s" % show_page(folder))
+    make_kit.write(os.path.join(folder, "m.pbm"), make_kit.pbm(make_kit.strokes(40, 9)))
+    status, _, wrong = make_kit.make(folder, "resolution 400\nstripe\nmask m.pbm\npencil-mask m.pbm\n"
+                                     "pencil-image none\n", "--pencil", "s", "f")
+    tally.check(status == 0, "no page is made: %s" % wrong)
     good = make_kit.read(os.path.join(folder, "s"))
     for name, place, words in (
             ("3.octet14=1", 3, "a mask's base colour must be 0 0 0"),
@@ -222,7 +217,7 @@ def check_viewer(tally, folder):
             ("cut 139", 4, "a sheet must end with a whole record of 28 octets"),
             ("cut 112", 4, "the last stripe must end with an odd layer, 3 or above"),
             ("cut 0", 0, "a sheet must not be empty")):
-        view_making.write(os.path.join(folder, "s"), bytes(
+        make_kit.write(os.path.join(folder, "s"), bytes(
             sheet_making.changed(bytearray(good), name)))
         ran = subprocess.run([view_making.VIEW, "p.page", "--pencil", "s", "f", "--no-digests"], cwd=folder,
                              check=False, stdout=subprocess.PIPE, stderr=subprocess.PIPE)
@@ -234,7 +229,7 @@ def check_viewer(tally, folder):
 
 def check_maker(tally, folder):
     """The page maker says them of the sheet that it makes of a plan."""
-    view_making.write(os.path.join(folder, "i.ppm"), make_kit.ppm(4, 4, lambda x, y: (1, 2, 3)))
+    make_kit.write(os.path.join(folder, "i.ppm"), make_kit.ppm(4, 4, lambda x, y: (1, 2, 3)))
     head = "resolution 400\nwidth 40\nstripe\nheight 9\n"
     for plan, place, words, line in (
             (head, "2 (stripe 0, layer 3)", "at least one of layers 1 to 3 must be coded", 3),
@@ -261,9 +256,10 @@ def main():
     seed = int(os.environ.get("SEED") or random.randrange(2 ** 32))
     print("SEED=%d" % seed)
     tally = reference_run.Tally()
-    if not os.path.exists(reference_run.archive()) or not os.path.exists(view_making.VIEW):
-        tally.check(False, "no build/libspirerook.a or no build/spirerook-view: make them first")
-        return tally.end()
+    for path in (reference_run.archive(), view_making.VIEW, make_kit.PROGRAM):
+        if not os.path.exists(path):
+            tally.check(False, "no %s: make it first" % path)
+            return tally.end()
     program = reference_run.build("sheet_words", flags=("-O2", "-I", HOST), parts=(
         "console.c", *reference_run.in_driver("lent.c", "words.c"),
         os.path.join(HOST, "sheet_words.c"), reference_run.archive()))
