@@ -19,6 +19,10 @@
  * another keeps its memory for a moment. */
 static const double seal_seconds = 1;
 
+#ifndef MFD_NOEXEC_SEAL
+#define MFD_NOEXEC_SEAL 8U /* no data is ever a program; some systems insist on it */
+#endif
+
 enum { SLICE = 20 }; /* milliseconds between two looks at the process */
 
 /* The pipe's content so far: a report is read into, and one octet more shows what is too long. */
@@ -118,7 +122,11 @@ static bool seal(int file)
 static int make_file(size_t octets)
 {
     signal(SIGXFSZ, SIG_IGN);
-    int file = memfd_create("samples", MFD_CLOEXEC | MFD_ALLOW_SEALING);
+    unsigned kind = MFD_CLOEXEC | MFD_ALLOW_SEALING;
+    int file = memfd_create("samples", kind | MFD_NOEXEC_SEAL);
+    if (file < 0 && errno == EINVAL) { /* a kernel before 6.3 */
+        file = memfd_create("samples", kind);
+    }
     if (file >= 0 && ftruncate(file, (off_t)octets) != 0) {
         int why = errno;
         close(file);

@@ -165,15 +165,10 @@ static uint8_t *shut_in(const apart_bounds *bounds, const apart_samples *samples
     if (own == NULL) {
         _exit(LEFT_NO_ROOM);
     }
-    if (prctl(PR_SET_NO_NEW_PRIVS, 1, 0, 0, 0) != 0 || prctl(PR_SET_DUMPABLE, 0) != 0) {
-        _exit(LEFT_NO_SANDBOX);
-    }
     bound_work(bounds);
-    if (!leave_only_pipe(pipe_end)) {
-        _exit(LEFT_NOT_SHUT_IN);
-    }
-    if (!bounds->no_sandbox && !close_off()) {
-        _exit(LEFT_NO_SANDBOX);
+    if (prctl(PR_SET_NO_NEW_PRIVS, 1, 0, 0, 0) != 0 || prctl(PR_SET_DUMPABLE, 0) != 0 ||
+        !leave_only_pipe(pipe_end) || (!bounds->no_sandbox && !close_off())) {
+        _exit(bounds->no_sandbox ? LEFT_NOT_SHUT_IN : LEFT_NO_SANDBOX);
     }
     return own;
 }
