@@ -7,6 +7,7 @@
 #include <unistd.h>
 
 #include "book.h"
+#include "choices.h"
 #include "clock.h"
 #include "colour_notes.h"
 #include "layers.h"
@@ -286,67 +287,6 @@ static int show(const options *asked, const book *opened, double began)
     }
     clear_away(&r);
     return status;
-}
-
-static int bad_choice(const char *option, size_t stripe, size_t layer, const char *what)
-{
-    char chosen[48];
-    int count = snprintf(chosen, sizeof chosen, "%zu", stripe);
-    if (layer != 0) {
-        snprintf(chosen + count, sizeof chosen - (size_t)count, ":%zu", layer);
-    }
-    complain("spirerook-view: %s %s: %s", option, chosen, what);
-    return STATUS_BAD_OPTION;
-}
-
-/* Whether the picture would be written over what is read, or over what is told. */
-static int check_place(const options *asked, const pencil_source *source)
-{
-    const char *inputs[] = {asked->page, source->sheet, source->file, source->side};
-    const char *what = standard_file(asked->out);
-    for (size_t k = 0; what == NULL && k < sizeof inputs / sizeof *inputs; k++) {
-        if (inputs[k] != NULL && same_file(asked->out, inputs[k])) {
-            what = "what is read";
-        }
-    }
-    if (what != NULL) {
-        complain("spirerook-view: -o %s: the picture would take the place of %s", asked->out, what);
-        return STATUS_BAD_OPTION;
-    }
-    return STATUS_WHOLE;
-}
-
-static int check_unread(const options *asked, const book *opened)
-{
-    for (size_t stripe = 0; stripe < SPIREROOK_STRIPES; stripe++) {
-        for (size_t layer = 1; layer <= SPIREROOK_LAYERS; layer++) {
-            if (!asked->unread[stripe][layer]) {
-                continue;
-            }
-            if (stripe >= opened->stripes) {
-                return bad_choice("--unread", stripe, layer, "the page has no such stripe");
-            }
-            if (layer > opened->first[stripe + 1] - opened->first[stripe]) {
-                return bad_choice("--unread", stripe, layer, "the stripe has no such layer");
-            }
-            if (!spirerook_record_coded(
-                    spirerook_record_at(opened->sheet, opened->first[stripe] + layer - 1))) {
-                return bad_choice("--unread", stripe, layer,
-                                  "the layer is not coded, so nothing of it is read");
-            }
-        }
-    }
-    return STATUS_WHOLE;
-}
-
-/* Options that name what the page does not have, or a place that is taken. */
-static int check_choices(const options *asked, const book *opened)
-{
-    if (asked->one_stripe && asked->stripe >= opened->stripes) {
-        return bad_choice("--stripe", asked->stripe, 0, "the page has no such stripe");
-    }
-    int status = asked->out == NULL ? STATUS_WHOLE : check_place(asked, &opened->source);
-    return status == STATUS_WHOLE ? check_unread(asked, opened) : status;
 }
 
 static void list(const options *asked, const book *opened)
