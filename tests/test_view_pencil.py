@@ -290,6 +290,66 @@ def check_page_names(tally, folder):
                "%s/show.sheet, %s/show.pencil" % (SIZE, real, real))
 
 
+def check_links(tally, folder):
+    """A page that is named by links, one behind the other, or by a descriptor: the sheet may stand beside
+    each of the names."""
+    for name in ("desk", "run", "store"):
+        os.mkdir(folder.path(name))
+    os.rename(folder.path("show.page"), folder.path("store/0412.page"))
+    os.symlink("../store/0412.page", folder.path("run/show.page"))
+    os.symlink("../run/show.page", folder.path("desk/today.page"))
+    ends = (".sheet", ".sheet.sha256", ".pencil")
+    for end in ends:
+        os.rename(folder.path("show" + end), folder.path("run/show" + end))
+    for name, seen in (("run/show.page", "run/"), ("desk/today.page", "desk/../run/")):
+        check_last(tally, folder.show(name), "%s: %s, all seen; pencil: %sshow.sheet, %sshow.pencil" % (
+            name, SIZE, seen, seen))
+    write(folder.path("store/0412.sheet"), b"")
+    check_refused(tally, folder.show("desk/today.page"), "desk/today.page: refused: both desk/../run/show.sheet "
+                  "and %s/store/0412.sheet stand beside it; --pencil SHEET FILE tells which, --no-pencil shows "
+                  "the page without them" % os.path.realpath(folder.name))
+    os.remove(folder.path("store/0412.sheet"))
+    check_lost_names(tally, folder, ends)
+
+
+def check_lost_names(tally, folder, ends):
+    """Links that lead to a name which is too long, is gone, or may not be looked at."""
+    names = [folder.path("run/show" + end) for end in (".page", *ends)]
+    deep = os.open(folder.name, os.O_PATH)
+    for _ in range(25):
+        os.mkdir("x" * 200, dir_fd=deep)
+        deep, above = os.open("x" * 200, os.O_PATH, dir_fd=deep), deep
+        os.close(above)
+    os.mkdir("in", dir_fd=deep)
+    for name in names:
+        to = os.open("in/" + os.path.basename(name), os.O_WRONLY | os.O_CREAT, dir_fd=deep)
+        os.write(to, read(name))
+        os.close(to)
+    os.symlink("in/show.page", "a.page", dir_fd=deep)
+    shown = Shown(["a.page"], preexec_fn=lambda: os.fchdir(deep))
+    check_last(tally, shown, "a.page: %s, all seen; pencil: in/show.sheet, in/show.pencil" % SIZE)
+    os.close(deep)
+    os.mkdir(folder.path("shut"))
+    for name in names:
+        shutil.copy(name, folder.path("shut"))
+    page = os.open(folder.path("shut/show.page"), os.O_RDONLY)
+    given = "/dev/fd/%d" % page
+    shutil.copy(names[0], folder.path("shut/new"))
+    os.replace(folder.path("shut/new"), folder.path("shut/show.page"))
+    shut = os.path.realpath(folder.path("shut"))
+    check_last(tally, folder.show(given, pass_fds=[page]), "%s: %s, all seen; pencil: %s/show.sheet, "
+               "%s/show.pencil" % (given, SIZE, shut, shut))
+    os.close(page)
+    if os.getuid() == 0:
+        page = os.open(folder.path("shut/show.page"), os.O_RDONLY)
+        os.chmod(shut, 0o700)
+        os.chmod(folder.name, 0o755)
+        view = shutil.copy(view_making.VIEW, folder.path("view"))
+        shown = folder.show("/dev/fd/%d" % page, view=view, pass_fds=[page], preexec_fn=lambda: os.setuid(65534))
+        tally.check(shown.status == 1 and not shown.told, "a sheet that may not be looked at: %s" % shown.told)
+        os.close(page)
+
+
 def check_bad_sheets(tally, folder):
     """Anything of the name counts: what cannot be read, and what is no sheet."""
     sheet, good = folder.path("show.sheet"), read(folder.path("show.sheet"))
@@ -416,7 +476,7 @@ def main():
         return tally.end()
     coders = Coders()
     for check in (check_other_page, check_changes, check_side, check_names, check_beside, check_page_names,
-                  check_bad_sheets, check_rights, check_last_lines, check_maker):
+                  check_links, check_bad_sheets, check_rights, check_last_lines, check_maker):
         failed = tally.failed
         check(tally, Folder(coders))
         print("%s: %s" % (check.__name__, "good" if tally.failed == failed else "FAILED"))

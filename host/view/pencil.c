@@ -1,9 +1,11 @@
 #include "pencil.h"
 
 #include <errno.h>
+#include <limits.h>
 #include <stdlib.h>
 #include <string.h>
 #include <sys/stat.h>
+#include <unistd.h>
 
 #include "lines.h"
 #include "names.h"
@@ -59,16 +61,45 @@ static bool look_beside(const char *page, pencil_source *source)
             add_beside(page, with_ending(page, (size_t)(dot - page), ending), source));
 }
 
-/* Where the page's name is a link, its sheet may stand where the page itself does. */
-static bool find_beside(const char *page, pencil_source *source)
+static bool is_link(const char *name)
 {
     struct stat there;
-    if (!look_beside(page, source)) {
-        return false;
+    return lstat(name, &there) == 0 && S_ISLNK(there.st_mode);
+}
+
+/* What a link names, as it is seen from here; the caller's to free.  NULL where there is not enough
+ * memory.  Of a file whose name is gone the system tells which it was, with a word behind it. */
+static char *linked_name(const char *link)
+{
+    static const char gone[] = " (deleted)";
+    char to[PATH_MAX + sizeof gone] = "";
+    struct stat there;
+    ssize_t count = readlink(link, to, sizeof to - 1);
+    size_t cut = strlen(to) > strlen(gone) ? strlen(to) - strlen(gone) : 0;
+    char *name = beside(link, count < 0 ? last_part(link) : to);
+    if (name != NULL && cut > 0 && strcmp(to + cut, gone) == 0 && lstat(name, &there) != 0) {
+        name[strlen(name) - strlen(gone)] = 0;
     }
-    char *real = lstat(page, &there) == 0 && S_ISLNK(there.st_mode) ? realpath(page, NULL) : NULL;
-    bool done = real == NULL || look_beside(real, source);
-    free(real);
+    char *real = name == NULL || is_link(name) ? NULL : realpath(name, NULL);
+    if (real != NULL) {
+        free(name);
+    }
+    return real != NULL ? real : name;
+}
+
+/* Where the page's name is a link, its sheet may stand beside what that names, which may be a link
+ * again, down to the page itself. */
+static bool find_beside(const char *page, pencil_source *source)
+{
+    char *name = strdup(page);
+    bool done = name != NULL && look_beside(name, source);
+    for (int links = 0; done && links < MOST_LINKS && is_link(name); links++) {
+        char *next = linked_name(name);
+        done = next != NULL && look_beside(next, source);
+        free(name);
+        name = next;
+    }
+    free(name);
     return done;
 }
 

@@ -7,8 +7,9 @@
 #include "file.h"
 #include "options.h"
 
-/* Beside a name two names of a sheet are looked for, and beside what the page's name links to. */
-enum { MOST_BESIDE = 4 };
+/* Beside a name two names of a sheet are looked for, and beside each that the page's name links to:
+ * the system follows no more links than this. */
+enum { MOST_LINKS = 40, MOST_BESIDE = 2 * (MOST_LINKS + 1) };
 
 typedef struct {
     char *sheet, *file, *side; /* names; null where there is no pencil, or none of its parts yet */
