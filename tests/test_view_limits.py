@@ -284,6 +284,19 @@ def check_time(tally, folder):
 
 # Places that cannot be written, signals
 
+def check_time_before(tally, folder):
+    """What a program took before it became the viewer, itself or by what it waited for, is not the
+    page's time."""
+    spend = "import time\nwhile time.process_time() < 5: pass\n"
+    wait = "import subprocess, sys\nsubprocess.run([sys.executable, '-c', %r])\n" % spend
+    become = "import os, sys\nos.execv(sys.argv[1], sys.argv[1:])"
+    for before in (spend, wait):
+        done = subprocess.run([sys.executable, "-c", before + become, VIEW, folder.page, "--seconds", "1"],
+                              check=False, stdout=subprocess.PIPE)
+        tally.check(done.returncode == 0 and b"UNREAD" not in done.stdout,
+                    "time before the start counts: %s" % done.stdout.decode())
+
+
 def check_full(tally, folder):
     """A picture that does not fit leaves what stood there before, and no part of itself."""
     for old in (None, b"an old picture"):
@@ -379,7 +392,7 @@ def main():
         return tally.end()
     for check in (check_options, check_list, check_files, check_pencil, check_memory,
                   check_address_space, check_scans, check_full, check_signals, check_outputs,
-                  check_largest, check_time):
+                  check_largest, check_time, check_time_before):
         began = time.monotonic()
         folder = Folder()
         check(tally, folder)

@@ -23,6 +23,7 @@ typedef struct {
     size_t from, to; /* stripes */
     uint32_t width, height;
     double began, told;
+    double used; /* seconds of the processor by then: a program that became this one took some */
     seconds decoders_left;
     double decoding, composing, colouring, writing; /* seconds spent so far */
     uint64_t unseen;
@@ -40,6 +41,7 @@ static bool set_up(run *r, const options *asked, const book *opened)
         .opened = opened,
         .to = opened->stripes,
         .began = seconds_now(),
+        .used = processor_seconds(),
         .decoders_left = {all_decoders * asked->seconds, all_decoders * asked->clock_seconds}};
     if (asked->one_stripe) {
         r->from = asked->stripe;
@@ -118,7 +120,7 @@ static bool compose_line(run *r, const stripe_layers *read, size_t stripe, uint3
 /* Until no more lines are composed. */
 static seconds seconds_left(const run *r)
 {
-    return (seconds){all_lines * r->asked->seconds - processor_seconds(),
+    return (seconds){all_lines * r->asked->seconds - (processor_seconds() - r->used),
                      all_lines * r->asked->clock_seconds - (seconds_now() - r->began)};
 }
 
@@ -184,11 +186,10 @@ static bool show_stripe(run *r, size_t stripe)
 static void tell_uncomposed(const run *r)
 {
     if (r->composed < r->y) {
-        say_line(
-            "%s: lines %u to %u were not composed within %.0f seconds of the processor, or %.0f "
-            "by the clock; unseen is shown",
-            r->asked->page, (unsigned)r->composed, (unsigned)(r->y - 1),
-            all_lines * r->asked->seconds, all_lines * r->asked->clock_seconds);
+        say_line("%s: lines %u to %u were not composed within %g seconds of the processor, or %g "
+                 "by the clock; unseen is shown",
+                 r->asked->page, (unsigned)r->composed, (unsigned)(r->y - 1),
+                 all_lines * r->asked->seconds, all_lines * r->asked->clock_seconds);
     }
 }
 
