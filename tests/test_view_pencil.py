@@ -403,7 +403,9 @@ def check_last_lines(tally, folder):
             ((), page + "all seen" + pencil, 0), (("-o", "out.png"), page + "all seen" + pencil, 0),
             (("--times",), page + "all seen" + pencil, 0),
             (("--times", "-o", "out.png"), page + "all seen" + pencil, 0),
-            (("--stripe", "0"), page + "all seen" + pencil, 0),
+            (("--stripe", "0"), "show.page: stripe 0 alone (--stripe): %s, all seen%s" % (SIZE, pencil), 0),
+            (("--stripe", "0", "--list"), "show.page: stripe 0 alone (--stripe): %s, not decoded (--list)%s"
+             % (SIZE, pencil), 0),
             (("--list",), page + "not decoded (--list)" + pencil, 0),
             (("--list", "--no-pencil"), page + "not decoded (--list); pencil left out (--no-pencil): "
              "show.sheet", 0),

@@ -193,11 +193,21 @@ static void tell_uncomposed(const run *r)
     }
 }
 
+/* The first words of the last line. */
+static void tell_sides(const options *asked, uint32_t width, uint32_t height)
+{
+    add_words("%s: ", asked->page);
+    if (asked->one_stripe) {
+        add_words("stripe %u alone (--stripe): ", (unsigned)asked->stripe);
+    }
+    add_words("%u by %u pixels, ", (unsigned)width, (unsigned)height);
+}
+
 /* The last line of all: what was shown, with which pencil. */
 static void tell_page(const run *r)
 {
     uint64_t pixels = (uint64_t)r->width * r->height;
-    add_words("%s: %u by %u pixels, ", r->asked->page, (unsigned)r->width, (unsigned)r->height);
+    tell_sides(r->asked, r->width, r->height);
     if (r->unseen == 0) {
         add_words("all seen");
     } else {
@@ -299,8 +309,8 @@ static void list(const options *asked, const book *opened)
             height += spirerook_record_height(mask_of_stripe(opened, stripe));
         }
     }
-    add_words("%s: %u by %u pixels, not decoded (--list)", asked->page,
-              (unsigned)spirerook_record_width(mask_of_stripe(opened, 0)), (unsigned)height);
+    tell_sides(asked, spirerook_record_width(mask_of_stripe(opened, 0)), height);
+    add_words("not decoded (--list)");
     tell_pencil(&opened->source);
 }
 
