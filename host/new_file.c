@@ -15,8 +15,22 @@
 /* What a signal has to take away, where it has a name; null while it is free. */
 static new_file *volatile being_written[MOST_NEW_FILES];
 
-static const int ending_signals[] = {SIGINT, SIGTERM, SIGHUP, SIGQUIT};
-enum { ENDING_SIGNALS = sizeof ending_signals / sizeof *ending_signals };
+/* Whether a signal ends a program that does not know it; SIGKILL ends any. */
+static bool is_ending(int number)
+{
+    switch (number) {
+    case SIGKILL:
+    case SIGSTOP:
+    case SIGTSTP:
+    case SIGTTIN:
+    case SIGTTOU:
+    case SIGCONT:
+    case SIGCHLD:
+    case SIGURG:
+    case SIGWINCH: return false;
+    default: return true;
+    }
+}
 
 static void take_away(int number)
 {
@@ -31,10 +45,11 @@ static void take_away(int number)
 
 static void watch_signals(void)
 {
-    for (int k = 0; k < ENDING_SIGNALS; k++) {
+    for (int number = 1; number < NSIG; number++) {
         struct sigaction now = {.sa_handler = take_away}, before;
-        if (sigaction(ending_signals[k], NULL, &before) == 0 && before.sa_handler == SIG_DFL) {
-            sigaction(ending_signals[k], &now, NULL);
+        if (is_ending(number) && sigaction(number, NULL, &before) == 0 &&
+            before.sa_handler == SIG_DFL) {
+            sigaction(number, &now, NULL);
         }
     }
 }
@@ -44,8 +59,10 @@ static void hold_signals(sigset_t *before)
 {
     sigset_t held;
     sigemptyset(&held);
-    for (int k = 0; k < ENDING_SIGNALS; k++) {
-        sigaddset(&held, ending_signals[k]);
+    for (int number = 1; number < NSIG; number++) {
+        if (is_ending(number)) {
+            sigaddset(&held, number);
+        }
     }
     sigprocmask(SIG_BLOCK, &held, before);
 }

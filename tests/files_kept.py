@@ -227,7 +227,7 @@ def check_signal_at_calls(tally, folder, shim):
     inner = folder.sub("signalled")
     due_new = folder.new
     for kind, system in SYSTEMS.items():
-        for number in (signal.SIGINT, signal.SIGQUIT, signal.SIGKILL):
+        for number in (signal.SIGINT, signal.SIGQUIT, signal.SIGALRM, signal.SIGXCPU, signal.SIGRTMAX, signal.SIGKILL):
             ended = 0
             for call, numbers, ran in each_call(folder, inner, shim, folder.making(), OUTPUTS, system,
                                                 SIGNAL=int(number)):
