@@ -44,13 +44,18 @@ static bool close_off(void)
         ALLOW(SYS_brk),
         ALLOW(SYS_munmap),
         ALLOW(SYS_mremap),
-        ALLOW(SYS_madvise),
         ALLOW(SYS_sysinfo),
         ALLOW(SYS_exit_group),
         /* write, to the pipe */
         IF(BPF_JEQ, SYS_write, 0, 4),
         LOAD(args[0]),
         IF(BPF_JEQ, PIPE, 0, 1),
+        END(ALLOW),
+        END(KILL_PROCESS),
+        /* madvise, but for what would take memory from the whole machine, as root may */
+        IF(BPF_JEQ, SYS_madvise, 0, 4),
+        LOAD(args[2]),
+        IF(BPF_JGE, MADV_HWPOISON, 1, 0),
         END(ALLOW),
         END(KILL_PROCESS),
         /* mmap, without PROT_EXEC */

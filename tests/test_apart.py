@@ -38,7 +38,7 @@ DEEDS = [("stray-below", BROKE_OFF, BROKE_OFF), ("stray-above", BROKE_OFF, BROKE
          ("spin", "its decoder took over 1 seconds of the processor", "its decoder took over 1 seconds of the processor")]
 OTHERS = ["write-file", "read-file", "socket", "unix-socket", "memory-file", "stop-viewer", "read-input", "speak",
           "shout", "dumpable", "program", "grandchild", "hold-viewer", "write-viewer", "code", "turn-to-code",
-          "limits", "32-bits", "x32"]
+          "poison", "offline", "limits", "32-bits", "x32"]
 
 
 class Desk:

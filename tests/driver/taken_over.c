@@ -79,10 +79,8 @@ static void stray(const char *where)
 
 static void make_call(long number)
 {
-    static const long allowed[] = {SYS_brk, SYS_munmap, SYS_mremap, SYS_madvise, SYS_sysinfo,
-                                   SYS_exit_group, SYS_write, SYS_mmap,
-                                   /* these end or stop it in any case, or never return */
-                                   SYS_exit, SYS_pause, SYS_rt_sigreturn, SYS_vfork, SYS_fork};
+    static const long allowed[] = {SYS_brk,     SYS_munmap,     SYS_mremap, SYS_madvise,
+                                   SYS_sysinfo, SYS_exit_group, SYS_write,  SYS_mmap};
     for (size_t k = 0; k < sizeof allowed / sizeof *allowed; k++) {
         if (number == allowed[k]) {
             raise(SIGSYS);
@@ -188,6 +186,17 @@ static void turn_to_code(void)
     mprotect(page, 4096, PROT_READ | PROT_EXEC);
 }
 
+/* Of no octets: where it is let through, nothing is harmed. */
+static void poison_memory(void)
+{
+    madvise(NULL, 0, MADV_HWPOISON);
+}
+
+static void offline_memory(void)
+{
+    madvise(NULL, 0, MADV_HWPOISON + 1);
+}
+
 static void raise_limits(void)
 {
     struct rlimit all = {RLIM_INFINITY, RLIM_INFINITY};
@@ -229,6 +238,8 @@ static const struct {
               {"write-viewer", write_viewer},
               {"code", make_code},
               {"turn-to-code", turn_to_code},
+              {"poison", poison_memory},
+              {"offline", offline_memory},
               {"limits", raise_limits},
               {"32-bits", call_as_32_bits},
               {"x32", call_as_x32}};
