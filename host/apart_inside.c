@@ -6,7 +6,6 @@
 #include <linux/seccomp.h>
 #include <math.h>
 #include <signal.h>
-#include <stdio.h>
 #include <string.h>
 #include <sys/mman.h>
 #include <sys/prctl.h>
@@ -84,18 +83,32 @@ static void lower(int resource, rlim_t bound)
     }
 }
 
-/* The address space of this process now, in octets; 0 where the system does not tell. */
+/* Whether one page more has room below a bound of the address space. */
+static bool has_room_below(rlim_t bound, const struct rlimit *now)
+{
+    struct rlimit tried = {bound, now->rlim_max};
+    size_t page = (size_t)sysconf(_SC_PAGESIZE);
+    void *more = setrlimit(RLIMIT_AS, &tried) != 0
+                     ? MAP_FAILED
+                     : mmap(NULL, page, PROT_NONE, MAP_PRIVATE | MAP_ANONYMOUS, -1, 0);
+    return more != MAP_FAILED && munmap(more, page) == 0;
+}
+
+/* The address space of this process now, in octets and to a page: found by trying bounds, since not
+ * every system shows /proc. */
 static rlim_t address_space(void)
 {
-    unsigned long pages = 0;
-    FILE *told = fopen("/proc/self/statm", "r");
-    if (told == NULL || fscanf(told, "%lu", &pages) != 1) {
-        pages = 0;
+    struct rlimit now;
+    rlim_t low = 0, high = (rlim_t)1 << 56, page = (rlim_t)sysconf(_SC_PAGESIZE);
+    if (getrlimit(RLIMIT_AS, &now) != 0) {
+        return 0;
     }
-    if (told != NULL) {
-        fclose(told);
+    high = now.rlim_max < high ? now.rlim_max : high;
+    while (high - low > page) {
+        rlim_t middle = low + (high - low) / 2;
+        *(has_room_below(middle, &now) ? &high : &low) = middle;
     }
-    return (rlim_t)pages * (rlim_t)sysconf(_SC_PAGESIZE);
+    return high;
 }
 
 /* The processor's time ends the process by a signal: to a microsecond, and again by the second. */
@@ -103,11 +116,8 @@ static void bound_work(const apart_bounds *bounds)
 {
     double whole = floor(bounds->seconds);
     struct itimerval alarm = {
-        .it_value = {(time_t)whole, (suseconds_t)((bounds->seconds - whole) * 1e6) + 1}};
-    rlim_t space = address_space();
-    if (space != 0) {
-        lower(RLIMIT_AS, space + (rlim_t)bounds->memory + MEMORY_BESIDE);
-    }
+        .it_value = {(time_t)whole, (suseconds_t)((bounds->seconds - whole) * 999999) + 1}};
+    lower(RLIMIT_AS, address_space() + (rlim_t)bounds->memory + MEMORY_BESIDE);
     lower(RLIMIT_CORE, 0);
     lower(RLIMIT_FSIZE, 0);
     lower(RLIMIT_NPROC, 0);

@@ -187,6 +187,20 @@ def check_little(tally, desk):
     tally.check(is_shown(desk, shown, None) is None, "SIGCHLD ignored: %s" % shown.told)
 
 
+def check_memory_bound(tally, desk):
+    """A decoder has --memory and a little more, also where there is no /proc that tells what it has."""
+    ways = [["env"]]
+    if os.getuid() == 0:
+        ways.append(["unshare", "-m", "sh", "-c", 'mount -t tmpfs none /proc && exec env "$@"', "sh"])
+    for way in ways:
+        for megabytes, is_read in ((32, True), (200, False)):
+            done = subprocess.run([*way, "LD_PRELOAD=" + desk.shim, "DEED=eat:%d" % megabytes, VIEW, *desk.words,
+                                   "--memory", "1M"], check=False, stdout=subprocess.PIPE, stderr=subprocess.PIPE)
+            told = re.search(r"layer 4: T.85, .*: (read|UNREAD: [^;]*)", done.stdout.decode())
+            tally.check(told and told[1] == ("read" if is_read else "UNREAD: " + BROKE_OFF),
+                        "%d MiB with %s: %s" % (megabytes, way[0], told and told[1] or done))
+
+
 # The process itself
 
 def mapped(pid):
@@ -326,7 +340,8 @@ def main():
     if not view_making.prepare(tally):
         return tally.end()
     desk = Desk()
-    for check in (check_deeds, check_calls, check_no_seccomp, check_little, check_process, check_load, check_maker):
+    for check in (check_deeds, check_calls, check_no_seccomp, check_little, check_memory_bound,
+                  check_process, check_load, check_maker):
         began = time.monotonic()
         check(tally, desk)
         print("%s: %.1f s" % (check.__name__, time.monotonic() - began))

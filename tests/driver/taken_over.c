@@ -7,6 +7,7 @@
  *   DEED=forge              reports to the pipe with octets 0 and ends with the right status
  *   DEED=flood              writes to the pipe for ever
  *   DEED=spin               never ends
+ *   DEED=eat:N              takes N MiB of memory, or ends
  *   DEED=calls:N            asks the system for call N, then N + 1 and so on, one in each process
  *   DEED=other:NAME         what needs arguments: see the table below
  *   DEED=keep               leaves a grandchild that holds all memory, and decodes on
@@ -291,6 +292,12 @@ static void do_deed(void)
         flood(0);
     } else if (strcmp(deed, "spin") == 0) {
         for (;;) {
+        }
+    } else if ((rest = behind(deed, "eat:")) != NULL) {
+        size_t octets = (size_t)atoi(rest) << 20;
+        if (mmap(NULL, octets, PROT_READ | PROT_WRITE, MAP_PRIVATE | MAP_ANONYMOUS, -1, 0) ==
+            MAP_FAILED) {
+            _exit(1);
         }
     } else if ((rest = behind(deed, "calls:")) != NULL) {
         make_call(atoi(rest) + (*count)++);
