@@ -57,6 +57,9 @@ FAULTS = [
     ("show.page --pencil a b --no-pencil", "--pencil a b: not together with --no-pencil"),
     ("--no-pencil --pencil a b show.page", "--pencil a b: not together with --no-pencil"),
     ("show.page --list -o x.png", "-o x.png: not together with --list, which writes no picture"),
+    ("show.page --pencil a b --pencil c d", "--pencil c d: given twice"),
+    ("show.page -o a.png -o b.png", "-o b.png: given twice"),
+    ("show.page --stripe 0 --stripe 0", "--stripe 0: given twice"),
     ("show.page --stripe", "--stripe: needs a number from 0 to 63"),
     *(("show.page --stripe " + word, "--stripe %s: not a number from 0 to 63" % word)
       for word in ("64", "x", "''", "-1", "0.5", "--list")),
@@ -84,7 +87,7 @@ def check_options(tally, folder):
         tally.check(shown.status == 2 and shown.wrong == "spirerook-view: %s\n" % due and not shown.told,
                     "%s: status %s, '%s', not '%s'" % (line, shown.status, shown.wrong, due))
     for line in ("--seconds 1", "--seconds 3600", "--seconds 5:5", "--seconds 3600:86400", "--no-sandbox",
-                 "--no-digests --no-pencil", "--memory 4G --stripe 0"):
+                 "--no-digests --no-pencil", "--memory 4G --stripe 0", "--no-pencil --no-pencil"):
         shown = folder.show("show.page", *line.split())
         tally.check(shown.status == 0 and not shown.wrong, "%s: %s" % (line, shown.wrong))
     told = folder.show("--help").told

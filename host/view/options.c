@@ -199,6 +199,15 @@ static int take_option(const option *one, const char **words, int left, options 
     return taken;
 }
 
+/* An option that would undo what it said before; of --unread each adds to the others. */
+static bool is_repeated(const option *one, uint32_t *seen)
+{
+    uint32_t bit = UINT32_C(1) << (one - known);
+    bool repeated = one->take != NULL && one->take != take_unread && (*seen & bit) != 0;
+    *seen |= bit;
+    return repeated;
+}
+
 static int take_page(const char *word, options *asked)
 {
     if (word[0] == '-' && word[1] != 0) {
@@ -238,6 +247,7 @@ options_answer read_options(int count, char **words, options *asked)
     *asked = (options){.memory = DEFAULT_MEMORY,
                        .seconds = DEFAULT_SECONDS,
                        .clock_seconds = DEFAULT_SECONDS * CLOCK_TIMES};
+    uint32_t seen = 0;
     for (int k = 1, taken = 0; k < count; k += taken) {
         const option *one = option_of(words[k]);
         if (strcmp(words[k], "--version") == 0) {
@@ -250,6 +260,9 @@ options_answer read_options(int count, char **words, options *asked)
         }
         taken = one == NULL ? take_page(words[k], asked)
                             : take_option(one, (const char **)words + k, count - k, asked);
+        if (taken != 0 && one != NULL && is_repeated(one, &seen)) {
+            taken = fault(one->name, (const char **)words + k + 1, one->values, "given twice");
+        }
         if (taken == 0) {
             return OPTIONS_BAD;
         }
