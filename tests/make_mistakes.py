@@ -119,6 +119,8 @@ OPTIONS = [
     ([], "no plan is named"), (["p.plan"], "no page is named: -o PAGE"),
     (["p.plan", "-o"], "'-o' needs the name"), (["-o", "x"], "no plan is named"),
     (["p.plan", "-o", "x", "-o", "y"], "'-o' is given twice"),
+    (["p.plan", "-o", ""], "'-o' has an empty name"), (["", "-o", "x"], "the plan has an empty name"),
+    (["p.plan", "-o", "x", "--pencil", "y", ""], "'--pencil' has an empty name"),
     (["p.plan", "q.plan", "-o", "x"], "'q.plan' is a second plan"),
     (["p.plan", "-o", "x", "--pen"], "unknown option '--pen'"),
     (["p.plan", "-o", "x", "-x"], "unknown option '-x'"),

@@ -76,7 +76,8 @@ static bool take_option(char ***words, options *given, trouble *what)
     if (!page) {
         given->pencil = *++*words;
     }
-    return true;
+    return (*(page ? given->page : given->sheet) != 0 && (page || *given->pencil != 0)) ||
+           bad_option(what, "'%s' has an empty name", word);
 }
 
 static bool take_options(char **words, options *given, trouble *what)
@@ -89,6 +90,8 @@ static bool take_options(char **words, options *given, trouble *what)
             if (!take_option(&words, given, what)) {
                 return false;
             }
+        } else if (**words == 0) {
+            return bad_option(what, "%s", "the plan has an empty name");
         } else if (given->plan != NULL) {
             return bad_option(what, "'%s' is a second plan", *words);
         } else {
