@@ -364,7 +364,8 @@ def check_bad_sheets(tally, folder):
                    "(--no-pencil): show.sheet" % SIZE)
         (os.rmdir if os.path.isdir(sheet) else os.remove)(sheet)
         write(sheet, good)
-    for octets, due in ((b"", "BadSheet (14) at record 0"), (good[:-1], "BadSheet (14) at record 4")):
+    for octets, due in ((b"", "BadSheet (14) at record 0"), (good[:-1], "BadSheet (14) at record 4"),
+                        (good * 400, "BadSheet (14) at record 5")):
         write(sheet, octets)
         folder.write_side("show")
         shown = folder.show("show.page")

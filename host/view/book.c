@@ -78,7 +78,8 @@ static int judge_sheet(const options *asked, const whole_file *sheet, book *open
     if (status == STATUS_WHOLE) {
         status = check_digest(asked, &opened->source, OF_PAGE, &opened->page);
     }
-    if (status == STATUS_WHOLE) {
+    /* one that is too long was not read to its end: the judge refuses it */
+    if (status == STATUS_WHOLE && sheet->length < sizeof opened->sheet) {
         status = check_digest(asked, &opened->source, OF_SHEET, sheet);
     }
     if (status != STATUS_WHOLE) {
