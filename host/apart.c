@@ -148,19 +148,21 @@ static void close_keeping_errno(int file)
 static apart_end work_in_process(apart_work *work, const void *about, const apart_bounds *bounds,
                                  apart_samples *samples, apart_report *report)
 {
-    int ends[2], status = 0;
+    int ends[2], status = 0, nowhere = open("/dev/null", O_RDWR | O_CLOEXEC);
     apart_letter due = {.token = {0}};
     apart_mail mail = {.length = 0};
-    if (getrandom(due.token, sizeof due.token, 0) != sizeof due.token ||
+    if (nowhere < 0 || getrandom(due.token, sizeof due.token, 0) != sizeof due.token ||
         pipe2(ends, O_CLOEXEC) != 0) {
+        close_keeping_errno(nowhere);
         return APART_NOT_STARTED;
     }
     signal(SIGCHLD, SIG_DFL); /* where it is ignored, nobody learns how a process ended */
     pid_t parent = getpid(), worker = fork();
     if (worker == 0) {
-        work_inside(work, about, bounds, samples, &due, ends[1], parent);
+        work_inside(work, about, bounds, samples, &due, ends[1], nowhere, parent);
     }
     close_keeping_errno(ends[1]);
+    close_keeping_errno(nowhere);
     apart_end end = APART_NOT_STARTED;
     if (worker > 0) {
         bool in_time = await(worker, ends[0], bounds->clock, &mail, &status, &samples->spent);

@@ -1,6 +1,5 @@
 #include "apart_inside.h"
 
-#include <fcntl.h>
 #include <linux/audit.h>
 #include <linux/filter.h>
 #include <linux/seccomp.h>
@@ -147,11 +146,10 @@ static uint8_t *own_samples(const apart_bounds *bounds, const apart_samples *sam
 }
 
 /* Nowhere to write words to, the pipe, and no other descriptor. */
-static bool leave_only_pipe(int pipe_end)
+static bool leave_only_pipe(int pipe_end, int nowhere)
 {
-    int nowhere = open("/dev/null", O_RDWR);
     for (int number = 0; number < PIPE; number++) {
-        if (nowhere < 0 || dup2(nowhere, number) < 0) {
+        if (dup2(nowhere, number) < 0) {
             return false;
         }
     }
@@ -169,7 +167,7 @@ static void forget_signals(void)
 }
 
 static uint8_t *shut_in(const apart_bounds *bounds, const apart_samples *samples, int pipe_end,
-                        pid_t parent)
+                        int nowhere, pid_t parent)
 {
     forget_signals();
     /* an end with the parent's, whatever ends that */
@@ -182,7 +180,7 @@ static uint8_t *shut_in(const apart_bounds *bounds, const apart_samples *samples
     }
     bound_work(bounds);
     if (prctl(PR_SET_NO_NEW_PRIVS, 1, 0, 0, 0) != 0 || prctl(PR_SET_DUMPABLE, 0) != 0 ||
-        !leave_only_pipe(pipe_end) || (!bounds->no_sandbox && !close_off())) {
+        !leave_only_pipe(pipe_end, nowhere) || (!bounds->no_sandbox && !close_off())) {
         _exit(bounds->no_sandbox ? LEFT_NOT_SHUT_IN : LEFT_NO_SANDBOX);
     }
     return own;
@@ -190,11 +188,11 @@ static uint8_t *shut_in(const apart_bounds *bounds, const apart_samples *samples
 
 _Noreturn void work_inside(apart_work *work, const void *about, const apart_bounds *bounds,
                            const apart_samples *samples, const apart_letter *due, int pipe_end,
-                           pid_t parent)
+                           int nowhere, pid_t parent)
 {
     apart_letter letter = *due;
     memset(&letter.report, 0, sizeof letter.report);
-    uint8_t *own = shut_in(bounds, samples, pipe_end, parent);
+    uint8_t *own = shut_in(bounds, samples, pipe_end, nowhere, parent);
     work(about, own, &letter.report);
     bool sent = write(PIPE, &letter, sizeof letter) == sizeof letter;
     _exit(sent ? LEFT_DONE : LEFT_NOT_SHUT_IN);

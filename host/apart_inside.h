@@ -18,9 +18,9 @@ typedef struct {
 /* How the process leaves: statuses that no library uses. */
 enum { LEFT_DONE = 113, LEFT_NO_SANDBOX = 114, LEFT_NO_ROOM = 115, LEFT_NOT_SHUT_IN = 116 };
 
-/* Shuts the process in, does the work, reports and leaves. */
+/* Shuts the process in, does the work, reports and leaves; `nowhere` takes what it says. */
 _Noreturn void work_inside(apart_work *work, const void *about, const apart_bounds *bounds,
                            const apart_samples *samples, const apart_letter *due, int pipe_end,
-                           pid_t parent);
+                           int nowhere, pid_t parent);
 
 #endif

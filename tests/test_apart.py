@@ -170,7 +170,8 @@ def check_no_seccomp(tally, desk):
 
 def check_little(tally, desk):
     """Too few processes, descriptors or octets of a file are told as such."""
-    cases = [(resource.RLIMIT_NOFILE, 4, "Too many open files"), (resource.RLIMIT_FSIZE, 100, "File too large")]
+    cases = [*((resource.RLIMIT_NOFILE, bound, "Too many open files") for bound in (4, 5, 6)),
+             (resource.RLIMIT_FSIZE, 100, "File too large")]
     if os.getuid() == 0:
         cases.append((resource.RLIMIT_NPROC, 0, "Resource temporarily unavailable"))
     for kind, bound, words in cases:
