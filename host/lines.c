@@ -13,6 +13,7 @@
 enum { MOST_WORDS = 1 << 16, SHOWN_AS = 4, PATIENCE = 10000 };
 
 static char words[MOST_WORDS];
+static bool foreign[MOST_WORDS]; /* octets that are shown escaped, though they are plain */
 static size_t length;
 static const char *fault;
 
@@ -44,15 +45,15 @@ static bool is_plain(uint32_t c)
            c != 0xFEFF;
 }
 
-/* The text escaped, and a newline; answers how many octets. */
-static size_t escape(const char *text, char *shown)
+/* The words escaped, and a newline; answers how many octets. */
+static size_t escape(char *shown)
 {
-    const unsigned char *at = (const unsigned char *)text;
+    const unsigned char *first = (const unsigned char *)words, *at = first;
     char *to = shown;
     while (*at != 0) {
         uint32_t character = 0;
         size_t count = sequence_at(at, &character);
-        if (count > 0 && is_plain(character)) {
+        if (count > 0 && is_plain(character) && !foreign[at - first]) {
             memcpy(to, at, count);
             to += count;
         } else if (*at == '\n' || *at == '\t' || *at == '\\') {
@@ -100,7 +101,8 @@ static void append(const char *form, va_list values)
 static void end_line(bool output)
 {
     static char shown[SHOWN_AS * MOST_WORDS + 1];
-    size_t count = escape(words, shown);
+    size_t count = escape(shown);
+    memset(foreign, 0, sizeof foreign);
     length = 0;
     words[0] = 0;
     errno = 0;
@@ -118,6 +120,15 @@ void add_words(const char *form, ...)
     va_start(values, form);
     append(form, values);
     va_end(values);
+}
+
+void add_name(const char *name)
+{
+    size_t first = length;
+    add_words("%s", name);
+    for (size_t k = first; k < length; k++) {
+        foreign[k] = words[k] == ';';
+    }
 }
 
 void say_line(const char *form, ...)
@@ -142,6 +153,7 @@ void complain(const char *form, ...)
     va_list values;
     va_start(values, form);
     length = 0;
+    memset(foreign, 0, sizeof foreign);
     append(form, values);
     va_end(values);
     end_line(false);

@@ -8,6 +8,9 @@
 /* Words of the line that is being made. */
 void add_words(const char *form, ...) LIKE_PRINTF;
 
+/* A name in that line, its semicolons escaped: they part the line's own words. */
+void add_name(const char *name);
+
 /* The last words of that line, which goes to standard output at once; where it cannot be written
  * there, to standard error, so that it is not lost. */
 void say_line(const char *form, ...) LIKE_PRINTF;

@@ -438,6 +438,21 @@ def check_last_lines(tally, folder):
                    "alone/show.page: %s, all seen; no pencil given" % SIZE)
 
 
+def check_forged(tally, folder):
+    """A name that ends as the line could, or begins as one."""
+    side = folder.path("show.sheet.sha256")
+    lines = read(side).splitlines(True)
+    name = "p; no pencil given"
+    shutil.copy(folder.path("show.pencil"), folder.path(name))
+    write(side, lines[0] + lines[1] + lines[2][:66] + name.encode() + b"\n")
+    check_last(tally, folder.show("show.page"), "show.page: %s, all seen; pencil: show.sheet, p\\x3B no pencil "
+               "given" % SIZE)
+    page = "a: %s, all seen; no pencil given" % SIZE
+    shutil.copy(folder.path("show.page"), folder.path(page))
+    shown = folder.show(page, "--unread", "0:2")
+    tally.check("all seen;" not in shown.told.splitlines()[-1], "the last line: %s" % shown.told)
+
+
 # What the page maker writes
 
 PLAN = "resolution 200\nstripe\nmask m.pbm\npencil-mask m.pbm at 1 2\npencil-image none base 505050\n"
@@ -479,7 +494,7 @@ def main():
         return tally.end()
     coders = Coders()
     for check in (check_other_page, check_changes, check_side, check_names, check_beside, check_page_names,
-                  check_links, check_bad_sheets, check_rights, check_last_lines, check_maker):
+                  check_links, check_bad_sheets, check_rights, check_last_lines, check_forged, check_maker):
         failed = tally.failed
         check(tally, Folder(coders))
         print("%s: %s" % (check.__name__, "good" if tally.failed == failed else "FAILED"))

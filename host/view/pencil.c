@@ -207,14 +207,18 @@ int check_digest(const options *asked, const pencil_source *source, side_line wh
 void tell_pencil(const pencil_source *source)
 {
     if (source->sheet != NULL) {
-        say_line("; pencil: %s, %s%s", source->sheet, source->file,
-                 source->checked ? "" : ", not checked (--no-digests)");
+        add_words("; pencil: ");
+        add_name(source->sheet);
+        add_words(", ");
+        add_name(source->file);
+        say_line("%s", source->checked ? "" : ", not checked (--no-digests)");
     } else if (source->beside_count == 0) {
         say_line("; no pencil given");
     } else {
         add_words("; pencil left out (--no-pencil):");
         for (size_t k = 0; k < source->beside_count; k++) {
-            add_words("%s %s", k == 0 ? "" : ",", source->beside[k]);
+            add_words("%s ", k == 0 ? "" : ",");
+            add_name(source->beside[k]);
         }
         say_line("%s", "");
     }

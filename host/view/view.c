@@ -196,11 +196,11 @@ static void tell_uncomposed(const run *r)
 /* The first words of the last line. */
 static void tell_sides(const options *asked, uint32_t width, uint32_t height)
 {
-    add_words("%s: ", asked->page);
+    add_name(asked->page);
     if (asked->one_stripe) {
-        add_words("stripe %u alone (--stripe): ", (unsigned)asked->stripe);
+        add_words(": stripe %u alone (--stripe)", (unsigned)asked->stripe);
     }
-    add_words("%u by %u pixels, ", (unsigned)width, (unsigned)height);
+    add_words(": %u by %u pixels, ", (unsigned)width, (unsigned)height);
 }
 
 /* The last line of all: what was shown, with which pencil. */
