@@ -18,6 +18,7 @@ enum { FIRST_ROOM = 1 << 16 };
 typedef struct {
     int from;
     bool pipe;
+    struct stat first; /* as it was opened */
     whole_file *file;
     size_t room;
 } reading;
@@ -117,18 +118,32 @@ static const char *open_input(const char *name, bool plain_only, reading *r)
 {
     const char *wrong_kind = plain_only ? "this is no plain file"
                                         : "this is neither a file nor a pipe";
-    struct stat kind;
     r->from = open(name, O_RDONLY | O_NONBLOCK | O_CLOEXEC | O_NOCTTY);
     if (r->from < 0) {
         return errno == ENXIO ? wrong_kind : strerror(errno);
     }
-    if (fstat(r->from, &kind) != 0) {
+    if (fstat(r->from, &r->first) != 0) {
         return strerror(errno);
     }
-    r->pipe = S_ISFIFO(kind.st_mode);
-    return S_ISDIR(kind.st_mode)                               ? strerror(EISDIR)
-           : S_ISREG(kind.st_mode) || (r->pipe && !plain_only) ? NULL
-                                                               : wrong_kind;
+    mode_t kind = r->first.st_mode;
+    r->pipe = S_ISFIFO(kind);
+    return S_ISDIR(kind)                               ? strerror(EISDIR)
+           : S_ISREG(kind) || (r->pipe && !plain_only) ? NULL
+                                                       : wrong_kind;
+}
+
+/* What was read of a file that was written meanwhile may be half of the old and half of the new. */
+static const char *check_unchanged(const reading *r)
+{
+    struct stat now;
+    const struct stat *first = &r->first;
+    if (fstat(r->from, &now) != 0) {
+        return strerror(errno);
+    }
+    bool same = r->pipe ||
+                (now.st_size == first->st_size && now.st_mtim.tv_sec == first->st_mtim.tv_sec &&
+                 now.st_mtim.tv_nsec == first->st_mtim.tv_nsec);
+    return same ? NULL : "it was written while it was read";
 }
 
 static const char *read_kind(const char *name, bool plain_only, size_t most, whole_file *file)
@@ -138,6 +153,9 @@ static const char *read_kind(const char *name, bool plain_only, size_t most, who
     const char *why = open_input(name, plain_only, &r);
     if (why == NULL) {
         why = read_octets(&r, most);
+    }
+    if (why == NULL) {
+        why = check_unchanged(&r);
     }
     if (r.from >= 0) {
         close(r.from);

@@ -7,6 +7,7 @@ import os
 import pty
 import random
 import resource
+import shutil
 import subprocess
 import sys
 import tempfile
@@ -14,7 +15,9 @@ import threading
 import time
 
 import files_kept
+import page_making
 import reference_run
+import view_crafted
 import view_making
 from files_kit import MAKE, OUTPUTS, VIEW, Folder, Run
 from make_kit import write
@@ -209,6 +212,46 @@ def check_replaced(tally, folder):
             write(folder.path(name), folder.new.get(name, folder.picture))
 
 
+WRITER = """
+import os, sys
+pages = [open(name, "rb").read() for name in sys.argv[2:]]
+to = os.open(sys.argv[1], os.O_WRONLY)
+while True:
+    for octets in pages:
+        for at in range(0, len(octets), 65536):
+            os.pwrite(to, octets[at:at + 65536], at)
+"""
+
+
+def check_written_meanwhile(tally, folder):
+    """A page that is written in its place while it is read is shown as one of its contents or refused, never
+    as half of each."""
+    names, pictures = [], []
+    mask = view_crafted.white_mmr(8)
+    for colour in (1, 200):
+        octets = page_making.start(mask=4, width=64)
+        for _ in range(64):
+            octets += page_making.stripe(type=2, height=8, mask=len(mask) + 120000, colours=bytes([colour] * 6))
+            octets += mask + bytes(120000)
+        names.append(folder.path("content%d.page" % len(names)))
+        write(names[-1], octets + b"\xff\xd9\xff\xd9")
+        Run(folder.showing(names[-1], "b.png"), folder.name)
+        pictures.append(folder.octets("b.png"))
+    shutil.copy(names[0], folder.path("both.page"))
+    writer = subprocess.Popen([sys.executable, "-c", WRITER, folder.path("both.page"), *names])
+    refused = 0
+    for _ in range(15):
+        os.remove(folder.path("b.png"))
+        write(folder.path("b.png"), b"")
+        ran = Run(folder.showing("both.page", "b.png"), folder.name)
+        refused += ran.wrong == "both.page: cannot be read: it was written while it was read\n"
+        tally.check(ran.status == 1 or folder.octets("b.png") in pictures, "half of each page is shown: %s" % ran)
+    writer.kill()
+    writer.wait()
+    tally.check(pictures[0] != pictures[1] and refused > 0, "%d of 15 were refused" % refused)
+    os.remove(folder.path("b.png"))
+
+
 # ---- what the system refuses
 
 def check_descriptors(tally, folder):
@@ -234,7 +277,7 @@ def main():
     tally.check(folder.made.status == 0 and folder.shown.status == 0, "the start: %s, %s" % (
         folder.made, folder.shown))
     started, held = start_inputs(folder, stop)
-    for check in (check_pipes, check_lines, check_replaced, check_descriptors):
+    for check in (check_pipes, check_lines, check_replaced, check_written_meanwhile, check_descriptors):
         check(tally, folder)
     files_kept.check_all(tally, folder, rng, ROUNDS)
     for run in started:
