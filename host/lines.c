@@ -37,12 +37,22 @@ static size_t sequence_at(const unsigned char *text, uint32_t *character)
     return known ? count : 0;
 }
 
-/* Neither a control, nor one of the marks that end a line or turn its direction. */
+/* Controls, marks that end a line or turn its direction, and what is not seen at all (Unicode's
+ * Default_Ignorable_Code_Point): first and last of each range. */
+static const uint32_t not_plain[][2] = {
+    {0, 0x1F},        {'\\', '\\'},     {0x7F, 0x9F},       {0xAD, 0xAD},       {0x34F, 0x34F},
+    {0x61C, 0x61C},   {0x115F, 0x1160}, {0x17B4, 0x17B5},   {0x180B, 0x180F},   {0x200B, 0x200F},
+    {0x2028, 0x202E}, {0x2060, 0x206F}, {0x3164, 0x3164},   {0xFE00, 0xFE0F},   {0xFEFF, 0xFEFF},
+    {0xFFA0, 0xFFA0}, {0xFFF0, 0xFFFB}, {0x1BCA0, 0x1BCA3}, {0x1D173, 0x1D17A}, {0xE0000, 0xE0FFF}};
+
 static bool is_plain(uint32_t c)
 {
-    return c >= ' ' && c != '\\' && (c < 0x7F || c > 0x9F) && c != 0xAD && c != 0x61C &&
-           (c < 0x200B || c > 0x200F) && (c < 0x2028 || c > 0x202E) && (c < 0x2060 || c > 0x206F) &&
-           c != 0xFEFF;
+    for (size_t k = 0; k < sizeof not_plain / sizeof *not_plain; k++) {
+        if (c >= not_plain[k][0] && c <= not_plain[k][1]) {
+            return false;
+        }
+    }
+    return true;
 }
 
 /* The words escaped, and a newline; answers how many octets. */

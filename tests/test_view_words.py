@@ -95,12 +95,29 @@ def check_options(tally, folder):
         tally.check(word in told, "--help does not tell of " + word)
 
 
+# Names
+
+HIDDEN = "\x1b\x7f\x9b\xad\u034f\u061c\u115f\u17b4\u180e\u200b\u200f\u2028\u202e\u2060\u2066\u3164\ufe0f\ufeff\uffa0" \
+    "\ufff0\ufffa\U0001bca0\U0001d173\U000e0041\U000e0100"
+
+
+def check_names(tally, folder):
+    """What is not seen, or moves what is, stands escaped in a line; letters of all tongues do not."""
+    for letter in HIDDEN:
+        due = "sh%sow.page: cannot be read: No such file or directory\n" % "".join(
+            "\\x%02X" % octet for octet in letter.encode())
+        shown = folder.show("sh%sow.page" % letter)
+        tally.check(shown.wrong == due, "U+%04X: %s" % (ord(letter), shown.wrong))
+    shown = folder.show("\u00e9\u0416\u4e2d\u0939 \U0001f3ad.page")
+    tally.check(shown.wrong.startswith("\u00e9\u0416\u4e2d\u0939 \U0001f3ad.page: "), shown.wrong)
+
+
 def main():
     tally = reference_run.Tally()
     if not view_making.prepare(tally):
         return tally.end()
     coders = Coders()
-    for check in (check_colours, check_options):
+    for check in (check_colours, check_options, check_names):
         check(tally, Folder(coders))
     return tally.end()
 
