@@ -195,12 +195,16 @@ void drop_samples(apart_samples *samples)
     samples->file = -1;
 }
 
-/* A mapping of its own octets, though none may ever be written: older systems refuse to share a
- * sealed file even for reading. */
+/* Shared, so that not even who may trace this process writes over them (/proc/PID/mem gives it octets
+ * of its own where they are not); older systems refuse to share a sealed file even for reading. */
 uint8_t *map_samples(apart_samples *samples, void *at)
 {
-    void *mapped = mmap(at, samples->octets, PROT_READ, MAP_PRIVATE | (at == NULL ? 0 : MAP_FIXED),
-                        samples->file, 0);
+    static const int kinds[] = {MAP_SHARED, MAP_PRIVATE};
+    void *mapped = MAP_FAILED;
+    for (int k = 0; k < 2 && mapped == MAP_FAILED; k++) {
+        mapped = mmap(at, samples->octets, PROT_READ, kinds[k] | (at == NULL ? 0 : MAP_FIXED),
+                      samples->file, 0);
+    }
     drop_samples(samples);
     return mapped == MAP_FAILED ? NULL : mapped;
 }
