@@ -23,7 +23,7 @@ import test_view
 import view_crafted
 import view_making
 import view_reference
-from view_making import END, VIEW, Coders, Shown, bounded, children, write
+from view_making import END, VIEW, Coders, Shown, bounded, children, is_alive, write
 
 NOBODY = 65534
 CALLS = 512          # of the system; Linux has under 480
@@ -146,12 +146,14 @@ def check_calls(tally, desk):
     page = desk.path("calls.page")
     write(page, octets + END)
 
-    def tried(first):
-        shown = Shown([page], env=desk.taken("calls:%d" % first), seconds=60)
+    def tried(run):
+        first, start = run
+        shown = Shown([page], env=desk.taken("calls:%d" % first), seconds=60, preexec_fn=start)
         reasons = re.findall(r"layer 2: T.85, 8 by 4 at \d+ to the inch: (.*?)[;\n]", shown.told + "\n")
         return [(first + k, reason) for k, reason in enumerate(reasons) if reason != "UNREAD: " + FORBIDDEN and first + k not in PROBES], len(reasons)
     with concurrent.futures.ThreadPoolExecutor(2) as pool:
-        for wrong, count in pool.map(tried, range(0, CALLS, 64)):
+        runs = [(first, start) for _, start in users() for first in range(0, CALLS, 64)]
+        for wrong, count in pool.map(tried, runs):
             tally.check(not wrong and count == 64, "system calls that are let through: %s of %d" % (wrong[:5], count))
 
 
@@ -263,6 +265,10 @@ def check_process(tally, desk):
     finally:
         viewer.kill()
         viewer.wait()
+    until = time.monotonic() + 10
+    while is_alive(decoder) and time.monotonic() < until:
+        time.sleep(0.01)
+    tally.check(not is_alive(decoder), "a decoder lives on without its viewer")
 
 
 def writes_memory(pid, address):
