@@ -329,6 +329,7 @@ def check_lost_names(tally, folder, ends):
     shown = Shown(["a.page"], preexec_fn=lambda: os.fchdir(deep))
     check_last(tally, shown, "a.page: %s, all seen; pencil: in/show.sheet, in/show.pencil" % SIZE)
     os.close(deep)
+    check_long(tally, folder)
     os.mkdir(folder.path("shut"))
     for name in names:
         shutil.copy(name, folder.path("shut"))
@@ -348,6 +349,22 @@ def check_lost_names(tally, folder, ends):
         shown = folder.show("/dev/fd/%d" % page, view=view, pass_fds=[page], preexec_fn=lambda: os.setuid(65534))
         tally.check(shown.status == 1 and not shown.told, "a sheet that may not be looked at: %s" % shown.told)
         os.close(page)
+
+
+def check_long(tally, folder):
+    """A page whose name is just short enough, beside a sheet whose name is not: nobody can look there."""
+    page = read(folder.path("run/show.page"))
+    left = 4095 - len(folder.name) - len("/show.page")
+    deep = folder.name + ("/" + "y" * 200) * (left // 201 - 1)
+    left = 4095 - len(deep) - len("/show.page")
+    deep += "/" + "y" * (left // 2 - 1) + "/" + "z" * (left - left // 2 - 1)
+    os.makedirs(deep)
+    write(deep + "/show.page", page)
+    shown = Shown([deep + "/show.page"])
+    tally.check(shown.status == 1 and not shown.told, "a sheet of too long a name: %s" % shown.told[-60:])
+    name = "n" * 250 + ".page"                  # no sheet can be named so
+    write(folder.path(name), page)
+    check_last(tally, folder.show(name), "%s: %s, all seen; no pencil given" % (name, SIZE))
 
 
 def check_bad_sheets(tally, folder):

@@ -20,12 +20,14 @@ const char *way_out(const pencil_source *source)
     return source->found ? "; --no-pencil shows the page without it" : "";
 }
 
-/* Anything of this name counts, and so does what cannot be looked at. */
+/* Anything of this name counts, and so does what cannot be looked at: also where only its folders
+ * make the name too long. */
 static bool stands(const char *name)
 {
     struct stat there;
     return lstat(name, &there) == 0 ||
-           (errno != ENOENT && errno != ENOTDIR && errno != ENAMETOOLONG);
+           (errno == ENAMETOOLONG ? strlen(last_part(name)) <= NAME_MAX
+                                  : errno != ENOENT && errno != ENOTDIR);
 }
 
 /* Of one folder, by whichever way it is named. */
