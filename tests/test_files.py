@@ -212,6 +212,16 @@ def check_replaced(tally, folder):
             write(folder.path(name), folder.new.get(name, folder.picture))
 
 
+def check_told_into(tally, folder):
+    """No lines are written into what is read."""
+    for name in ("p.page", "p.sheet", "p.pencil", "p.sheet.sha256"):
+        octets = folder.octets(name)
+        ran = Run(["bash", "-c", '"$@" >>%s' % name, "bash", *folder.showing("p.page")], folder.name)
+        tally.check(ran.status == 2 and folder.octets(name) == octets and ran.wrong == "spirerook-view: %s: it is "
+                    "read, and standard output would be written into it\n" % name, "lines into %s: %s" % (name, ran))
+        write(folder.path(name), octets)
+
+
 WRITER = """
 import os, sys
 pages = [open(name, "rb").read() for name in sys.argv[2:]]
@@ -277,7 +287,7 @@ def main():
     tally.check(folder.made.status == 0 and folder.shown.status == 0, "the start: %s, %s" % (
         folder.made, folder.shown))
     started, held = start_inputs(folder, stop)
-    for check in (check_pipes, check_lines, check_replaced, check_written_meanwhile, check_descriptors):
+    for check in (check_pipes, check_lines, check_replaced, check_told_into, check_written_meanwhile, check_descriptors):
         check(tally, folder)
     files_kept.check_all(tally, folder, rng, ROUNDS)
     for run in started:

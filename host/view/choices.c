@@ -1,8 +1,11 @@
 #include "choices.h"
 
 #include <stdio.h>
+#include <string.h>
 
 #include "lines.h"
+
+enum { INPUTS = 4 }; /* the page, the sheet, its side file and the pencil file */
 
 static int bad_choice(const char *option, size_t stripe, size_t layer, const char *what)
 {
@@ -15,12 +18,25 @@ static int bad_choice(const char *option, size_t stripe, size_t layer, const cha
     return STATUS_BAD_OPTION;
 }
 
-/* Whether the picture would be written over what is read, or over what is told. */
-static int check_place(const options *asked, const pencil_source *source)
+/* Whether lines would be written into what is read. */
+static int check_lines(const char *const *inputs)
 {
-    const char *inputs[] = {asked->page, source->sheet, source->file, source->side};
+    for (size_t k = 0; k < INPUTS; k++) {
+        const char *standard = inputs[k] == NULL ? NULL : standard_file(inputs[k]);
+        if (standard != NULL && strcmp(standard, "standard output") == 0) {
+            complain("spirerook-view: %s: it is read, and standard output would be written into it",
+                     inputs[k]);
+            return STATUS_BAD_OPTION;
+        }
+    }
+    return STATUS_WHOLE;
+}
+
+/* Whether the picture would be written over what is read, or over what is told. */
+static int check_place(const options *asked, const char *const *inputs)
+{
     const char *what = standard_file(asked->out);
-    for (size_t k = 0; what == NULL && k < sizeof inputs / sizeof *inputs; k++) {
+    for (size_t k = 0; what == NULL && k < INPUTS; k++) {
         if (inputs[k] != NULL && same_file(asked->out, inputs[k])) {
             what = "what is read";
         }
@@ -60,6 +76,11 @@ int check_choices(const options *asked, const book *opened)
     if (asked->one_stripe && asked->stripe >= opened->stripes) {
         return bad_choice("--stripe", asked->stripe, 0, "the page has no such stripe");
     }
-    int status = asked->out == NULL ? STATUS_WHOLE : check_place(asked, &opened->source);
+    const pencil_source *source = &opened->source;
+    const char *inputs[INPUTS] = {asked->page, source->sheet, source->file, source->side};
+    int status = check_lines(inputs);
+    if (status == STATUS_WHOLE && asked->out != NULL) {
+        status = check_place(asked, inputs);
+    }
     return status == STATUS_WHOLE ? check_unread(asked, opened) : status;
 }
