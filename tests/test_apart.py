@@ -90,6 +90,11 @@ def users():
     return [("root", None), ("another user", as_nobody)] if os.getuid() == 0 else [("this user", None)]
 
 
+def shares_sealed():
+    """Whether this system lets a sealed file be shared for reading."""
+    return tuple(map(int, re.findall(r"\d+", os.uname().release)[:2])) >= (6, 7)
+
+
 def lines_without(desk, layer):
     """The page as it is with a layer unread, or with none."""
     for _, one in desk.model.coded():
@@ -133,6 +138,9 @@ def check_deeds(tally, desk):
     # layers stay apart even where there is no sandbox
     for deed, _, reason in DEEDS:
         check_deed(tally, desk, deed, reason, "--no-sandbox")
+    for user, start in users() if shares_sealed() else []:
+        wrong = is_shown(desk, desk.show("--no-sandbox", env=desk.taken("memory"), preexec_fn=start), None)
+        tally.check(wrong is None, "layers that were read before are written over, as %s: %s" % (user, wrong))
     time.sleep(1.2)
     tally.check(not os.path.exists(desk.path("taken")), "a grandchild was left, and wrote a file")
 
@@ -285,8 +293,7 @@ def writes_memory(pid, address):
 def check_memory(tally, viewer, decoder, held):
     """Layers that were read can be written by nobody; the one that is decoded stands between pages that
     cannot be touched, alone."""
-    system = tuple(map(int, re.findall(r"\d+", os.uname().release)[:2]))
-    due = "r--s" if system >= (6, 7) else "r--p"    # older ones share no sealed file
+    due = "r--s" if shares_sealed() else "r--p"
     tally.check(all(rights == due for _, rights, _ in held), "the viewer's layers: %s" % held)
     for place, _, _ in held:
         low, high = (int(word, 16) for word in place.split("-"))

@@ -7,6 +7,7 @@
  *   DEED=forge              reports to the pipe with octets 0 and ends with the right status
  *   DEED=flood              writes to the pipe for ever
  *   DEED=spin               never ends
+ *   DEED=memory             writes over the layers that the viewer holds, through /proc, and decodes on
  *   DEED=eat:N              takes N MiB of memory, or ends
  *   DEED=calls:N            asks the system for call N, then N + 1 and so on, one in each process
  *   DEED=other:NAME         what needs arguments: see the table below
@@ -257,6 +258,23 @@ static void do_other(const char *name)
     abort();
 }
 
+static void write_layers(void)
+{
+    char name[64], line[512];
+    uint8_t octets[64];
+    memset(octets, 1, sizeof octets);
+    snprintf(name, sizeof name, "/proc/%d/maps", viewer);
+    FILE *maps = fopen(name, "r");
+    snprintf(name, sizeof name, "/proc/%d/mem", viewer);
+    int memory = open(name, O_RDWR);
+    while (maps != NULL && fgets(line, sizeof line, maps) != NULL) {
+        if (strstr(line, "samples") != NULL &&
+            pwrite(memory, octets, sizeof octets, (off_t)strtoull(line, NULL, 16)) < 0) {
+            errno = 0;
+        }
+    }
+}
+
 static void flood(size_t octets)
 {
     static const uint8_t zeros[LETTER];
@@ -293,6 +311,8 @@ static void do_deed(void)
     } else if (strcmp(deed, "spin") == 0) {
         for (;;) {
         }
+    } else if (strcmp(deed, "memory") == 0) {
+        write_layers();
     } else if ((rest = behind(deed, "eat:")) != NULL) {
         size_t octets = (size_t)atoi(rest) << 20;
         if (mmap(NULL, octets, PROT_READ | PROT_WRITE, MAP_PRIVATE | MAP_ANONYMOUS, -1, 0) ==
