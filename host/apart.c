@@ -6,6 +6,7 @@
 #include <signal.h>
 #include <string.h>
 #include <sys/mman.h>
+#include <sys/prctl.h>
 #include <sys/random.h>
 #include <sys/resource.h>
 #include <sys/wait.h>
@@ -156,7 +157,8 @@ static apart_end work_in_process(apart_work *work, const void *about, const apar
         close_keeping_errno(nowhere);
         return APART_NOT_STARTED;
     }
-    signal(SIGCHLD, SIG_DFL); /* where it is ignored, nobody learns how a process ended */
+    signal(SIGCHLD, SIG_DFL);  /* where it is ignored, nobody learns how a process ended */
+    prctl(PR_SET_DUMPABLE, 0); /* nor may the work, without its sandbox, trace this process */
     pid_t parent = getpid(), worker = fork();
     if (worker == 0) {
         work_inside(work, about, bounds, samples, &due, ends[1], nowhere, parent);

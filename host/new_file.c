@@ -11,6 +11,7 @@
 #include <unistd.h>
 
 #include "lines.h"
+#include "turns.h"
 
 /* What a signal has to take away, where it has a name; null while it is free. */
 static new_file *volatile being_written[MOST_NEW_FILES];
@@ -344,13 +345,28 @@ static void settle(const new_file *file)
     }
 }
 
+/* One file takes its place at once, and needs no turn. */
+static const char *await_turn(new_file *const *files, unsigned count, turn *taken)
+{
+    int folders[MOST_NEW_FILES];
+    taken->count = 0;
+    for (unsigned k = 0; k < count; k++) {
+        folders[k] = files[k]->folder;
+    }
+    return count > 1 ? take_turn(folders, count, taken) : NULL;
+}
+
 const char *keep_files(new_file *const *files, unsigned count, unsigned *failed)
 {
     const char *why = NULL;
     sigset_t before;
+    turn taken = {.count = 0};
     for (unsigned k = 0; why == NULL && k < count; k++) {
         why = complete_file(files[k]);
         *failed = k;
+    }
+    if (why == NULL) {
+        why = await_turn(files, count, &taken);
     }
     hold_signals(&before);
     for (unsigned k = 0; why == NULL && k < count; k++) {
@@ -365,6 +381,7 @@ const char *keep_files(new_file *const *files, unsigned count, unsigned *failed)
         }
         forget(files[k]);
     }
+    end_turn(&taken);
     release_signals(&before);
     return why;
 }

@@ -2,6 +2,7 @@
 all together or none, whatever fails and whatever signal comes."""
 
 import errno
+import fcntl
 import os
 import random
 import shutil
@@ -308,6 +309,20 @@ def check_nameless(tally):
         check_old(tally, inner, numbers, "SIGKILL during a run")
 
 
+def check_turns(tally, folder):
+    """Two runs onto the same files take turns: one waits while the other holds their folder."""
+    inner = folder.sub("turns")
+    held = os.open(inner, os.O_RDONLY)
+    fcntl.flock(held, fcntl.LOCK_EX)
+    run = subprocess.Popen(folder.making(), cwd=inner, stdout=subprocess.DEVNULL)
+    time.sleep(1)
+    waits, there = run.poll() is None, found(inner)
+    os.close(held)
+    status = run.wait(files_kit.SECONDS)
+    tally.check(waits and there == {} and status == 0 and found(inner) == folder.new,
+                "two runs: it %s, %s stood there, status %s" % ("waited" if waits else "did not wait", list(there), status))
+
+
 def check_all(tally, folder, rng, rounds):
     shim = files_kit.build_faults(folder)
     check_modes(tally, folder)
@@ -315,6 +330,7 @@ def check_all(tally, folder, rng, rounds):
     check_links(tally, folder)
     check_deep(tally, folder)
     check_nobody(tally, folder)
+    check_turns(tally, folder)
     check_faults(tally, folder, shim)
     check_signal_at_calls(tally, folder, shim)
     check_random_signals(tally, folder, rng, rounds)

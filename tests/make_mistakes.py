@@ -226,6 +226,9 @@ def bad_pictures():
         yield "PPM cut to %d" % cut, good[:cut], ""
     for cut in (7, 8, 20, 33, 40, len(dot) - 20, len(dot) - 13, len(dot) - 1):
         yield "PNG cut to %d" % cut, dot[:cut], ""
+    colours = make_kit.chunk(b"PLTE", bytes(6))
+    for interlaced in (False, True):
+        yield "PNG beyond its palette", png(9, 5, 3, 4, lambda x, y: (2 * (x == 8),), colours, interlaced), "its palette"
     yield "PNG with a flipped bit", dot[:50] + bytes([dot[50] ^ 1]) + dot[51:], "PNG file cannot"
     yield "PNG 65536 wide", sized(65536, 1), "65536 by 1 samples; a side has at most 65535"
     yield "PNG 65535 by 65535", sized(65535, 65535), "over 1 GiB"

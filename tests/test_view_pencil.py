@@ -263,6 +263,9 @@ def check_beside(tally, folder):
                "show.page: %s, all seen; pencil: show.sheet, show.pencil" % SIZE)
     check_last(tally, folder.show("show.page", "--no-pencil"), "show.page: %s, all seen; pencil left out "
                "(--no-pencil): show.page.sheet, show.sheet" % SIZE)
+    shown = folder.show("show.page", "--no-pencil", "-o", "show.sheet")
+    tally.check(shown.status == 2 and shown.wrong == "spirerook-view: -o show.sheet: the picture would take the "
+                "place of the page's sheet\n", "a picture over a sheet: %s %s" % (shown.status, shown.wrong))
     os.remove(folder.path("show.sheet"))
     os.link(folder.path("show.page.sheet"), folder.path("show.sheet"))
     check_refused(tally, folder.show("show.page"), both)

@@ -9,6 +9,8 @@
 #include "apart.h"
 #include "picture_in.h"
 
+enum { COLOURS = 256 }; /* of a palette, at most */
+
 /* What may pass between the calls of libpng; it stands outside the function that libpng jumps back
  * to. */
 typedef struct {
@@ -16,7 +18,10 @@ typedef struct {
     size_t length, at;
     png_structp png;
     png_infop info;
-    uint8_t *rows; /* four octets a sample; all rows of an interlaced picture, else one */
+    uint8_t *rows; /* all rows of an interlaced picture, else one */
+    unsigned sample_octets;
+    uint8_t palette[COLOURS][4]; /* sRGB and alpha */
+    int colours;
     size_t row_octets;
     uint8_t *flat; /* a row, three octets a sample */
     uint32_t rows_put;
@@ -39,7 +44,7 @@ static void on_error(png_structp png, png_const_charp text)
     png_longjmp(png, 1);
 }
 
-/* Warnings are of chunks that say nothing of the samples. */
+/* Warnings are of chunks that say nothing of the samples, and of what stands behind these. */
 static void on_warning(png_structp png, png_const_charp text)
 {
     (void)png;
@@ -56,13 +61,39 @@ static void give_octets(png_structp png, png_bytep to, size_t count)
     reader->at += count;
 }
 
-/* Whatever kind it is, four octets a sample: sRGB and alpha. */
-static int ask_for_rgba(png_reader *reader)
+/* The colours that samples are numbers of.  libpng would take any number, and make some colour of
+ * those that the palette does not have. */
+static void take_palette(png_reader *reader)
 {
-    png_set_expand(reader->png);
-    png_set_scale_16(reader->png);
-    png_set_gray_to_rgb(reader->png);
-    png_set_add_alpha(reader->png, 255, PNG_FILLER_AFTER);
+    png_colorp colours = NULL;
+    png_bytep alphas = NULL;
+    int count = 0, alpha_count = 0;
+    png_get_PLTE(reader->png, reader->info, &colours, &count);
+    png_get_tRNS(reader->png, reader->info, &alphas, &alpha_count, NULL);
+    reader->colours = count < COLOURS ? count : COLOURS;
+    for (int k = 0; k < reader->colours; k++) {
+        uint8_t *rgba = reader->palette[k];
+        rgba[0] = colours[k].red;
+        rgba[1] = colours[k].green;
+        rgba[2] = colours[k].blue;
+        rgba[3] = k < alpha_count ? alphas[k] : 255;
+    }
+}
+
+/* Whatever kind it is, four octets a sample: sRGB and alpha; of a palette one, the number. */
+static int ask_for_samples(png_reader *reader)
+{
+    reader->sample_octets = 4;
+    if (png_get_color_type(reader->png, reader->info) == PNG_COLOR_TYPE_PALETTE) {
+        reader->sample_octets = 1;
+        take_palette(reader);
+        png_set_packing(reader->png);
+    } else {
+        png_set_expand(reader->png);
+        png_set_scale_16(reader->png);
+        png_set_gray_to_rgb(reader->png);
+        png_set_add_alpha(reader->png, 255, PNG_FILLER_AFTER);
+    }
     int passes = png_set_interlace_handling(reader->png);
     png_read_update_info(reader->png, reader->info);
     return passes;
@@ -72,7 +103,7 @@ static bool get_rows(png_reader *reader, bool interlaced)
 {
     uint32_t width = reader->made->width;
     uint64_t rows = interlaced ? reader->made->height : 1;
-    reader->row_octets = (size_t)width * 4;
+    reader->row_octets = (size_t)width * reader->sample_octets;
     if (png_get_rowbytes(reader->png, reader->info) != reader->row_octets) {
         return tell(reader->what, "the PNG file is of a kind that cannot be read");
     }
@@ -84,11 +115,23 @@ static bool get_rows(png_reader *reader, bool interlaced)
     return (reader->rows != NULL && reader->flat != NULL) || tell_no_memory(reader->what);
 }
 
+static const uint8_t *rgba_at(png_reader *reader, const uint8_t *row, uint32_t x)
+{
+    if (reader->sample_octets == 4) {
+        return row + 4 * (size_t)x;
+    }
+    if (row[x] >= reader->colours) {
+        png_error(reader->png, "a sample has a number that its palette does not have");
+    }
+    return reader->palette[row[x]];
+}
+
 /* Flattened on white. */
-static void put_rgba(png_reader *reader, uint32_t y, const uint8_t *rgba)
+static void put_samples(png_reader *reader, uint32_t y, const uint8_t *row)
 {
     uint8_t *srgb = reader->flat;
-    for (uint32_t x = 0; x < reader->made->width; x++, rgba += 4, srgb += 3) {
+    for (uint32_t x = 0; x < reader->made->width; x++, srgb += 3) {
+        const uint8_t *rgba = rgba_at(reader, row, x);
         for (int k = 0; k < 3; k++) {
             srgb[k] = (uint8_t)((rgba[k] * rgba[3] + 255 * (255 - rgba[3]) + 127) / 255);
         }
@@ -105,7 +148,7 @@ static void read_rows(png_reader *reader, int passes)
             uint8_t *row = reader->rows + (passes > 1 ? y * reader->row_octets : 0);
             png_read_row(reader->png, row, NULL);
             if (pass == passes - 1) {
-                put_rgba(reader, y, row);
+                put_samples(reader, y, row);
             }
         }
     }
@@ -124,7 +167,7 @@ static void read_all(png_reader *reader)
         png_get_image_height(reader->png, reader->info) != reader->made->height) {
         png_error(reader->png, "another size than its header's");
     }
-    int passes = ask_for_rgba(reader);
+    int passes = ask_for_samples(reader);
     if (get_rows(reader, passes > 1)) {
         read_rows(reader, passes);
         reader->done = true;

@@ -32,13 +32,19 @@ static int check_lines(const char *const *inputs)
     return STATUS_WHOLE;
 }
 
-/* Whether the picture would be written over what is read, or over what is told. */
-static int check_place(const options *asked, const char *const *inputs)
+/* Whether the picture would be written over what is read, over what is told, or over a sheet that
+ * was left out. */
+static int check_place(const options *asked, const char *const *inputs, const pencil_source *source)
 {
     const char *what = standard_file(asked->out);
     for (size_t k = 0; what == NULL && k < INPUTS; k++) {
         if (inputs[k] != NULL && same_file(asked->out, inputs[k])) {
             what = "what is read";
+        }
+    }
+    for (size_t k = 0; what == NULL && k < source->beside_count; k++) {
+        if (same_file(asked->out, source->beside[k])) {
+            what = "the page's sheet";
         }
     }
     if (what != NULL) {
@@ -80,7 +86,7 @@ int check_choices(const options *asked, const book *opened)
     const char *inputs[INPUTS] = {asked->page, source->sheet, source->file, source->side};
     int status = check_lines(inputs);
     if (status == STATUS_WHOLE && asked->out != NULL) {
-        status = check_place(asked, inputs);
+        status = check_place(asked, inputs, source);
     }
     return status == STATUS_WHOLE ? check_unread(asked, opened) : status;
 }
