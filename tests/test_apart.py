@@ -141,6 +141,11 @@ def check_deeds(tally, desk):
     for user, start in users() if shares_sealed() else []:
         wrong = is_shown(desk, desk.show("--no-sandbox", env=desk.taken("memory"), preexec_fn=start), None)
         tally.check(wrong is None, "layers that were read before are written over, as %s: %s" % (user, wrong))
+    # nor can it trace the viewer there, but as root
+    for user, start in users():
+        for deed in ("memory", "other:hold-viewer", "other:write-viewer") if user != "root" else ():
+            wrong = is_shown(desk, desk.show("--no-sandbox", env=desk.taken(deed), preexec_fn=start), None)
+            tally.check(wrong is None, "%s, without a sandbox, as %s: %s" % (deed, user, wrong))
     time.sleep(1.2)
     tally.check(not os.path.exists(desk.path("taken")), "a grandchild was left, and wrote a file")
 
