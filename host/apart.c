@@ -43,7 +43,7 @@ static void take_mail(int pipe_end, int milliseconds, apart_mail *mail)
 {
     struct pollfd end = {pipe_end, POLLIN, 0};
     if (mail->ended || mail->length == sizeof mail->octets) {
-        rest(1000000);
+        rest(100000);
         return;
     }
     if (poll(&end, 1, milliseconds) > 0) {

@@ -16,6 +16,8 @@
 #include "picture.h"
 #include "screen.h"
 
+enum { LOOK_EACH = 16 }; /* lines between two looks at the time */
+
 /* A run over the stripes that are shown, from the upper edge of the first. */
 typedef struct {
     const options *asked;
@@ -25,6 +27,7 @@ typedef struct {
     double began, told;
     double used; /* seconds of the processor by then: a program that became this one took some */
     seconds decoders_left;
+    bool late;                                      /* no time is left */
     double decoding, composing, colouring, writing; /* seconds spent so far */
     uint64_t unseen;
     uint32_t y, composed; /* rows done, and those of them that were composed in time */
@@ -124,10 +127,14 @@ static seconds seconds_left(const run *r)
                      all_lines * r->asked->clock_seconds - (seconds_now() - r->began)};
 }
 
-static bool is_time_left(const run *r)
+/* The system is asked now and then: a line takes a millisecond at most. */
+static bool is_time_left(run *r)
 {
-    seconds left = seconds_left(r);
-    return left.processor > 0 && left.clock > 0;
+    if (r->y % LOOK_EACH == 0) {
+        seconds left = seconds_left(r);
+        r->late = left.processor <= 0 || left.clock <= 0;
+    }
+    return !r->late;
 }
 
 /* A row of the picture: the line composed and coloured or, when time is up, all unseen. */
@@ -175,7 +182,7 @@ static bool show_stripe(run *r, size_t stripe)
     bool good = true;
     for (uint32_t line = 0; good && line < height; line++) {
         good = show_line(r, &read, stripe, line);
-        if (line % 16 == 0) {
+        if (line % LOOK_EACH == 0) {
             tell_progress(r);
         }
     }
