@@ -76,7 +76,7 @@ class Desk:
     def show(self, *words, **settings):
         if os.path.exists(self.out):
             os.remove(self.out)
-        return Shown([*self.words, "--seconds", "1", *words], self.out, seconds=60, **settings)
+        return Shown([*self.words, "--seconds", "1:60", *words], self.out, seconds=60, **settings)
 
 
 def as_nobody():
@@ -332,7 +332,7 @@ def check_load(tally, desk):
     write(page, view_crafted.jpeg_page(view_crafted.grey_jpeg(200, side, side, 1200)))
     busy = [subprocess.Popen([sys.executable, "-c", "while True: pass"]) for _ in range(6)]
     began = time.monotonic()
-    shown = Shown([page, "--seconds", "1"])
+    shown = Shown([page, "--seconds", "1:60"])
     spent = time.monotonic() - began
     for one in busy:
         one.kill()

@@ -19,7 +19,7 @@ import page_making
 import reference_run
 import view_crafted
 import view_making
-from files_kit import MAKE, OUTPUTS, VIEW, Folder, Run
+from files_kit import MAKE, OUTPUTS, VIEW, Folder, Run, build_faults
 from make_kit import write
 
 PIPE_SECONDS = 20    # host/file.h
@@ -222,44 +222,22 @@ def check_told_into(tally, folder):
         write(folder.path(name), octets)
 
 
-WRITER = """
-import os, sys
-pages = [open(name, "rb").read() for name in sys.argv[2:]]
-to = os.open(sys.argv[1], os.O_WRONLY)
-while True:
-    for octets in pages:
-        for at in range(0, len(octets), 65536):
-            os.pwrite(to, octets[at:at + 65536], at)
-"""
-
-
 def check_written_meanwhile(tally, folder):
-    """A page that is written in its place while it is read is shown as one of its contents or refused, never
-    as half of each."""
-    names, pictures = [], []
-    mask = view_crafted.white_mmr(8)
+    """A page that is written in its place while it is read is refused: it would be half of each."""
+    names, mask = [], view_crafted.white_mmr(8)
     for colour in (1, 200):
         octets = page_making.start(mask=4, width=64)
         for _ in range(64):
-            octets += page_making.stripe(type=2, height=8, mask=len(mask) + 120000, colours=bytes([colour] * 6))
-            octets += mask + bytes(120000)
+            octets += page_making.stripe(type=2, height=8, mask=len(mask) + 12000, colours=bytes([colour] * 6))
+            octets += mask + bytes(12000)
         names.append(folder.path("content%d.page" % len(names)))
         write(names[-1], octets + b"\xff\xd9\xff\xd9")
-        Run(folder.showing(names[-1], "b.png"), folder.name)
-        pictures.append(folder.octets("b.png"))
-    shutil.copy(names[0], folder.path("both.page"))
-    writer = subprocess.Popen([sys.executable, "-c", WRITER, folder.path("both.page"), *names])
-    refused = 0
-    for _ in range(15):
-        os.remove(folder.path("b.png"))
-        write(folder.path("b.png"), b"")
-        ran = Run(folder.showing("both.page", "b.png"), folder.name)
-        refused += ran.wrong == "both.page: cannot be read: it was written while it was read\n"
-        tally.check(ran.status == 1 or folder.octets("b.png") in pictures, "half of each page is shown: %s" % ran)
-    writer.kill()
-    writer.wait()
-    tally.check(pictures[0] != pictures[1] and refused > 0, "%d of 15 were refused" % refused)
-    os.remove(folder.path("b.png"))
+    shim = build_faults(folder)
+    for other, due in ((names[1], "written.page: cannot be read: it was written while it was read\n"), ("", "")):
+        shutil.copy(names[0], folder.path("written.page"))
+        settings = {**os.environ, "LD_PRELOAD": shim, "MEANWHILE": folder.path("written.page"), "MEANWHILE_FROM": other}
+        ran = Run(folder.showing("written.page", "b.png"), folder.name, env=settings)
+        tally.check(ran.wrong == due and ran.status == (1 if due else 0), "written while it is read: %s" % ran)
 
 
 # ---- what the system refuses

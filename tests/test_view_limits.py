@@ -272,7 +272,7 @@ def check_time(tally, folder):
     most = 10 if reference_run.trials(64) > 64 else 2
     slow, quick = slow_jpeg(folder, 2.5 * most), view_crafted.grey_jpeg(64, 60, 40, 1200)
     page = folder.new("slow.page", jpeg_page(quick, slow, slow, slow, quick))
-    shown = Shown([page, "-o", folder.out, "--memory", "2G", "--seconds", str(most)], folder.out)
+    shown = Shown([page, "-o", folder.out, "--memory", "2G", "--seconds", "%d:%d" % (most, 60 * most)], folder.out)
     reasons = [re.search("stripe %d, layer 1: [^:]*: ([^;\n]*)" % n, shown.told) for n in range(5)]
     reasons = [found and found[1] for found in reasons]
     over = ["UNREAD: its decoder took over %d seconds of the processor" % most] * 2
@@ -287,14 +287,13 @@ def check_time(tally, folder):
 def check_time_before(tally, folder):
     """What a program took before it became the viewer, itself or by what it waited for, is not the
     page's time."""
-    spend = "import time\nwhile time.process_time() < 5: pass\n"
+    spend = "import time\nwhile time.process_time() < 2.5: pass\n"
     wait = "import subprocess, sys\nsubprocess.run([sys.executable, '-c', %r])\n" % spend
     become = "import os, sys\nos.execv(sys.argv[1], sys.argv[1:])"
-    for before in (spend, wait):
-        done = subprocess.run([sys.executable, "-c", before + become, VIEW, folder.page, "--seconds", "1"],
-                              check=False, stdout=subprocess.PIPE)
-        tally.check(done.returncode == 0 and b"UNREAD" not in done.stdout,
-                    "time before the start counts: %s" % done.stdout.decode())
+    done = subprocess.run([sys.executable, "-c", spend + wait + become, VIEW, folder.page, "--seconds", "1:60"],
+                          check=False, stdout=subprocess.PIPE)
+    tally.check(done.returncode == 0 and b"UNREAD" not in done.stdout,
+                "time before the start counts: %s" % done.stdout.decode())
 
 
 def check_full(tally, folder):

@@ -1,7 +1,8 @@
 /* Loaded before the C library: file systems that can do less, and a fault or a signal at one of the
  * calls that change names or wait for the disk.
  *   NO_NAMELESS, NO_EXCHANGE  no file without a name; no two files change places
- *   AT_CALL, and FAULT or SIGNAL  the number of the call, and its errno or the signal sent before it */
+ *   AT_CALL, and FAULT or SIGNAL  the number of the call, and its errno or the signal sent before it
+ *   MEANWHILE, MEANWHILE_FROM  before the second read the first file gets the octets of the second */
 #include <errno.h>
 #include <fcntl.h>
 #include <signal.h>
@@ -91,4 +92,30 @@ int unlinkat(int folder, const char *name, int flags)
 int unlink(const char *name)
 {
     return unlinkat(AT_FDCWD, name, 0);
+}
+
+/* A while later, since the time of a change is told in steps. */
+static void write_meanwhile(const char *name, const char *from)
+{
+    static char octets[1 << 20];
+    int source = open(from, O_RDONLY), to = open(name, O_WRONLY);
+    long count;
+    usleep(20000);
+    while ((count = syscall(SYS_read, source, octets, sizeof octets)) > 0) {
+        if (write(to, octets, (size_t)count) != count) {
+            abort();
+        }
+    }
+    close(source);
+    close(to);
+}
+
+ssize_t read(int file, void *octets, size_t count)
+{
+    static int reads;
+    const char *name = getenv("MEANWHILE"), *from = getenv("MEANWHILE_FROM");
+    if (name != NULL && *from != 0 && ++reads == 2) {
+        write_meanwhile(name, from);
+    }
+    return syscall(SYS_read, file, octets, count);
 }
