@@ -10,6 +10,7 @@ import os
 import random
 import re
 import resource
+import shutil
 import signal
 import subprocess
 import sys
@@ -48,6 +49,9 @@ class Desk:
     def __init__(self):
         self.coders = Coders()
         os.chmod(self.coders.folder, 0o777)
+        # other users may not enter the folder that the programs were built in
+        self.view, self.make = (shutil.copy(program, self.path(os.path.basename(program)))
+                                for program in (VIEW, make_kit.PROGRAM))
         self.shim, self.no_seccomp = self.path("taken_over.so"), self.path("no_seccomp")
         for words in (["-shared", "-fPIC", "-o", self.shim, *reference_run.in_driver("taken_over.c"), "-ldl"],
                       ["-o", self.no_seccomp, *reference_run.in_driver("no_seccomp.c")]):
@@ -76,7 +80,7 @@ class Desk:
     def show(self, *words, **settings):
         if os.path.exists(self.out):
             os.remove(self.out)
-        return Shown([*self.words, "--seconds", "1:60", *words], self.out, seconds=60, **settings)
+        return Shown([*self.words, "--seconds", "1:60", *words], self.out, self.view, 60, **settings)
 
 
 def as_nobody():
@@ -161,7 +165,7 @@ def check_calls(tally, desk):
 
     def tried(run):
         first, start = run
-        shown = Shown([page], env=desk.taken("calls:%d" % first), seconds=60, preexec_fn=start)
+        shown = Shown([page], view=desk.view, env=desk.taken("calls:%d" % first), seconds=60, preexec_fn=start)
         reasons = re.findall(r"layer 2: T.85, 8 by 4 at \d+ to the inch: (.*?)[;\n]", shown.told + "\n")
         return [(first + k, reason) for k, reason in enumerate(reasons) if reason != "UNREAD: " + FORBIDDEN and first + k not in PROBES], len(reasons)
     with concurrent.futures.ThreadPoolExecutor(2) as pool:
@@ -194,7 +198,7 @@ def check_little(tally, desk):
             if kind == resource.RLIMIT_NPROC:
                 as_nobody()
             resource.setrlimit(kind, (bound, bound))
-        shown = Shown([desk.alone], preexec_fn=start)
+        shown = Shown([desk.alone], view=desk.view, preexec_fn=start)
         told = shown.told.count("UNREAD: its decoder could not be started: " + words)
         tally.check(shown.status == 3 and told == 3, "%s: %s %s" % (words, shown.told, shown.wrong))
     def no_children():
@@ -355,7 +359,8 @@ def check_maker(tally, desk):
                  *(("other:" + name, "its reader tried what no reader may do") for name in OTHERS)]
         for user, start in users():
             for deed, words in deeds:
-                status, told, wrong = make_kit.make(folder, plan, env=desk.taken(deed), start=start)
+                status, told, wrong = make_kit.make(folder, plan, program=desk.make, env=desk.taken(deed),
+                                                    start=start)
                 tally.check((status, told, wrong) == (1, "", "spirerook-make: p.plan:5: i.png: %s\n" % words),
                             "a taken PNG reader, %s, as %s: %s" % (deed, user, (status, told, wrong)))
                 tally.check(sorted(os.listdir(folder)) == ["i.png", "p.plan"] and not os.path.exists(desk.path("taken")),
