@@ -26,8 +26,10 @@ extern "C" {
 
 /* The first number changes with a call or struct that viewers link, the second with a call that is
  * added. */
-/* 1.1.0: spirerook_judge. */
-#define SPIREROOK_VERSION "1.1.0"
+/* 1.1.0: spirerook_judge.
+ * 1.2.0: spirerook_line_unseen; unseen pixels of spirerook_line are 128 128 96 0, no longer 0 0 0 0
+ *        (what a program does that looks for those: at spirerook_line_unseen). */
+#define SPIREROOK_VERSION "1.2.0"
 
 /* ---- Bounds ---- */
 
@@ -61,6 +63,10 @@ extern "C" {
  *   jpeg.jpeg_color_space = jpeg.out_color_space = JCS_YCbCr;
  * A layer of one component has lightness alone: each of its samples is widened by 128 96.
  * For a screen, spirerook_lab_to_srgb in spirerook_colour.h makes sRGB of a colour. */
+
+/* The colour that spirerook_line gives unseen pixels, a middle grey: three octets, as three
+ * arguments or as what an array begins with. */
+#define SPIREROOK_UNSEEN 128, 128, 96
 
 /* clang-format off */
 /* ---- Numbers ---- */
@@ -178,8 +184,9 @@ spirerook_answer spirerook_write(const uint8_t *sheet, size_t sheet_len, const u
 
 /* Composes a line of a stripe, both counted from 0, out of decoded layers; count tells how many
  * octets: four a pixel of the page's width, left to right.
- * A pixel is its colour and 1 where it is seen, or 0 0 0 0 where it is unseen: it is seen exactly
- * if it has one colour whatever the layers hold that were not read.
+ * A pixel is its colour and 1 where it is seen, or SPIREROOK_UNSEEN and 0 where it is unseen: it is
+ * seen exactly if it has one colour whatever the layers hold that were not read.  A seen pixel may
+ * have that colour too: the fourth octet alone tells.
  * Lent: the sheet, the plane list and the samples, for reading; room for the line, for writing.
  * The plane list tells which coded layers of the stripe were read: entries of five octets, the
  * layer and four of its start in the samples, layers rising.  From its start a layer has its own
@@ -197,6 +204,17 @@ spirerook_answer spirerook_write(const uint8_t *sheet, size_t sheet_len, const u
 spirerook_answer spirerook_line(const uint8_t *sheet, size_t sheet_len, const uint8_t *planes,
                                 size_t planes_len, const uint8_t *samples, size_t samples_len,
                                 uint32_t stripe, uint32_t line, uint8_t *out, size_t out_len);
+
+/* The same with another colour for unseen pixels: they are u0 u1 u2 0, whatever three octets these
+ * are.  Answers, places and all seen pixels are those of spirerook_line, which is this call with
+ * SPIREROOK_UNSEEN.
+ * With 0, 0, 0 it is spirerook_line as it was before version 1.2.0, for all that may be lent.  So a
+ * program that looks for 0 0 0 0 calls this one, or goes by the fourth octet. */
+spirerook_answer spirerook_line_unseen(const uint8_t *sheet, size_t sheet_len,
+                                       const uint8_t *planes, size_t planes_len,
+                                       const uint8_t *samples, size_t samples_len, uint32_t stripe,
+                                       uint32_t line, uint8_t u0, uint8_t u1, uint8_t u2,
+                                       uint8_t *out, size_t out_len);
 
 /* Tells where the coded data of a layer stands, and copies none of it: layers 1 to 3 have it in the
  * page, higher ones in the pencil file.  Stripes are counted from 0, layers from 1.  The part of a
