@@ -4,7 +4,9 @@
 --   ReadCall page sheet r sheet′   a page is read into a sheet, the report is r, and the buffer is then sheet′
 --   DataCall sheet page pencil k l r   the coded data of layer l of stripe k are asked for, and the report is r
 --   WriteCall sheet d page r page′   a page is written from a sheet and its data d, the report is r, and the buffer is then page′
---   LineCall sheet planes samples k y out r out′   line y of stripe k is composed, the report is r, and the buffer is then out′
+--   LineUnseenCall sheet planes samples k y u out r out′   line y of stripe k is composed, u being the unseen colour, the report is r, and the buffer is then out′
+--   LineCall sheet planes samples k y out r out′   the same, and the unseen colour is 128 128 96
+--   BaseLineCall sheet planes samples k y out r out′   the line call before there was an unseen colour, frozen
 use Prim.Native.Nat.{ℕ}
 use mathlib.Core.Path.{_≡_}
 use mathlib.Core.List.{List}
@@ -13,11 +15,13 @@ use Rattle.answers_report.specs.declared.Report.{Report}
 use Rattle.answers_report.specs.Report.{reportOf}
 use Rattle.data_report.specs.declared.DataReport.{DataReport}
 use Rattle.data_report.specs.Reported.{dataReport}
+use Rattle.sheet_rules.specs.declared.Colour.{Colour}
 use Rattle.sheet_rules.specs.Judge.{sheetAnswer}
 use Rattle.page_rules.specs.Reading.{readOf, readInto}
 use Rattle.write_rules.specs.Writing.{writeOf, writeInto}
 use Rattle.picture_rules.specs.Planes.{listOf}
-use Rattle.picture_rules.specs.Line.{lineOf, lineInto}
+use Rattle.picture_rules.specs.Line.{unseenGrey, lineOf, lineInto}
+use Rattle.picture_rules.specs.BaseLine.{baseOf, baseInto}
 
 pub record JudgeCall (sheet : List ℕ) (r : Report) : Type 0 where
   pub reports : r ≡ reportOf (sheetAnswer sheet)
@@ -33,6 +37,13 @@ pub record WriteCall (sheet d page : List ℕ) (r : Report) (page′ : List ℕ)
   pub reports : r ≡ reportOf (writeOf sheet d (length page))
   pub holds : page′ ≡ writeInto sheet d page
 
-pub record LineCall (sheet planes samples : List ℕ) (k y : ℕ) (out : List ℕ) (r : Report) (out′ : List ℕ) : Type 0 where
+pub record LineUnseenCall (sheet planes samples : List ℕ) (k y : ℕ) (u : Colour) (out : List ℕ) (r : Report) (out′ : List ℕ) : Type 0 where
   pub reports : r ≡ reportOf (lineOf sheet (listOf planes) samples k y (length out))
-  pub holds : out′ ≡ lineInto sheet (listOf planes) samples k y out
+  pub holds : out′ ≡ lineInto sheet (listOf planes) samples k y u out
+
+abbrev pub LineCall : List ℕ → List ℕ → List ℕ → ℕ → ℕ → List ℕ → Report → List ℕ → Type 0
+LineCall sheet planes samples k y out r out′ = LineUnseenCall sheet planes samples k y unseenGrey out r out′
+
+pub record BaseLineCall (sheet planes samples : List ℕ) (k y : ℕ) (out : List ℕ) (r : Report) (out′ : List ℕ) : Type 0 where
+  pub reports : r ≡ reportOf (baseOf sheet (listOf planes) samples k y (length out))
+  pub holds : out′ ≡ baseInto sheet (listOf planes) samples k y out

@@ -2,13 +2,14 @@
 --
 --   sceneFrom    the scene of a stripe, a plane list as parallel numbers, and the samples
 --   Showable v y    the ruling on some stripe's line y shows the scene
---   Composed     the answer and the buffer after that ruling
+--   Composed     the answer and the buffer after that ruling, u being the unseen colour
 use Prim.Native.Nat.{ℕ}
 use mathlib.Core.Path.{_≡_}
 use mathlib.Core.Bool.{Bool}
 use mathlib.Core.List.{List}
 use lib.ListN.{length}
 use Rattle.answers.specs.declared.Answer.{Answer}
+use Rattle.sheet_rules.specs.declared.Colour.{Colour}
 use Rattle.sheet_rules.specs.declared.Extent.{Extent}
 use Rattle.picture_rules.specs.Samples.{Scene}
 use Rattle.picture_rules.specs.Line.{shows, rulingOf, lineAnswer, lineHolds}
@@ -23,6 +24,6 @@ pub record Showable (v : Scene) (y : ℕ) : Type 0 where
   pub part : Bool
   pub ruling : rulingOf (v .sheet) (record { entries = v .planes; part = part }) (v .samples) stripe y ≡ shows v
 
-pub record Composed (v : Scene) (y : ℕ) (out : List ℕ) (a : Answer) (e : List ℕ) : Type 0 where
+pub record Composed (v : Scene) (y : ℕ) (u : Colour) (out : List ℕ) (a : Answer) (e : List ℕ) : Type 0 where
   pub answers : a ≡ lineAnswer (length out) (shows v)
-  pub holds : e ≡ lineHolds out y (shows v)
+  pub holds : e ≡ lineHolds u out y (shows v)

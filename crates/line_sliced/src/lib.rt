@@ -3,6 +3,7 @@ ghost use Rattle.picture_rules.specs.Planes.{wholeList};
 ghost use Rattle.picture_rules.specs.Line.{Lines};
 use answers::Answer;
 use picture_rules::Plane;
+use sheet_rules::Colour;
 
 pub fn line_of_planes(
     sheet: &[u8],
@@ -10,10 +11,11 @@ pub fn line_of_planes(
     samples: &[u8],
     stripe: u32,
     line: u32,
+    unseen: Colour,
     out: &mut [u8],
 ) -> Answer
-    ensures { λ r. ⌜ Lines (now (sheet .entry)) (wholeList (now (planes .entry))) (now (samples .entry)) stripe line (now (out .entry)) r (now (out .exit)) ⌝ }
+    ensures { λ r. ⌜ Lines (now (sheet .entry)) (wholeList (now (planes .entry))) (now (samples .entry)) stripe line unseen (now (out .entry)) r (now (out .exit)) ⌝ }
 {
     let t = line_slice::gather_planes(planes);
-    line_compose::compose_line(sheet, t, false, samples, stripe, line, out)
+    line_compose::compose_line(sheet, t, false, samples, stripe, line, unseen, out)
 }

@@ -12,6 +12,7 @@ use lib.Seq.{take-all}
 use Rattle.laws.proofs.Says.{says-and, says-lt, says-le, says-true, says-else}
 use Rattle.laws.proofs.Cases.{cond-with, cond-both, clash}
 use Rattle.answers.specs.declared.Answer.{Answer}
+use Rattle.sheet_rules.specs.declared.Colour.{Colour}
 use Rattle.sheet_rules.specs.declared.Extent.{Extent}
 use Rattle.sheet_rules.specs.declared.FoundStripe.{FoundStripe}
 use Rattle.sheet_rules.specs.declared.FoundStripe.the-variants.{Has, NoStripe}
@@ -122,6 +123,6 @@ module _ (s d : List ℕ) (k y : ℕ) (ps : List Plane) (part : Bool) where
   ruling-first = in-sheet (judgeOf s) refl
 
   -- a line made with the first sixteen entries is a line made with all
-  pub lines-first : (out : List ℕ) (a : Answer) (e : List ℕ) → Lines s first d k y out a e → Lines s all d k y out a e
+  pub lines-first : (u : Colour) (out : List ℕ) (a : Answer) (e : List ℕ) → Lines s first d k y u out a e → Lines s all d k y u out a e
   unfolding lineOf lineInto
-  lines-first out a e h = record { answers = h .answers ∙ ap (lineAnswer (length out)) ruling-first; holds = h .holds ∙ ap (lineHolds out y) ruling-first }
+  lines-first u out a e h = record { answers = h .answers ∙ ap (lineAnswer (length out)) ruling-first; holds = h .holds ∙ ap (lineHolds u out y) ruling-first }

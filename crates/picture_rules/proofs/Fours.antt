@@ -16,8 +16,8 @@ use Rattle.picture_rules.specs.declared.Sample.{Sample}
 use Rattle.picture_rules.specs.declared.Sample.the-variants.{Known, Unknown}
 use Rattle.picture_rules.specs.Samples.{Scene, widthOf}
 use Rattle.picture_rules.specs.Decide.{pixelAt}
-use Rattle.picture_rules.specs.Line.{unseen, fourOf, pixels, linePixels}
-use Rattle.picture_rules.specs.Demand.{fourAt, seenIn, unseenFour, at}
+use Rattle.picture_rules.specs.Line.{fourOf, pixels, linePixels}
+use Rattle.picture_rules.specs.Demand.{fourAt, seenIn, unseenIn, at}
 
 -- ---- the four octets of a decided pixel
 
@@ -35,55 +35,55 @@ pub known-four : (u : Colour) (p : Sample) (c : Colour) → p ≡ Known c → fo
 unfolding fourOf
 known-four u p c e = rw e
 
-pub four-unknown : (p : Sample) → fourOf unseen p ≡ unseenFour → p ≡ Unknown
+pub four-unknown : (u : Colour) (p : Sample) → fourOf u p ≡ unseenIn u → p ≡ Unknown
 unfolding fourOf
-four-unknown (Known d) e = clash (sym (ap (λ (l : List ℕ). getD l 3 0) e))
-four-unknown Unknown e = refl
+four-unknown u (Known d) e = clash (sym (ap (λ (l : List ℕ). getD l 3 0) e))
+four-unknown u Unknown e = refl
 
-pub unknown-four : (p : Sample) → p ≡ Unknown → fourOf unseen p ≡ unseenFour
+pub unknown-four : (u : Colour) (p : Sample) → p ≡ Unknown → fourOf u p ≡ unseenIn u
 unfolding fourOf
-unknown-four p e = rw e
+unknown-four u p e = rw e
 
 -- ---- a line of them
 
-pub length-pixels : (f : MainPos → Sample) (n : ℕ) → length (pixels f n) ≡ n * 4
+pub length-pixels : (u : Colour) (f : MainPos → Sample) (n : ℕ) → length (pixels u f n) ≡ n * 4
 unfolding pixels
-length-pixels f zero = refl
-length-pixels f (suc n) =
-    let l = length-pixels f n in let m = length-four unseen (f (at n)) in let a = length-append (pixels f n) (fourOf unseen (f (at n))) in omega arith
+length-pixels u f zero = refl
+length-pixels u f (suc n) =
+    let l = length-pixels u f n in let m = length-four u (f (at n)) in let a = length-append (pixels u f n) (fourOf u (f (at n))) in omega arith
 
 -- pixel x has the octets 4x to 4x + 3
-pub pixels-four : (f : MainPos → Sample) (n x : ℕ) → x < n → fourAt (pixels f n) x ≡ fourOf unseen (f (at x))
+pub pixels-four : (u : Colour) (f : MainPos → Sample) (n x : ℕ) → x < n → fourAt (pixels u f n) x ≡ fourOf u (f (at x))
 unfolding pixels
-pixels-four f zero x h = absurd (omega arith)
-pixels-four f (suc n) x h =
-    let l = length-pixels f n in
-    let m = length-four unseen (f (at n)) in
+pixels-four u f zero x h = absurd (omega arith)
+pixels-four u f (suc n) x h =
+    let l = length-pixels u f n in
+    let m = length-four u (f (at n)) in
     ⊎-elim
     (λ (b : x < n).
-    let r = length-drop (x * 4) (pixels f n) in
-    ap (take 4) (drop-append-le (x * 4) (pixels f n) (fourOf unseen (f (at n))) (omega arith))
-    ∙ take-append-le 4 (drop (x * 4) (pixels f n)) (fourOf unseen (f (at n))) (omega arith)
-    ∙ pixels-four f n x b)
+    let r = length-drop (x * 4) (pixels u f n) in
+    ap (take 4) (drop-append-le (x * 4) (pixels u f n) (fourOf u (f (at n))) (omega arith))
+    ∙ take-append-le 4 (drop (x * 4) (pixels u f n)) (fourOf u (f (at n))) (omega arith)
+    ∙ pixels-four u f n x b)
     (λ (b : x < n → ⊥).
     let z : x ≡ n = omega arith in
-    ap (take 4) (drop-at (pixels f n) (fourOf unseen (f (at n))) (x * 4) (omega arith))
-    ∙ take-all 4 (fourOf unseen (f (at n))) (omega arith)
-    ∙ ap (λ (i : ℕ). fourOf unseen (f (at i))) (sym z))
+    ap (take 4) (drop-at (pixels u f n) (fourOf u (f (at n))) (x * 4) (omega arith))
+    ∙ take-all 4 (fourOf u (f (at n))) (omega arith)
+    ∙ ap (λ (i : ℕ). fourOf u (f (at i))) (sym z))
     (says-else (says-lt x n))
 
 -- ---- a line put in front of a buffer
 
-module _ (v : Scene) (y : ℕ) where
-  pub length-line : length (linePixels v y) ≡ widthOf v * 4
+module _ (u : Colour) (v : Scene) (y : ℕ) where
+  pub length-line : length (linePixels u v y) ≡ widthOf v * 4
   unfolding linePixels
-  length-line = length-pixels (λ (x : MainPos). pixelAt v x (at y)) (widthOf v)
+  length-line = length-pixels u (λ (x : MainPos). pixelAt v x (at y)) (widthOf v)
 
-  pub put-four : (out : List ℕ) (x : ℕ) → x < widthOf v → fourAt (putAt out 0 (linePixels v y)) x ≡ fourOf unseen (pixelAt v (at x) (at y))
+  pub put-four : (out : List ℕ) (x : ℕ) → x < widthOf v → fourAt (putAt out 0 (linePixels u v y)) x ≡ fourOf u (pixelAt v (at x) (at y))
   unfolding linePixels putAt
   put-four out x h =
       let l = length-line in
-      let r = length-drop (x * 4) (linePixels v y) in
-      ap (take 4) (drop-append-le (x * 4) (linePixels v y) (drop (0 + length (linePixels v y)) out) (omega arith))
-      ∙ take-append-le 4 (drop (x * 4) (linePixels v y)) (drop (0 + length (linePixels v y)) out) (omega arith)
-      ∙ pixels-four (λ (p : MainPos). pixelAt v p (at y)) (widthOf v) x h
+      let r = length-drop (x * 4) (linePixels u v y) in
+      ap (take 4) (drop-append-le (x * 4) (linePixels u v y) (drop (0 + length (linePixels u v y)) out) (omega arith))
+      ∙ take-append-le 4 (drop (x * 4) (linePixels u v y)) (drop (0 + length (linePixels u v y)) out) (omega arith)
+      ∙ pixels-four u (λ (p : MainPos). pixelAt v p (at y)) (widthOf v) x h

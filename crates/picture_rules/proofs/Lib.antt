@@ -13,3 +13,4 @@ pub mod Starts
 pub mod Within
 pub mod More
 pub mod First
+pub mod Before

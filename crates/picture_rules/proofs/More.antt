@@ -25,7 +25,7 @@ use Rattle.picture_rules.specs.declared.Start.the-variants.{From, Unread
 use Rattle.picture_rules.specs.Planes.{PlaneList, planeStart}
 use Rattle.picture_rules.specs.Samples.{Scene, recordOf, mainOf, widthOf, indexOf, bitOf, virtual, maskRead, imageRead, maskAt, imageAt, planeSpan, pairsOf}
 use Rattle.picture_rules.specs.Decide.{sameColour, agree, pairStep, Stack, decide, stackAt, pixelAt}
-use Rattle.picture_rules.specs.Line.{unseen, fourOf, lineOf, lineInto}
+use Rattle.picture_rules.specs.Line.{fourOf, lineOf, lineInto}
 use Rattle.picture_rules.specs.Sentences.{sceneOf, AllFine}
 use Rattle.picture_rules.specs.Demand.{fourAt, at, Reread, AllRead}
 use Rattle.picture_rules.proofs.Division.{mask-within, image-within}
@@ -176,23 +176,23 @@ marked-known u Unknown e = clash e
 known-marked : (u : Colour) (p : Sample) (c : Colour) → p ≡ Known c → getD (fourOf u p) 3 0 ≡ 1
 known-marked u p c e = ap (λ (l : List ℕ). getD l 3 0) (known-four u p c e)
 
--- ---- what is marked seen stays, whatever more is read
+-- ---- what is marked seen stays, whatever more is read and whatever the unseen colours are
 
-pub more-stays : (s : List ℕ) (pl qm : PlaneList) (d e : List ℕ) (k y : ℕ) (out put : List ℕ) (n m : ℕ)
+pub more-stays : (s : List ℕ) (pl qm : PlaneList) (d e : List ℕ) (k y : ℕ) (u u′ : Colour) (out put : List ℕ) (n m : ℕ)
     → lineOf s pl d k y (length out) ≡ Done n → lineOf s qm e k y (length put) ≡ Done m → Reread (sceneOf s pl d k) (sceneOf s qm e k)
-    → (x : ℕ) → x < widthOf (sceneOf s pl d k) → getD (fourAt (lineInto s pl d k y out) x) 3 0 ≡ 1
-    → fourAt (lineInto s qm e k y put) x ≡ fourAt (lineInto s pl d k y out) x
+    → (x : ℕ) → x < widthOf (sceneOf s pl d k) → getD (fourAt (lineInto s pl d k y u out) x) 3 0 ≡ 1
+    → fourAt (lineInto s qm e k y u′ put) x ≡ fourAt (lineInto s pl d k y u out) x
 unfolding layerRecord
-more-stays s pl qm d e k y out put n m a b again x h t =
+more-stays s pl qm d e k y u u′ out put n m a b again x h t =
     let old : Scene = sceneOf s pl d k in
     let new : Scene = sceneOf s qm e k in
-    let f = done-four s pl d k y out n a x h in
-    let g = done-four s qm e k y put m b x h in
-    let c = marked-known unseen (pixelAt old (at x) (at y)) (sym (ap (λ (l : List ℕ). getD l 3 0) f) ∙ t) in
-    let st = shows-stage s pl d k y old (done-line s pl d k y out n a .ruling) in
-    let r : ImageGrows (pixelAt old (at x) (at y)) (pixelAt new (at x) (at y)) = pixel-grows s k y pl qm d e st (done-line s qm e k y put m b .listed) again (at x) (at y) in
+    let f = done-four s pl d k y u out n a x h in
+    let g = done-four s qm e k y u′ put m b x h in
+    let c = marked-known u (pixelAt old (at x) (at y)) (sym (ap (λ (l : List ℕ). getD l 3 0) f) ∙ t) in
+    let st = shows-stage s pl d k y old (done-line s pl d k y u out n a .ruling) in
+    let r : ImageGrows (pixelAt old (at x) (at y)) (pixelAt new (at x) (at y)) = pixel-grows s k y pl qm d e st (done-line s qm e k y u′ put m b .listed) again (at x) (at y) in
     let z : pixelAt new (at x) (at y) ≡ Known (c .0) = subst (λ (p : Sample). ImageGrows p (pixelAt new (at x) (at y))) (c .1) r in
-    g ∙ ap (fourOf unseen) (z ∙ sym (c .1)) ∙ sym f
+    g ∙ known-four u′ (pixelAt new (at x) (at y)) (c .0) z ∙ sym (f ∙ known-four u (pixelAt old (at x) (at y)) (c .0) (c .1))
 
 -- ---- with every coded layer read, every pixel is seen
 
@@ -265,10 +265,10 @@ known-is : (p : Sample) → IsKnown p → (c : Colour) × (p ≡ Known c)
 known-is (Known c) k = (c, refl)
 known-is Unknown k = absurd k
 
-pub all-seen : (s : List ℕ) (pl : PlaneList) (d : List ℕ) (k y : ℕ) (out : List ℕ) (n : ℕ) → lineOf s pl d k y (length out) ≡ Done n → AllRead (sceneOf s pl d k)
-    → (x : ℕ) → x < widthOf (sceneOf s pl d k) → getD (fourAt (lineInto s pl d k y out) x) 3 0 ≡ 1
-all-seen s pl d k y out n a all x h =
+pub all-seen : (s : List ℕ) (pl : PlaneList) (d : List ℕ) (k y : ℕ) (u : Colour) (out : List ℕ) (n : ℕ) → lineOf s pl d k y (length out) ≡ Done n → AllRead (sceneOf s pl d k)
+    → (x : ℕ) → x < widthOf (sceneOf s pl d k) → getD (fourAt (lineInto s pl d k y u out) x) 3 0 ≡ 1
+all-seen s pl d k y u out n a all x h =
     let v : Scene = sceneOf s pl d k in
-    let c = stage-layers (shows-stage s pl d k y v (done-line s pl d k y out n a .ruling)) in
+    let c = stage-layers (shows-stage s pl d k y v (done-line s pl d k y u out n a .ruling)) in
     let p = known-is (pixelAt v (at x) (at y)) (pixel-known v all (at x) (at y) (c .0) (c .1)) in
-    ap (λ (l : List ℕ). getD l 3 0) (done-four s pl d k y out n a x h) ∙ known-marked unseen (pixelAt v (at x) (at y)) (p .0) (p .1)
+    ap (λ (l : List ℕ). getD l 3 0) (done-four s pl d k y u out n a x h) ∙ known-marked u (pixelAt v (at x) (at y)) (p .0) (p .1)

@@ -1,9 +1,10 @@
 -- Demand 3, as a statement about octets: what a line says of each pixel, without a word about how it is found.
 --
 --   fourAt l x         the octets 4x to 4x + 3
---   seenIn c           the colour, and 1 for seen; unseenFour: 0 0 0 0
+--   seenIn c           the colour, and 1 for seen
+--   unseenIn u         the unseen colour, and 0
 --   at x               the place x along a line, or down a stripe
---   Tells v y x four   the four octets are what is seen of pixel x of line y: a colour if every possible content gives it, and else none
+--   Tells u v y x four   the four octets are what is seen of pixel x of line y: a colour if every possible content gives it, and else none
 --   Shown ..           what a call that answers Done n was lent, and what it leaves: each pixel of the line, and the octets past it
 --   Reread v w         all that was read in v was read in w, the same
 --   AllRead v          every coded layer of the stripe was read
@@ -28,22 +29,22 @@ fourAt l x = take 4 (drop (x * 4) l)
 abbrev pub seenIn : Colour → List ℕ
 seenIn c = c .c0 ∷ c .c1 ∷ c .c2 ∷ 1 ∷ []
 
-abbrev pub unseenFour : List ℕ
-unseenFour = 0 ∷ 0 ∷ 0 ∷ 0 ∷ []
+abbrev pub unseenIn : Colour → List ℕ
+unseenIn u = u .c0 ∷ u .c1 ∷ u .c2 ∷ 0 ∷ []
 
 abbrev pub at : ℕ → MainPos
 at x = record { 0 = x }
 
-pub record Tells (v : Scene) (y x : ℕ) (four : List ℕ) : Type 0 where
+pub record Tells (u : Colour) (v : Scene) (y x : ℕ) (four : List ℕ) : Type 0 where
   -- c and 1, exactly if every possible content gives c
   pub seen : (c : Colour) → four ≡ seenIn c ↔ SeenAs v (at x) (at y) c
-  -- 0 0 0 0, exactly if no colour is given by all of them
-  pub unseen : four ≡ unseenFour ↔ ((c : Colour) → SeenAs v (at x) (at y) c → ⊥)
+  -- u and 0, exactly if no colour is given by all of them
+  pub unseen : four ≡ unseenIn u ↔ ((c : Colour) → SeenAs v (at x) (at y) c → ⊥)
   -- and there is no third
-  pub either : ((c : Colour) × (four ≡ seenIn c)) ⊎ (four ≡ unseenFour)
+  pub either : ((c : Colour) × (four ≡ seenIn c)) ⊎ (four ≡ unseenIn u)
 
 -- the call answered Done n; the buffer was `out` and is `e`
-pub record Shown (s : List ℕ) (pl : PlaneList) (d : List ℕ) (k y : ℕ) (out e : List ℕ) (n : ℕ) : Type 0 where
+pub record Shown (s : List ℕ) (pl : PlaneList) (d : List ℕ) (k y : ℕ) (u : Colour) (out e : List ℕ) (n : ℕ) : Type 0 where
   -- a sheet with this line, and a plane list without fault
   pub accepted : Accepted s
   pub line : HasLine s k y
@@ -52,7 +53,7 @@ pub record Shown (s : List ℕ) (pl : PlaneList) (d : List ℕ) (k y : ℕ) (out
   pub size : n ≡ widthOf (sceneOf s pl d k) * 4
   pub room : n ≤ length out
   -- each pixel of the line, in stripe k of this sheet with these entries and samples
-  pub pixels : (x : ℕ) → x < widthOf (sceneOf s pl d k) → Tells (sceneOf s pl d k) y x (fourAt e x)
+  pub pixels : (x : ℕ) → x < widthOf (sceneOf s pl d k) → Tells u (sceneOf s pl d k) y x (fourAt e x)
   -- the octets past the line stay
   pub past : drop n e ≡ drop n out
   pub same : length e ≡ length out

@@ -6,3 +6,4 @@ pub mod Content
 pub mod Demand
 pub mod Decide
 pub mod Line
+pub mod BaseLine

@@ -1,10 +1,10 @@
 -- The steps of a line call (01, "Colour of a pixel"; the order under "Numbers that a call returns"). Read Sentences.antt and Demand.antt first, which say
 -- when each answer is given and what a line shows: `line-exactly` (proofs/Exactly.antt) and `demand-3` (proofs/Demand3.antt) tie these steps to them.
 --
---   unseen             the colour of an unseen pixel
+--   unseenGrey         the unseen colour of a call that is given none (02, 2026-01)
 --   fourOf u p         the four octets of a decided pixel, u being the unseen colour
---   pixels f n         the octets of the first n pixels of a line
---   linePixels v y     the octets of line y of a scene
+--   pixels u f n       the octets of the first n pixels of a line
+--   linePixels u v y   the octets of line y of a scene
 --   planeOk            an entry, after the layer listed last: the layer is above it, present, coded, and within the sample buffer
 --   planesJudged       BadPlane at the first entry at fault, or at a part entry after whole ones
 --   Ruling             the scene to be composed, or the refusal
@@ -40,22 +40,22 @@ use Rattle.picture_rules.specs.Decide.{pixelAt}
 
 -- ---- the octets of a line
 
-abbrev pub unseen : Colour
-unseen = record { c0 = 0; c1 = 0; c2 = 0 }
+abbrev pub unseenGrey : Colour
+unseenGrey = record { c0 = 128; c1 = 128; c2 = 96 }
 
 -- the colour and 1 for seen, or the unseen colour and 0
 unfoldable pub fourOf : Colour → Sample → List ℕ
 fourOf u (Known c) = c .c0 ∷ c .c1 ∷ c .c2 ∷ 1 ∷ []
 fourOf u Unknown = u .c0 ∷ u .c1 ∷ u .c2 ∷ 0 ∷ []
 
-unfoldable pub pixels : (MainPos → Sample) → ℕ → List ℕ
+unfoldable pub pixels : Colour → (MainPos → Sample) → ℕ → List ℕ
 unfolding fourOf
-pixels f zero = []
-pixels f (suc x) = pixels f x ++ fourOf unseen (f (record { 0 = x }))
+pixels u f zero = []
+pixels u f (suc x) = pixels u f x ++ fourOf u (f (record { 0 = x }))
 
-unfoldable pub linePixels : Scene → ℕ → List ℕ
+unfoldable pub linePixels : Colour → Scene → ℕ → List ℕ
 unfolding pixels pixelAt
-linePixels v y = pixels (λ (x : MainPos). pixelAt v x (record { 0 = y })) (widthOf v)
+linePixels u v y = pixels u (λ (x : MainPos). pixelAt v x (record { 0 = y })) (widthOf v)
 
 -- ---- the plane list, judged
 
@@ -116,15 +116,16 @@ unfolding rulingOf lineAnswer
 lineOf s pl d k y room = lineAnswer room (rulingOf s pl d k y)
 
 -- the line in front, and the octets past it as they were; a refusal changes nothing
-unfoldable pub lineHolds : List ℕ → ℕ → Ruling → List ℕ
+unfoldable pub lineHolds : Colour → List ℕ → ℕ → Ruling → List ℕ
 unfolding linePixels
-lineHolds out y (shows v) = cond (ltb (length out) (widthOf v * 4)) out (putAt out 0 (linePixels v y))
-lineHolds out y (refused a) = out
+lineHolds u out y (shows v) = cond (ltb (length out) (widthOf v * 4)) out (putAt out 0 (linePixels u v y))
+lineHolds u out y (refused a) = out
 
-unfoldable pub lineInto : List ℕ → PlaneList → List ℕ → ℕ → ℕ → List ℕ → List ℕ
+unfoldable pub lineInto : List ℕ → PlaneList → List ℕ → ℕ → ℕ → Colour → List ℕ → List ℕ
 unfolding rulingOf lineHolds
-lineInto s pl d k y out = lineHolds out y (rulingOf s pl d k y)
+lineInto s pl d k y u out = lineHolds u out y (rulingOf s pl d k y)
 
-pub record Lines (s : List ℕ) (pl : PlaneList) (d : List ℕ) (k y : ℕ) (out : List ℕ) (a : Answer) (e : List ℕ) : Type 0 where
+-- the unseen colour is the caller's, and no answer depends on it
+pub record Lines (s : List ℕ) (pl : PlaneList) (d : List ℕ) (k y : ℕ) (u : Colour) (out : List ℕ) (a : Answer) (e : List ℕ) : Type 0 where
   pub answers : a ≡ lineOf s pl d k y (length out)
-  pub holds : e ≡ lineInto s pl d k y out
+  pub holds : e ≡ lineInto s pl d k y u out

@@ -1,5 +1,5 @@
 -- The pixels (a) to (j) of 01, "Pixels to prove": one table, one theorem. Each entry is a sheet's octets, a plane list's octets and samples, and the
--- four octets due at a pixel, through the definitions that the line call's promise cites.
+-- four octets due at a pixel, under every unseen colour, through the definitions that the line call's promise cites.
 -- Assumes nothing.
 use Prim.Native.Nat.{ℕ, _+_, _-_, _*_, _<_, _≤_}
 use native.Mathlib.Omega.{arith}
@@ -23,7 +23,7 @@ use Rattle.picture_rules.specs.Samples.{maskAt, imageAt}
 use Rattle.picture_rules.specs.Place.{scale}
 use Rattle.picture_rules.specs.Line.{lineOf, lineInto}
 use Rattle.picture_rules.proofs.Demand3.{line-length, line-anywhere}
-use Rattle.picture_rules.specs.Demand.{fourAt, seenIn, unseenFour}
+use Rattle.picture_rules.specs.Demand.{fourAt, seenIn, unseenIn}
 
 -- a pixel of a page 8 main pixels wide
 pub record Pixel : Type 0 where
@@ -35,15 +35,15 @@ pub record Pixel : Type 0 where
   pub stripe : ℕ
   pub line : ℕ
   pub x : ℕ
-  pub due : List ℕ
+  pub due : Colour → List ℕ
 
--- the sheet is accepted, and whatever buffer of 32 octets or more is lent, the call is done and leaves the octets due
+-- the sheet is accepted, and whatever buffer of 32 octets or more is lent, and whatever the unseen colour is, the call is done and leaves the octets due
 abbrev pub Holds : Pixel → Type 0
 Holds p =
     (judgeOf (p .sheet) ≡ Good (p .records) (p .stripes))
-    × ((out : List ℕ) → 32 ≤ length out
+    × ((u : Colour) (out : List ℕ) → 32 ≤ length out
     → (lineOf (p .sheet) (listOf (p .planes)) (p .samples) (p .stripe) (p .line) (length out) ≡ Done 32)
-    × (fourAt (lineInto (p .sheet) (listOf (p .planes)) (p .samples) (p .stripe) (p .line) out) (p .x) ≡ p .due))
+    × (fourAt (lineInto (p .sheet) (listOf (p .planes)) (p .samples) (p .stripe) (p .line) u out) (p .x) ≡ p .due u))
 
 abbrev pub Each : List Pixel → Type 0
 Each [] = Unit
@@ -94,10 +94,10 @@ abbrev pub sheet-ab : List ℕ
 sheet-ab = sheetOf (image 1 2 1 1 200 white ∷ noMask2 ∷ blankImage 3 black ∷ [])
 
 abbrev pub pixel-a : Pixel
-pixel-a = record { sheet = sheet-ab; records = 3; stripes = 1; planes = entry 1 1; samples = 9 ∷ 10 ∷ 20 ∷ 30 ∷ []; stripe = 0; line = 0; x = 1; due = seenIn white }
+pixel-a = record { sheet = sheet-ab; records = 3; stripes = 1; planes = entry 1 1; samples = 9 ∷ 10 ∷ 20 ∷ 30 ∷ []; stripe = 0; line = 0; x = 1; due = λ u. seenIn white }
 
 abbrev pub pixel-b : Pixel
-pixel-b = record { sheet = sheet-ab; records = 3; stripes = 1; planes = entry 1 1; samples = 9 ∷ 10 ∷ 20 ∷ 30 ∷ []; stripe = 0; line = 0; x = 3; due = 10 ∷ 20 ∷ 30 ∷ 1 ∷ [] }
+pixel-b = record { sheet = sheet-ab; records = 3; stripes = 1; planes = entry 1 1; samples = 9 ∷ 10 ∷ 20 ∷ 30 ∷ []; stripe = 0; line = 0; x = 3; due = λ u. 10 ∷ 20 ∷ 30 ∷ 1 ∷ [] }
 
 -- (c): mask 1, layer 3 uncoded and black
 abbrev pub pixel-c : Pixel
@@ -111,27 +111,27 @@ pixel-c =
       stripe = 0;
       line = 1;
       x = 5;
-      due = seenIn black;
+      due = λ u. seenIn black;
     }
 
 -- (d), (e): mask unread, layers 1 and 3 uncoded, both white; and white and black
 abbrev pub pixel-d : Pixel
 pixel-d =
-    record { sheet = sheetOf (blankImage 1 white ∷ mask2 ∷ blankImage 3 white ∷ []); records = 3; stripes = 1; planes = []; samples = []; stripe = 0; line = 1; x = 5; due = seenIn white }
+    record { sheet = sheetOf (blankImage 1 white ∷ mask2 ∷ blankImage 3 white ∷ []); records = 3; stripes = 1; planes = []; samples = []; stripe = 0; line = 1; x = 5; due = λ u. seenIn white }
 
 abbrev pub pixel-e : Pixel
 pixel-e =
-    record { sheet = sheetOf (blankImage 1 white ∷ mask2 ∷ blankImage 3 black ∷ []); records = 3; stripes = 1; planes = []; samples = []; stripe = 0; line = 1; x = 5; due = unseenFour }
+    record { sheet = sheetOf (blankImage 1 white ∷ mask2 ∷ blankImage 3 black ∷ []); records = 3; stripes = 1; planes = []; samples = []; stripe = 0; line = 1; x = 5; due = unseenIn }
 
 -- (f), (g): layer 3 unread, from main pixel 2 to 5, mask 1: inside, and outside
 abbrev pub sheet-fg : List ℕ
 sheet-fg = sheetOf (blankImage 1 white ∷ mask2 ∷ image 3 2 2 1 200 black ∷ [])
 
 abbrev pub pixel-f : Pixel
-pixel-f = record { sheet = sheet-fg; records = 3; stripes = 1; planes = entry 2 0; samples = replicate 16 1; stripe = 0; line = 1; x = 5; due = unseenFour }
+pixel-f = record { sheet = sheet-fg; records = 3; stripes = 1; planes = entry 2 0; samples = replicate 16 1; stripe = 0; line = 1; x = 5; due = unseenIn }
 
 abbrev pub pixel-g : Pixel
-pixel-g = record { sheet = sheet-fg; records = 3; stripes = 1; planes = entry 2 0; samples = replicate 16 1; stripe = 0; line = 1; x = 6; due = seenIn black }
+pixel-g = record { sheet = sheet-fg; records = 3; stripes = 1; planes = entry 2 0; samples = replicate 16 1; stripe = 0; line = 1; x = 6; due = λ u. seenIn black }
 
 -- (h): layer 1 unread, mask 4 is 1, layer 5 read
 abbrev pub pixel-h : Pixel
@@ -145,7 +145,7 @@ pixel-h =
       stripe = 0;
       line = 0;
       x = 5;
-      due = 21 ∷ 22 ∷ 23 ∷ 1 ∷ [];
+      due = λ u. 21 ∷ 22 ∷ 23 ∷ 1 ∷ [];
     }
 
 -- (i): N is 13, all read, masks 2 and 10 are 1, mask 12 is 0: layer 11. Each image layer is two samples of four main pixels
@@ -169,7 +169,7 @@ pixel-i =
       stripe = 0;
       line = 0;
       x = 6;
-      due = 110 ∷ 111 ∷ 112 ∷ 1 ∷ [];
+      due = λ u. 110 ∷ 111 ∷ 112 ∷ 1 ∷ [];
     }
 
 -- the same record, of stripe 1
@@ -188,7 +188,7 @@ pixel-j =
       stripe = 1;
       line = 1;
       x = 4;
-      due = 41 ∷ 42 ∷ 43 ∷ 1 ∷ [];
+      due = λ u. 41 ∷ 42 ∷ 43 ∷ 1 ∷ [];
     }
 
 abbrev pub table : List Pixel
@@ -212,32 +212,32 @@ four-take e x n h l =
 -- from one buffer to every other
 entry-holds : (p : Pixel) → judgeOf (p .sheet) ≡ Good (p .records) (p .stripes)
     → lineOf (p .sheet) (listOf (p .planes)) (p .samples) (p .stripe) (p .line) 32 ≡ Done 32
-    → fourAt (lineInto (p .sheet) (listOf (p .planes)) (p .samples) (p .stripe) (p .line) (replicate 32 7)) (p .x) ≡ p .due
+    → ((u : Colour) → fourAt (lineInto (p .sheet) (listOf (p .planes)) (p .samples) (p .stripe) (p .line) u (replicate 32 7)) (p .x) ≡ p .due u)
     → p .x < 8 → Holds p
 entry-holds p g q f h = (
   g,
-  λ out l.
-      let one = line-anywhere (p .sheet) (listOf (p .planes)) (p .samples) (p .stripe) (p .line) (replicate 32 7) out 32 q l in
-      let a = line-length (p .sheet) (listOf (p .planes)) (p .samples) (p .stripe) (p .line) out in
-      let b = line-length (p .sheet) (listOf (p .planes)) (p .samples) (p .stripe) (p .line) (replicate 32 7) in
-      let c : 32 ≤ length (lineInto (p .sheet) (listOf (p .planes)) (p .samples) (p .stripe) (p .line) out) = omega arith in
-      let e : 32 ≤ length (lineInto (p .sheet) (listOf (p .planes)) (p .samples) (p .stripe) (p .line) (replicate 32 7)) = omega arith in (
+  λ u out l.
+      let one = line-anywhere (p .sheet) (listOf (p .planes)) (p .samples) (p .stripe) (p .line) u (replicate 32 7) out 32 q l in
+      let a = line-length (p .sheet) (listOf (p .planes)) (p .samples) (p .stripe) (p .line) u out in
+      let b = line-length (p .sheet) (listOf (p .planes)) (p .samples) (p .stripe) (p .line) u (replicate 32 7) in
+      let c : 32 ≤ length (lineInto (p .sheet) (listOf (p .planes)) (p .samples) (p .stripe) (p .line) u out) = omega arith in
+      let e : 32 ≤ length (lineInto (p .sheet) (listOf (p .planes)) (p .samples) (p .stripe) (p .line) u (replicate 32 7)) = omega arith in (
         one .0,
-        sym (four-take _ (p .x) 32 (omega arith) c) ∙ ap (λ (u : List ℕ). fourAt u (p .x)) (one .1) ∙ four-take _ (p .x) 32 (omega arith) e ∙ f,
+        sym (four-take _ (p .x) 32 (omega arith) c) ∙ ap (λ (l : List ℕ). fourAt l (p .x)) (one .1) ∙ four-take _ (p .x) 32 (omega arith) e ∙ f u,
       ),
 )
 
 pub pixels-hold : Each table
 unfolding octets16 octets32 joined encode judgeOf judge walk onStep stepOf keeps after after1 after2 after3 endOf records recordAt be16At be32At lineOf lineInto putAt findStripe planeAt layerRecord maskAt imageAt scale
 pixels-hold =
-    entry-holds pixel-a refl refl refl (lit< tt)
-    & entry-holds pixel-b refl refl refl (lit< tt)
-    & entry-holds pixel-c refl refl refl (lit< tt)
-    & entry-holds pixel-d refl refl refl (lit< tt)
-    & entry-holds pixel-e refl refl refl (lit< tt)
-    & entry-holds pixel-f refl refl refl (lit< tt)
-    & entry-holds pixel-g refl refl refl (lit< tt)
-    & entry-holds pixel-h refl refl refl (lit< tt)
-    & entry-holds pixel-i refl refl refl (lit< tt)
-    & entry-holds pixel-j refl refl refl (lit< tt)
+    entry-holds pixel-a refl refl (λ u. refl) (lit< tt)
+    & entry-holds pixel-b refl refl (λ u. refl) (lit< tt)
+    & entry-holds pixel-c refl refl (λ u. refl) (lit< tt)
+    & entry-holds pixel-d refl refl (λ u. refl) (lit< tt)
+    & entry-holds pixel-e refl refl (λ u. refl) (lit< tt)
+    & entry-holds pixel-f refl refl (λ u. refl) (lit< tt)
+    & entry-holds pixel-g refl refl (λ u. refl) (lit< tt)
+    & entry-holds pixel-h refl refl (λ u. refl) (lit< tt)
+    & entry-holds pixel-i refl refl (λ u. refl) (lit< tt)
+    & entry-holds pixel-j refl refl (λ u. refl) (lit< tt)
     & tt

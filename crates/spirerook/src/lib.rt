@@ -1,7 +1,8 @@
 // The calls that a viewer in C links (include/spirerook.h). Each is thin: it calls the library's function and reports its answer.
-ghost use Rattle.call_rules.specs.Calls.{JudgeCall, ReadCall, WriteCall, LineCall, DataCall};
+ghost use Rattle.call_rules.specs.Calls.{JudgeCall, ReadCall, WriteCall, LineUnseenCall, LineCall, DataCall};
 use answers_report::Report;
 use data_report::DataReport;
+use sheet_rules::Colour;
 
 #[no_mangle]
 pub extern "C" fn spirerook_judge(sheet: &[u8]) -> Report
@@ -39,7 +40,33 @@ pub extern "C" fn spirerook_line(
     ensures { λ r.
         ⌜ LineCall (now (sheet .entry)) (now (planes .entry)) (now (samples .entry)) stripe line (now (out .entry)) r (now (out .exit)) ⌝ }
 {
-    let a = line_compose::line_of(sheet, planes, samples, stripe, line, out);
+    let unseen = line_put::grey();
+    let a = line_compose::line_of(sheet, planes, samples, stripe, line, unseen, out);
+    answers_report::reported(a)
+}
+
+// The same, for those who choose the colour of unseen pixels.
+#[no_mangle]
+pub extern "C" fn spirerook_line_unseen(
+    sheet: &[u8],
+    planes: &[u8],
+    samples: &[u8],
+    stripe: u32,
+    line: u32,
+    u0: u8,
+    u1: u8,
+    u2: u8,
+    out: &mut [u8],
+) -> Report
+    ensures { λ r.
+        ⌜ LineUnseenCall (now (sheet .entry)) (now (planes .entry)) (now (samples .entry)) stripe line (record { c0 = u0; c1 = u1; c2 = u2 }) (now (out .entry)) r (now (out .exit)) ⌝ }
+{
+    let unseen = Colour {
+        c0: u0,
+        c1: u1,
+        c2: u2,
+    };
+    let a = line_compose::line_of(sheet, planes, samples, stripe, line, unseen, out);
     answers_report::reported(a)
 }
 

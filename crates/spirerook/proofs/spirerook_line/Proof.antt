@@ -3,6 +3,9 @@ use borrow.Author.Needs.{needs}
 use Rattle.spirerook.proofs.spirerook_line.Statement.{statement}
 use Rattle.spirerook.proofs.spirerook_line.Tie as tie
 
+grey-requires : tie.Need-grey-requires
+grey-requires c κs = search needs
+
 line-of-requires : tie.Need-line-of-requires
 line-of-requires c κs = search needs
 
@@ -17,4 +20,4 @@ returns c = search calls
 
 pub spirerook-line-spec : {M : Type 1} → statement M
 spirerook-line-spec =
-    tie.close (tie.spec line-of-requires reported-requires same-length returns)
+    tie.close (tie.spec grey-requires line-of-requires reported-requires same-length returns)

@@ -2,15 +2,15 @@ use Prim.Native.Nat.{_-_}
 use Rattle.picture_rules.specs.declared.MainPos.{MainPos}
 use Rattle.picture_rules.specs.Decide.{decide}
 use Rattle.line_pixel.specs.Rows.{rowStack}
-use Rattle.line_compose.proofs.Laws.{Painting, painting}
-use Rattle.line_compose.proofs.put_pixels.Statement.{statement}
-use Rattle.line_compose.proofs.put_pixels.Tie as tie
+use Rattle.line_put.proofs.Laws.{Painting, painting}
+use Rattle.line_put.proofs.put_pixels.Statement.{statement}
+use Rattle.line_put.proofs.put_pixels.Tie as tie
 
 abbrev Inv-loop : tie.InvT-loop
-Inv-loop out₀ s d rows pairs width x₀ out x = Painting out₀ (λ (i : MainPos). decide (rowStack s d rows i) pairs) width out x
+Inv-loop out₀ s d rows pairs width unseen x₀ out x = Painting unseen out₀ (λ (i : MainPos). decide (rowStack s d rows i) pairs) width out x
 
 abbrev μ-loop : tie.MeasureT-loop
-μ-loop out₀ s d rows pairs width x₀ out x = width - x
+μ-loop out₀ s d rows pairs width unseen x₀ out x = width - x
 
 loop-holds : tie.Need-loop-holds Inv-loop μ-loop
 loop-holds c = search painting

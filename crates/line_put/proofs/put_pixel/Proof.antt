@@ -1,8 +1,8 @@
 use native.Mathlib.Omega.{arith}
 use lib.ListN.{length-set}
-use Rattle.line_compose.proofs.Laws.{fours}
-use Rattle.line_compose.proofs.put_pixel.Statement.{statement}
-use Rattle.line_compose.proofs.put_pixel.Tie as tie
+use Rattle.line_put.proofs.Laws.{fours}
+use Rattle.line_put.proofs.put_pixel.Statement.{statement}
+use Rattle.line_put.proofs.put_pixel.Tie as tie
 
 enum-known-p : tie.Need-enum-known-p
 enum-known-p c = search fours
