@@ -5,6 +5,7 @@ most of the damage come from the generators that each call has for itself; here
 they are mixed, cut, and changed octet by octet without regard to what they mean.
 """
 
+import calls
 import data_random
 import line_random
 import page_making
@@ -51,8 +52,13 @@ def good_judge(rng):
     return (bytes(sheet_random.good_sheet(rng, stripes, None if stripes < 9 else 3)),)
 
 
+def and_unseen(make):
+    """The cases of a call's sibling, which is told the unseen colour behind all else."""
+    return lambda rng: (*make(rng), *line_random.some_unseen(rng))
+
+
 GOOD = {"read": good_read, "write": good_write, "line": good_line, "data": good_data,
-        "judge": good_judge}
+        "judge": good_judge, "line_unseen": and_unseen(good_line)}
 
 
 # Damaged cases
@@ -141,7 +147,7 @@ def damaged_judge(rng):
 
 
 DAMAGED = {"read": damaged_read, "write": damaged_write, "line": damaged_line,
-           "data": damaged_data, "judge": damaged_judge}
+           "data": damaged_data, "judge": damaged_judge, "line_unseen": and_unseen(damaged_line)}
 
 
 # Changes without regard to meaning
@@ -189,16 +195,16 @@ CHANGES = [change_octet, change_octet, change_octet, change_number, change_numbe
 
 def mutated(rng, name, case):
     """A case after one to four changes of its octets or its numbers."""
-    case = list(case)
+    call, case = calls.ALL[name], list(case)
     for _ in range(rng.choice([1, 1, 2, 4])):
         at = rng.randrange(len(case))
         if isinstance(case[at], int):
-            case[at] = rng.choice([case[at] + 1, max(0, case[at] - 1), *EDGES]) % 2 ** 32
+            case[at] = rng.choice([case[at] + 1, max(0, case[at] - 1), *EDGES]) % (
+                256 if at in call.small else 2 ** 32)
         elif case[at]:
             case[at] = bytes(rng.choice(CHANGES)(rng, bytearray(case[at])))
-    room = {"read": 1, "write": 2, "line": 3}.get(name)
-    if room is not None:
-        case[room] = min(case[room], MOST_ROOM)
+    if call.room is not None:
+        case[call.room] = min(case[call.room], MOST_ROOM)
     return tuple(case)
 
 
@@ -243,8 +249,9 @@ def every_length(call, case, size):
 
 def batches(call, rng, count, lengths):
     """(what, cases) of a call: `count` good ones and as many damaged, fewer changed without regard
-    to meaning and random; `lengths` small ones at every length."""
-    name = call.name
+    to meaning and random; `lengths` small ones at every length. A call that shares them has its
+    part."""
+    name, count = call.name, round(count * call.share)
     for k in range(lengths):
         case = small(rng, name)
         size = 28 * 3 if name == "read" else min(300, case[call.room] if call.room else 0)

@@ -19,11 +19,15 @@ def read_answers(program, cases):
 class Call:
     """A call: how its driver answers cases, and where what is in a case."""
 
-    def __init__(self, name, octets, room, sheet, many=reference_run.call_many):
+    def __init__(self, name, octets, room, sheet, many=reference_run.call_many, unseen=None,
+                 share=1):
         self.name, self.many = name, many
         self.octets = octets    # the places of octets in a case
         self.room = room        # the place of the room, or None
         self.sheet = sheet      # the place of the sheet, or None
+        # the places of numbers that are octets: of the unseen colour, from `unseen` on
+        self.small = () if unseen is None else range(unseen, unseen + 3)
+        self.share = share      # of the random cases of a call, where one has them with another
 
     def batches(self, cases):
         """The cases in runs of the driver, large ones alone: a run has only so much time."""
@@ -51,10 +55,31 @@ class Call:
 
 ALL = {call.name: call for call in (
     Call("read", (0,), 1, None, read_answers), Call("write", (0, 1), 2, 0),
-    Call("line", (0, 1, 2), 3, 0), Call("data", (0, 1, 2), None, 0), Call("judge", (0,), None, 0))}
+    Call("line", (0, 1, 2), 3, 0, share=0.5), Call("data", (0, 1, 2), None, 0),
+    Call("judge", (0,), None, 0), Call("line_unseen", (0, 1, 2), 3, 0, unseen=6, share=0.5))}
+# in the words of tests/driver/any_call.h
+NUMBERS = {name: k for k, name in enumerate(ALL)}
+MOST_NUMBERS = 5
 
 
-class Both:
+def told_numbers(numbers):
+    """The numbers that a call is told, and 0 for those that it has not."""
+    return [*numbers, *[0] * (MOST_NUMBERS - len(numbers))]
+
+
+class Answering:
+    """Whoever answers cases with their (answer, octets)s, and has a tally for what is wrong."""
+
+    def check(self, works):
+        """Cases whose answers are known: (what, case, (answer, octets)); answers them."""
+        answers = self.answers(lambda k: works[k][0], [case for _, case, _ in works])
+        for (told, _, due), got in zip(works, answers):
+            self.tally.check(got == due, "%s: %s is due, but the reference: %s"
+                             % (told, due[0], difference(due, got)))
+        return answers
+
+
+class Both(Answering):
     """The reference of a call, and beside it the library, if there is one."""
 
     def __init__(self, tally, call, name=None, flags=("-O2",), library=None, counted=None):
@@ -84,12 +109,21 @@ class Both:
             self.compared += len(cases)
         return answers
 
-    def check(self, works):
-        """Cases whose answers are known: (what, case, (answer, octets)); answers them."""
-        answers = self.answers(lambda k: works[k][0], [case for _, case, _ in works])
-        for (told, _, due), got in zip(works, answers):
-            self.tally.check(got == due, "%s: %s is due, but the reference: %s"
-                             % (told, due[0], difference(due, got)))
+
+class Siblings(Answering):
+    """Calls that differ in how many numbers they take: each case is for the one whose number of
+    parts it has, given as {parts: Both}."""
+
+    def __init__(self, tally, boths):
+        self.tally, self.boths = tally, boths
+
+    def answers(self, told, cases):
+        answers = [None] * len(cases)
+        for parts, both in self.boths.items():
+            own = [k for k, case in enumerate(cases) if len(case) == parts]
+            got = both.answers(lambda k, own=own: told(own[k]), [cases[k] for k in own])
+            for k, answer in zip(own, got):
+                answers[k] = answer
         return answers
 
 

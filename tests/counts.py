@@ -20,6 +20,7 @@ NAMES = ("Done", "Short", "BadMark", "BadLength", "BadVersion", "BadMode", "BadC
 # what each call can give, by the paper's orders of refusals
 GIVEN = {"read": (*range(14), 18), "write": (0, 1, 5, 13, 14, 16, 18),
          "line": (0, 13, 14, 15, 17), "data": (0, 1, 14, 17), "judge": (0, 14)}
+GIVEN["line_unseen"] = GIVEN["line"]
 LEAST_DONE, LEAST = 400, 40
 LEAST_OF = {18: 15}      # TooLong takes the most octets and tells the least
 
@@ -60,18 +61,19 @@ class Counts:
 
     def table(self):
         """A line a number, a column a call; `-` where a call cannot give the number."""
-        lines = ["%-14s" % "number" + "".join("%10s" % call for call in GIVEN)]
+        lines = ["%-14s" % "number" + "".join("%12s" % call for call in GIVEN)]
         for number, name in enumerate(NAMES):
             cells = [self.calls[call][number] if number in GIVEN[call] else "-" for call in GIVEN]
-            lines.append("%2d %-11s" % (number, name) + "".join("%10s" % cell for cell in cells))
+            lines.append("%2d %-11s" % (number, name) + "".join("%12s" % cell for cell in cells))
         sums = [sum(counter.values()) for counter in self.calls.values()]
-        return "\n".join(lines + ["%-14s" % "all" + "".join("%10d" % each for each in sums)])
+        return "\n".join(lines + ["%-14s" % "all" + "".join("%12d" % each for each in sums)])
 
-    def check(self, tally, calls):
-        """Enough of each number that a call can give, and none of the others."""
-        for call in calls:
+    def check(self, tally, shares):
+        """Enough of each number that a call can give, by its share of the random cases, and none of
+        the others."""
+        for call, share in shares.items():
             for number in GIVEN[call]:
-                least = LEAST_OF.get(number, LEAST) if number else LEAST_DONE
+                least = share * (LEAST_OF.get(number, LEAST) if number else LEAST_DONE)
                 tally.check(self.calls[call][number] >= least, "%s: %d cases of %s, fewer than %d"
                             % (call, self.calls[call][number], NAMES[number], least))
             others = set(self.calls[call]) - set(GIVEN[call])

@@ -13,9 +13,12 @@ import sheet_making
 
 ROOM = 200
 MAIN = 400
-NAMED = {"W": (255, 128, 96), "K": (0, 128, 96), "O": (0, 0, 0)}
+GREY = (128, 128, 96)       # what unseen pixels have where a call is told no other colour
+NAMED = {"W": (255, 128, 96), "K": (0, 128, 96), "O": (0, 0, 0), "G": GREY}
 HIGH = {"h": 128, "f": 255}
-UNSEEN = bytes(4)
+# unseen colours of every line: the one of old, so that its octets are those of old; and one of
+# three octets that differ, which no word of the table has
+ALWAYS = [(0, 0, 0), (1, 2, 3)]
 START, LENGTH = 1000, 10
 STRIPE = re.compile(r"(\d+)x(\d+)(?:x(\d+))?(?:@(\d+))?")
 CODED = re.compile(r"(\d+):(\d+)x(\d+)(?:\+(\d+)\+(\d+))?(?:@(\d+))?")
@@ -131,20 +134,31 @@ def read_of(words, stripe):
 
 # Lines
 
-def line_of(words):
+def unseen_pixel(unseen):
+    """The octets of an unseen pixel: the colour that the call is told, or None for grey."""
+    return bytes(GREY if unseen is None else unseen) + b"\0"
+
+
+def line_of(words, unseen=None):
     """The octets of the column `line`."""
     octets = bytearray()
     for word in words.split():
         times, _, name = word.rpartition("*")
-        octets += (UNSEEN if name == "." else colour(name) + b"\1") * int(times or 1)
+        octets += (unseen_pixel(unseen) if name == "." else colour(name) + b"\1") * int(times or 1)
     return bytes(octets)
+
+
+def with_unseen(case, unseen):
+    """A case of a call that is told the unseen colour, or of its sibling where it is None."""
+    return case if unseen is None else (*case, *unseen)
 
 
 class Case:
     """A line of the table: its number, name, what is lent, the call, the answer and the line."""
 
     def __init__(self, cells):
-        self.number, self.name, self.rule, sheet, read, call, changes, self.answer, line = cells
+        self.number, self.name, self.rule, sheet, read, call, changes, self.answer = cells[:8]
+        self.pixels = cells[8]
         stripes = stripes_of(sheet)
         self.stripe, self.line = map(int, call.split())
         named = stripes[self.stripe] if self.stripe < len(stripes) else None
@@ -153,7 +167,6 @@ class Case:
         self.room = ROOM
         for change in filter(None, (words.strip() for words in changes.split(";"))):
             self.change(change)
-        self.due = line_of(line)
 
     def change(self, words):
         verb, _, rest = words.partition(" ")
@@ -165,15 +178,32 @@ class Case:
         else:
             self.sheet = sheet_making.changed(self.sheet, words)
 
-    def work(self):
-        """(sheet, planes, samples, room, stripe, line)"""
-        return (bytes(self.sheet), bytes(self.planes), bytes(self.samples), self.room,
-                self.stripe, self.line)
+    def work(self, unseen=None):
+        """(sheet, planes, samples, room, stripe, line), and the unseen colour where one is told"""
+        return with_unseen((bytes(self.sheet), bytes(self.planes), bytes(self.samples), self.room,
+                            self.stripe, self.line), unseen)
+
+    def due(self, unseen=None):
+        """(answer, line)"""
+        return self.answer, line_of(self.pixels, unseen)
+
+    def unseens(self):
+        """The unseen colours that the line is tried with, None for grey untold; among them that of
+        its first seen pixel, if it has one."""
+        line = self.due()[1]
+        seen = [tuple(line[at:at + 3]) for at in range(0, len(line), 4) if line[at + 3]]
+        return list(dict.fromkeys([None, *ALWAYS, *seen[:1]]))
+
+    def asked(self, unseen):
+        """(what, case, (answer, line))"""
+        what = self.told() + ("" if unseen is None else ", unseen %d %d %d" % unseen)
+        return what, self.work(unseen), self.due(unseen)
 
     def is_told(self):
         """The line has the octets that the answer counts; a refusal has none."""
-        return self.answer == "done %d" % len(self.due) or (
-            self.answer.startswith("refused ") and not self.due)
+        octets = len(self.due()[1])
+        return self.answer == "done %d" % octets or (
+            self.answer.startswith("refused ") and not octets)
 
     def told(self):
         return "line %s, %s: %s" % (self.number, self.name, self.answer)

@@ -5,17 +5,31 @@ choice of the unread bits can show are collected, and a pixel is seen where they
 have one known colour. The reference tries contents from the lowest layer up.
 """
 
-from line_making import UNSEEN, Stripe, entry
+from line_making import GREY, Stripe, entry, unseen_pixel, with_unseen
 from sheet_random import CHOICES, LISTED
 
 WIDEST = 40
 WIDER = 600          # now and then
 HIGHER = [256, 300, 32768, 65535]
 SIZES = [3, 3, 5, 5, 7, 9, 11, 13, 15, 15]
-# few colours, so that sides agree often; some differ in one octet only
-COLOURS = [bytes(c) for c in ((255, 128, 96), (0, 128, 96), (0, 0, 0), (0, 128, 97), (0, 129, 96))]
+# few colours, so that sides agree often; some differ in one octet only; that of unseen pixels is
+# one as any other
+COLOURS = [bytes(c) for c in ((255, 128, 96), (0, 128, 96), (0, 0, 0), (0, 128, 97), (0, 129, 96),
+                              GREY)]
 ONES = [1, 1, 1, 2, 128, 255]
 HALF_ONES = ONES + [0] * len(ONES)
+
+
+def some_unseen(rng, seen=()):
+    """An unseen colour: that of old, the grey, one that pixels of the line have, or any."""
+    told = [(0, 0, 0), GREY, (255, 255, 255), tuple(rng.randrange(256) for _ in range(3)),
+            tuple(rng.choices([0, 1, 127, 128, 255], k=3))]
+    return rng.choice(told + [tuple(rng.choice(seen or COLOURS)) for _ in told])
+
+
+def maybe_unseen(rng, seen=()):
+    """The unseen colour of one call in two; the other is not told any."""
+    return rng.choice([None, some_unseen(rng, seen)])
 
 
 # Sheets
@@ -87,10 +101,13 @@ def layer_size(stripe, layer):
 
 
 class Work:
-    """A call: its stripes, the entries of its plane list, samples, stripe, line and room."""
+    """A call: its stripes, the entries of its plane list, samples, stripe, line and room; and the
+    unseen colour, where it is told one."""
+
+    unseen = None
 
     def __init__(self, rng):
-        main, self.colours = rng.choice(LISTED), rng.sample(COLOURS, rng.choice([1, 2, 2, 3, 5]))
+        main, self.colours = rng.choice(LISTED), rng.sample(COLOURS, rng.choice([1, 2, 2, 3, 6]))
         width = rng.choice([1, 2, rng.randint(1, WIDEST), WIDEST])
         if rng.random() < 0.03:
             width = rng.randint(WIDEST, WIDER)
@@ -135,17 +152,22 @@ class Work:
 
     def call(self, **changes):
         """What the driver is given: sheet, planes, samples, room, stripe and line, some of it
-        changed."""
+        changed; and the unseen colour."""
         own = {"sheet": self.sheet, "planes": self.plane_octets(), "samples": bytes(self.samples),
                "room": self.room, "stripe": self.number, "line": self.line}
         assert set(changes) <= set(own)
-        return tuple({**own, **changes}.values())
+        return with_unseen(tuple({**own, **changes}.values()), self.unseen)
 
     def due(self):
         """The answer and the line to the call as it is."""
-        stripe = self.named()
-        line = b"".join(self.pixel(stripe, x) for x in range(stripe.width))
+        line = b"".join(unseen_pixel(self.unseen) if colour is None else colour + b"\1"
+                        for colour in self.colours_shown())
         return "done %d" % len(line), line
+
+    def colours_shown(self):
+        """The colour of each pixel, None where it is unseen."""
+        stripe = self.named()
+        return [self.colour_shown(stripe, x) for x in range(stripe.width)]
 
     def value(self, stripe, layer, x):
         """A mask's bit, an image layer's colour, or None where it is not known."""
@@ -163,7 +185,7 @@ class Work:
         octets = bytes(self.samples[at:at + size])
         return int(octets != b"\0") if mask else octets
 
-    def pixel(self, stripe, x):
+    def colour_shown(self, stripe, x):
         """From the top: below a mask that is known to be 1 nothing shows."""
         shown = set()
         for mask in range(len(stripe.layers) - 1, 0, -2):
@@ -174,7 +196,7 @@ class Work:
                 break
         else:
             shown.add(self.value(stripe, 1, x))
-        return UNSEEN if len(shown) > 1 or None in shown else shown.pop() + b"\1"
+        return shown.pop() if len(shown) == 1 else None
 
 
 # Damage of a plane list: each gives other entries (layer, start) and samples; some stay good

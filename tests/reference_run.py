@@ -84,20 +84,21 @@ def exported(path):
 
 
 def build_library_driver(tally, name="read", driver=None):
-    """The driver of a call over the library, or None; `driver` names other files than its own.
+    """The driver of a call over the library, or None. `driver` names other files than its own, for
+    several calls.
 
     Only while crates.txt lists no crate of the library may its archive be
     missing: then the tests run on the reference alone, and say so.
     """
-    call, path = "spirerook_" + name.split("_")[0], archive()
+    path = archive()
     if not os.path.exists(path):
         if os.environ.get("LIBRARY") or library_is_listed():
             tally.check(False, "no %s: make it first" % os.path.relpath(path, ROOT))
         else:
             print("the library is not tried: crates.txt lists no crate 'spirerook' yet")
         return None
-    if call not in exported(path):
-        tally.check(False, "%s exports no %s" % (os.path.relpath(path, ROOT), call))
+    if driver is None and "spirerook_" + name not in exported(path):
+        tally.check(False, "%s exports no spirerook_%s" % (os.path.relpath(path, ROOT), name))
         return None
     return build("library_" + name, parts=(driver or driver_of(name)) + (path,))
 

@@ -77,7 +77,7 @@ def main():
         check_call(both, random.Random(seed + k))
         check_misuse(tally, both.reference)
     check_kept(tally, boths)
-    tried = [name for name, both in boths.items() if both.library is not None]
+    tried = {name: both.call.share for name, both in boths.items() if both.library is not None}
     print("cases of this test, by the reference's answer:\n" + own.table())
     own.check(tally, tried)
     if tried:

@@ -18,7 +18,7 @@
 
 #include "answers.h"
 
-enum { MOST_PARTS = 3, MOST_NUMBERS = 2 };
+enum { MOST_PARTS = 3, MOST_NUMBERS = 5 };
 
 /* Octets to be lent for reading. */
 struct part {

@@ -1,6 +1,5 @@
-/* Composes lines (drive.h): the sheet, the plane list, the samples, the room, the stripe and the
- * line. */
-#include "drive.h"
+/* Composes lines (lines.h) by spirerook_line. */
+#include "lines.h"
 
 static spirerook_part make(const struct work *work, const struct loan *lent)
 {
@@ -10,39 +9,19 @@ static spirerook_part make(const struct work *work, const struct loan *lent)
                                   lent->buffer, work->room));
 }
 
-static size_t most_place(const struct work *work, uint32_t number)
-{
-    return number == SPIREROOK_BAD_SHEET   ? records_of(work)
-           : number == SPIREROOK_BAD_PLANE ? work->parts[1].size / SPIREROOK_PLANE_OCTETS
-                                           : 0;
-}
-
-/* "the colour and 1 for seen, or 0 0 0 0 for unseen" */
 static const char *bad_result(const struct work *work, spirerook_part answer, const uint8_t *result)
 {
+    static const uint8_t unseen[COLOUR_OCTETS] = {SPIREROOK_UNSEEN};
     (void)work;
-    for (size_t at = 0; at + 4 <= answer.count; at += 4) {
-        const uint8_t *pixel = result + at;
-        bool unseen = pixel[0] == 0 && pixel[1] == 0 && pixel[2] == 0 && pixel[3] == 0;
-        if (!unseen && pixel[3] != 1) {
-            return "a fourth octet of no pixel";
-        }
-    }
-    return answer.count % 4 == 0 ? NULL : "a part of a pixel";
+    return bad_pixels(result, answer.count, unseen);
 }
 
 int main(int arguments, char **words)
 {
-    static const struct driver driver = {.name = "line",
-                                         .parts = 3,
-                                         .numbers = 2,
-                                         .has_buffer = true,
-                                         .unit = 1,
-                                         .times = 3,
-                                         .gives = GIVES(DONE) | GIVES(NO_ROOM) | GIVES(BAD_SHEET) |
-                                                  GIVES(BAD_PLANE) | GIVES(BAD_LINE),
-                                         .make = make,
-                                         .most_place = most_place,
-                                         .bad_result = bad_result};
+    struct driver driver = driver_of_lines();
+    driver.name = "line";
+    driver.numbers = LINE_NUMBERS;
+    driver.make = make;
+    driver.bad_result = bad_result;
     return drive(&driver, arguments, words);
 }

@@ -23,15 +23,36 @@ spirerook_answer spirerook_write(const uint8_t *sheet, size_t sheet_len, const u
     return told;
 }
 
+static spirerook_answer compose(const struct reference_line_call *call, uint8_t *out,
+                                size_t out_len)
+{
+    struct reference_answer composed = reference_line(call, out, out_len);
+    spirerook_answer line = {composed.number, composed.place, composed.count};
+    return line;
+}
+
+/* "The default colour of an unseen pixel becomes 128 128 96" */
 spirerook_answer spirerook_line(const uint8_t *sheet, size_t sheet_len, const uint8_t *planes,
                                 size_t planes_len, const uint8_t *samples, size_t samples_len,
                                 uint32_t stripe, uint32_t line, uint8_t *out, size_t out_len)
 {
-    const struct reference_line_call call = {sheet,   sheet_len,   planes, planes_len,
-                                             samples, samples_len, stripe, line};
-    struct reference_answer composed = reference_line(&call, out, out_len);
-    spirerook_answer shown = {composed.number, composed.place, composed.count};
+    const struct reference_line_call call = {sheet,       sheet_len, planes, planes_len,    samples,
+                                             samples_len, stripe,    line,   {128, 128, 96}};
+    spirerook_answer shown = compose(&call, out, out_len);
     return shown;
+}
+
+/* "a sibling call takes the unseen colour as three octets" */
+spirerook_answer spirerook_line_unseen(const uint8_t *sheet, size_t sheet_len,
+                                       const uint8_t *planes, size_t planes_len,
+                                       const uint8_t *samples, size_t samples_len, uint32_t stripe,
+                                       uint32_t line, uint8_t u0, uint8_t u1, uint8_t u2,
+                                       uint8_t *out, size_t out_len)
+{
+    const struct reference_line_call call = {sheet,       sheet_len, planes, planes_len,  samples,
+                                             samples_len, stripe,    line,   {u0, u1, u2}};
+    spirerook_answer given = compose(&call, out, out_len);
+    return given;
 }
 
 /* "Done has place 0 and returns the records"; "a refusal returns 0 of them". */

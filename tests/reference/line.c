@@ -303,10 +303,12 @@ static bool is_seen(struct pixel *pixel, uint32_t *colour)
     return true;
 }
 
-/* "the colour and 1 for seen, or 0 0 0 0 for unseen" */
-static void put_pixel(uint8_t *octets, bool seen, uint32_t colour)
+/* "the colour and 1 for seen"; an unseen pixel has the unseen colour, "its mark
+ * still 0".  Nothing else depends on that colour, so that a seen pixel may have
+ * it too. */
+static void put_pixel(uint8_t *octets, bool seen, uint32_t colour, uint32_t unseen)
 {
-    uint32_t shown = seen ? colour : 0;
+    uint32_t shown = seen ? colour : unseen;
     octets[0] = (uint8_t)(shown / 65536);
     octets[1] = (uint8_t)(shown / 256 % 256);
     octets[2] = (uint8_t)(shown % 256);
@@ -343,11 +345,12 @@ struct reference_answer reference_line(const struct reference_line_call *call, u
     if (out_octets < size) {
         return refusal(NO_ROOM, 0);
     }
+    uint32_t unseen = colour_of(call->unseen[0], call->unseen[1], call->unseen[2]);
     for (uint64_t x = 0; x < work.record[2].width; x++) {
         uint32_t colour;
         struct pixel pixel = pixel_at(&work, x);
         bool seen = is_seen(&pixel, &colour);
-        put_pixel(out + x * PIXEL_OCTETS, seen, colour);
+        put_pixel(out + x * PIXEL_OCTETS, seen, colour, unseen);
     }
     struct reference_answer answer = {DONE, 0, size};
     return answer;

@@ -2,14 +2,17 @@
  *
  * This is a yardstick for the proved library: it shares no code with it, is
  * written in the paper's words and order and takes its time.  Words in
- * quotation marks are the paper's own. */
+ * quotation marks are the paper's own, or those of request 2026-01, "Grey where
+ * we cannot see", where they speak of an unseen colour. */
 #ifndef REFERENCE_LINE_H
 #define REFERENCE_LINE_H
 
 #include "page.h"
 
-/* What a line call is lent, and which line it names: "a stripe and a line of
- * that stripe, from 0". */
+enum { COLOUR_OCTETS = 3 }; /* "A colour is three CIELAB code octets" */
+
+/* What a line call is lent, which line it names: "a stripe and a line of that
+ * stripe, from 0"; and "the unseen colour as three octets". */
 struct reference_line_call {
     const uint8_t *sheet;
     size_t sheet_octets;
@@ -18,6 +21,7 @@ struct reference_line_call {
     const uint8_t *samples;
     size_t sample_octets;
     uint32_t stripe, line;
+    uint8_t unseen[COLOUR_OCTETS];
 };
 
 /* Done: `out` begins with the octets counted, four a pixel of the page's width.
