@@ -8,6 +8,7 @@ the reference and of the library.
 import os
 import sys
 
+import calls
 import data_making
 import line_making
 import reference_run
@@ -17,15 +18,15 @@ from page_making import MASK, big, start, stripe
 TOP = 2 ** 32
 DRIVER = ("console.c", os.path.join(reference_run.DRIVER, "far.c"))
 PAGE = start() + stripe() + MASK + b"\xff\xd9\xff\xd9"
-READ, WRITE, LINE, DATA, JUDGE = range(5)
+UNSEEN = (1, 2, 3)
 
 
-def words(which, parts, room=0, numbers=(0, 0), shown=0):
+def words(name, parts, room=0, numbers=(0, 0), shown=0):
     """A call as the driver reads it; a part is its octets, or its octets and its length."""
     parts = [part if isinstance(part, tuple) else (part, len(part)) for part in parts]
     parts += [(b"", 0)] * (3 - len(parts))
-    told = [which, *(size for _, size in parts), *(len(octets) for octets, _ in parts), room,
-            *numbers, shown]
+    told = [calls.NUMBERS[name], *(size for _, size in parts), *(len(octets) for octets, _ in parts),
+            room, shown, *calls.told_numbers(numbers)]
     return b"".join(big(n, 8) for n in told) + b"".join(octets for octets, _ in parts)
 
 
@@ -35,10 +36,10 @@ def read_calls():
         sheet[28 * layer + 14:28 * layer + 17] = bytes(base)
     sheet[31] = 4
     for size in (TOP, TOP + len(PAGE), TOP + 16777215):
-        yield "a page of %d octets" % size, words(READ, [(PAGE, size)], 84, shown=84), (
+        yield "a page of %d octets" % size, words("read", [(PAGE, size)], 84, shown=84), (
             "18 0 0 0 0 " + "00" * 84)
     for room in (TOP, TOP + 1, TOP + 84):
-        yield "a page in room %d" % room, words(READ, [PAGE], room, shown=85), (
+        yield "a page in room %d" % room, words("read", [PAGE], room, shown=85), (
             "0 0 3 0 0 " + sheet.hex() + "00")
 
 
@@ -47,32 +48,38 @@ def write_calls():
     page = bytes(write_making.octets_of("start w7 end"))
     due = "0 0 %d 0 0 %s" % (len(page), page.hex())
     for size in (TOP, TOP + 1, TOP + 93):
-        yield "data of %d octets" % size, words(WRITE, [sheet, (data, size)], len(page),
+        yield "data of %d octets" % size, words("write", [sheet, (data, size)], len(page),
                                                 shown=len(page)), due
-        yield "a page in room %d" % size, words(WRITE, [sheet, data], size, shown=len(page)), due
+        yield "a page in room %d" % size, words("write", [sheet, data], size, shown=len(page)), due
         # the record behind the sheet is all zeros: stripe 0, layer 0
-        yield "a sheet of %d octets" % size, words(WRITE, [(sheet, size), data], 200), "14 3 0 0 0 "
+        yield "a sheet of %d octets" % size, words("write", [(sheet, size), data], 200), "14 3 0 0 0 "
 
 
-def line_calls():
+def line_calls(name, unseen):
     stripe_of_4 = line_making.stripes_of("4x1 2 1=W 3=K")[0]
     sheet, planes = bytes(stripe_of_4.records(0)), line_making.entry(2, 0)
-    samples, line = b"\1\0\0\1", line_making.line_of("K W W K")
-    due = "0 0 16 0 0 " + line.hex()
+    samples, numbers = b"\1\0\0\1", line_making.with_unseen((0, 0), unseen)
+
+    def line(parts, room, due):
+        """The call, and what is due: a line in the words of its table, or a refusal."""
+        if due[0].isdigit():
+            return words(name, parts, room, numbers), due
+        return words(name, parts, room, numbers, 16), (
+            "0 0 16 0 0 " + line_making.line_of(due, unseen).hex())
+
     for size in (TOP, TOP + 3, TOP + 16):
-        yield "a line in room %d" % size, words(LINE, [sheet, planes, samples], size,
-                                                shown=16), due
-        yield "samples of %d octets" % size, words(LINE, [sheet, planes, (samples, size)], 16,
-                                                   shown=16), due
+        yield "%s in room %d" % (name, size), *line([sheet, planes, samples], size, "K W W K")
+        yield "%s, unseen, in room %d" % (name, size), *line([sheet], size, ". . . .")
+        yield "%s, samples of %d octets" % (name, size), *line(
+            [sheet, planes, (samples, size)], 16, "K W W K")
         # the second entry names layer 0
-        yield "a plane list of %d octets" % size, words(
-            LINE, [sheet, (planes, size), samples], 16), "15 1 0 0 0 "
-        yield "a sheet of %d octets" % size, words(
-            LINE, [(sheet, size), planes, samples], 16), "14 3 0 0 0 "
+        yield "%s, a plane list of %d octets" % (name, size), *line(
+            [sheet, (planes, size), samples], 16, "15 1 0 0 0 ")
+        yield "%s, a sheet of %d octets" % (name, size), *line(
+            [(sheet, size), planes, samples], 16, "14 3 0 0 0 ")
     last = line_making.entry(2, TOP - 4)
-    yield "the last samples before 2^32", words(LINE, [sheet, last, (b"", TOP)], 16, shown=16), (
-        "0 0 16 0 0 " + line_making.line_of("W W W W").hex())
-    yield "an octet less", words(LINE, [sheet, last, (b"", TOP - 1)], 16), "15 0 0 0 0 "
+    yield name + ", the last samples before 2^32", *line([sheet, last, (b"", TOP)], 16, "W W W W")
+    yield name + ", an octet less", *line([sheet, last, (b"", TOP - 1)], 16, "15 0 0 0 0 ")
 
 
 def data_calls():
@@ -81,27 +88,28 @@ def data_calls():
                                        % ((start_of, length) * 2)))
     done = "0 0 %d %%d %d " % (length, start_of)
     for size in (TOP - 1, TOP, TOP + 1, TOP + start_of):
-        yield "a page of %d octets" % size, words(DATA, [sheet, (b"", size)],
+        yield "a page of %d octets" % size, words("data", [sheet, (b"", size)],
                                                   numbers=(0, 2)), done % 0
-        yield "a pencil file of %d octets" % size, words(DATA, [sheet, b"", (b"", size)],
+        yield "a pencil file of %d octets" % size, words("data", [sheet, b"", (b"", size)],
                                                          numbers=(0, 4)), done % 1
         yield "a page of %d octets and no pencil file" % size, words(
-            DATA, [sheet, (b"", size)], numbers=(0, 4)), "1 3 0 0 0 "
+            "data", [sheet, (b"", size)], numbers=(0, 4)), "1 3 0 0 0 "
         yield "a sheet behind which %d octets are 0" % size, words(
-            DATA, [(sheet, size), b"", b""], numbers=(0, 2)), "14 5 0 0 0 "
-    yield "a page that ends an octet early", words(DATA, [sheet, (b"", TOP - 2)],
+            "data", [(sheet, size), b"", b""], numbers=(0, 2)), "14 5 0 0 0 "
+    yield "a page that ends an octet early", words("data", [sheet, (b"", TOP - 2)],
                                                    numbers=(0, 2)), "1 1 0 0 0 "
 
 
 def judge_calls():
     sheet = bytes(data_making.sheet_of("6x2x5 2"))
-    yield "a good sheet", words(JUDGE, [sheet]), "0 0 5 0 0 "
+    yield "a good sheet", words("judge", [sheet]), "0 0 5 0 0 "
     for size in (TOP, TOP + 1, TOP + 140):
-        yield "a sheet of %d octets" % size, words(JUDGE, [(sheet, size)]), "14 5 0 0 0 "
+        yield "a sheet of %d octets" % size, words("judge", [(sheet, size)]), "14 5 0 0 0 "
 
 
 def check(tally, told, program):
-    works = [*read_calls(), *write_calls(), *line_calls(), *data_calls(), *judge_calls()]
+    works = [*read_calls(), *write_calls(), *line_calls("line", None),
+             *line_calls("line_unseen", UNSEEN), *data_calls(), *judge_calls()]
     printed, wrong, signal = reference_run.ended(program, b"".join(each[1] for each in works),
                                                  ["many"])
     lines = printed.decode("ascii", "replace").split("\n")[:-1]

@@ -11,9 +11,10 @@ import random
 import subprocess
 import sys
 
+import calls
 import reference_run
 import test_limits
-from line_making import Stripe, entry
+from line_making import Stripe, entry, with_unseen
 from line_random import Work
 from page_making import big
 from test_limits import in_stack
@@ -24,6 +25,8 @@ LARGEST = 65535
 TOP = 2 ** 32
 RESOLUTIONS = [1200, 600, 400, 300, 200, 100]
 COLOURS = [bytes((255, 128, 96)), bytes((0, 128, 96)), bytes((1, 2, 3))]
+# the unseen colour that each call is told; seen pixels have it too
+UNSEEN = {"line": None, "line_unseen": tuple(COLOURS[2])}
 
 
 # Wide lines of many layers
@@ -39,6 +42,12 @@ class Wide(Work):
         self.number, self.line, self.room = number, 0, 4 * WIDEST
         for layer in read:
             self.read(rng, layer)
+        self.shown = None
+
+    def colours_shown(self):
+        """Worked out once, for it takes its time and nothing changes."""
+        self.shown = self.shown or super().colours_shown()
+        return self.shown
 
     @staticmethod
     def stripe(rng, height):
@@ -54,28 +63,40 @@ class Wide(Work):
         return stripe
 
 
-def wide_calls(rng):
-    """(name, call, due) of lines 32,768 pixels wide; the reference takes a second and more to
-    judge 960 records, so that few calls have them"""
-    for name, number, read, stripes in [
-            ("all read", 63, range(1, 16), 64), ("all read of one stripe", 0, range(1, 16), 1),
-            ("some read", 0, [1, 3, 5, 7, 10, 11, 12, 13, 14, 15], 2),
-            ("images read", 0, range(1, 16, 2), 1), ("nothing read", 31, [], 64)]:
-        work = Wide(rng, number, read, stripes)
-        yield "the widest line, " + name, work.call(), work.due()
+def largest_calls(rng):
+    """(name, call, due) of lines 32,768 pixels wide and 960 records; the reference takes a second
+    and more to judge these, so that only one call has them"""
+    for name, number, read in (("all read", 63, range(1, 16)), ("nothing read", 31, [])):
+        work = Wide(rng, number, read)
+        yield "the widest line of 64 stripes, " + name, work.call(), work.due()
     late = work.sheet[:-1] + b"\1"
     yield "a fault in the last of 960 records", work.call(sheet=late), ("refused 14 959", b"")
     more = work.sheet + work.sheet[-28:]
     yield "961 records", work.call(sheet=more), ("refused 14 960", b"")
-    work = Wide(rng, 1, range(1, 16), 2)
-    yield "the widest line, an octet less", work.call(room=work.room - 1), ("refused 13 0", b"")
-    yield "line 65,472 of a stripe", work.call(stripe=0, line=65472), ("refused 17 0", b"")
-    planes = work.plane_octets() + entry(16, 0) * 200000
-    yield "200,015 entries", work.call(planes=planes), ("refused 15 15", b"")
-    yield "a megabyte of entry 0", work.call(planes=bytes(2 ** 20)), ("refused 15 0", b"")
+
+
+def wide_works(rng):
+    """(name, Wide) of few records"""
+    for name, read, stripes in [
+            ("all read", range(1, 16), 1), ("nothing read", [], 1), ("images read", range(1, 16, 2), 1),
+            ("some read", [1, 3, 5, 7, 10, 11, 12, 13, 14, 15], 2)]:
+        yield "the widest line, " + name, Wide(rng, 0, read, stripes)
+
+
+def wide_calls(works, beside, unseen):
+    """(name, call, due) of lines 32,768 pixels wide, and refusals beside one of them"""
+    for work in (beside, *(work for _, work in works)):
+        work.unseen = unseen
+    for name, work in works:
+        yield name, work.call(), work.due()
+    yield "the widest line, an octet less", beside.call(room=beside.room - 1), ("refused 13 0", b"")
+    yield "line 65,472 of a stripe", beside.call(stripe=0, line=65472), ("refused 17 0", b"")
+    planes = beside.plane_octets() + entry(16, 0) * 200000
+    yield "200,015 entries", beside.call(planes=planes), ("refused 15 15", b"")
+    yield "a megabyte of entry 0", beside.call(planes=bytes(2 ** 20)), ("refused 15 0", b"")
     # each is composed with a null pointer for no octets too
-    yield "nothing at all", (b"", b"", b"", 0, 0, 0), ("refused 14 0", b"")
-    yield "no planes, samples and room", work.call(planes=b"", samples=b"", room=0), (
+    yield "nothing at all", with_unseen((b"", b"", b"", 0, 0, 0), unseen), ("refused 14 0", b"")
+    yield "no planes, samples and room", beside.call(planes=b"", samples=b"", room=0), (
         "refused 13 0", b"")
 
 
@@ -92,7 +113,7 @@ def far_stripe(width, layer, resolution=1200, x=0, y=0, size=LARGEST):
     return stripe
 
 
-def far_octets(stripe, layer, line, start, lacking=0):
+def far_octets(name, stripe, layer, line, start, lacking=0):
     """A call of line_far and what it prints. Every seventh sample of the line's row is told."""
     fields, step = stripe.layers[layer], 1 if layer == 4 else 3
     k = 1200 // fields["resolution"]
@@ -113,8 +134,9 @@ def far_octets(stripe, layer, line, start, lacking=0):
             pixels.append(sample if inside else bytes(fields["colour"]))
     sheet, planes = bytes(stripe.records(0)), entry(layer, start)
     told = told if not lacking else {}
-    numbers = (len(sheet), len(planes), start + size - lacking, 4 * stripe.width, 0, line,
-               len(told))
+    numbers = (calls.NUMBERS[name], len(sheet), len(planes), start + size - lacking,
+               4 * stripe.width, len(told),
+               *calls.told_numbers(with_unseen((0, line), UNSEEN[name])))
     words = (b"".join(big(n, 8) for n in numbers) + sheet + planes
              + b"".join(big(at, 8) + bytes([octet]) for at, octet in told.items()))
     line_due = b"".join(pixel + b"\1" for pixel in pixels)
@@ -128,17 +150,21 @@ def far_calls():
         # rows before and behind 2^31 and 2^32 octets, and the last
         for line in (0, 1, 10922, 10923, 21845, 21846, 32768, 32769, 43690, 65534):
             yield ("layer %d, line %d, from 2^32 - 1" % (layer, line),
-                   *far_octets(stripe, layer, line, TOP - 1))
-        yield "layer %d from 0, the last line" % layer, *far_octets(stripe, layer, 65534, 0)
-        yield "layer %d from 5, the last line" % layer, *far_octets(stripe, layer, 65534, 5)
-        yield "layer %d, an octet less" % layer, *far_octets(stripe, layer, 65534, TOP - 1, 1)
-        yield ("layer %d, 2^32 octets less" % layer,
-               *far_octets(stripe, layer, 65534, TOP - 1, TOP))
-        scaled = far_stripe(300, layer, 100, 17, 5)
-        yield "layer %d at 100" % layer, *far_octets(scaled, layer, 65534, TOP - 2)
-        yield "layer %d at 100, line 4" % layer, *far_octets(scaled, layer, 4, TOP - 2)
+                   *far_octets("line", stripe, layer, line, TOP - 1))
+        yield "layer %d from 0, the last line" % layer, *far_octets("line", stripe, layer, 65534, 0)
+        yield "layer %d, an octet less" % layer, *far_octets("line", stripe, layer, 65534, TOP - 1, 1)
+        for name in UNSEEN:
+            yield ("%s, layer %d from 5, the last line" % (name, layer),
+                   *far_octets(name, stripe, layer, 65534, 5))
+            yield ("%s, layer %d, 2^32 octets less" % (name, layer),
+                   *far_octets(name, stripe, layer, 65534, TOP - 1, TOP))
+            scaled = far_stripe(300, layer, 100, 17, 5)
+            yield ("%s, layer %d at 100" % (name, layer),
+                   *far_octets(name, scaled, layer, 65534, TOP - 2))
+            yield ("%s, layer %d at 100, line 4" % (name, layer),
+                   *far_octets(name, scaled, layer, 4, TOP - 2))
     widest = far_stripe(WIDEST, 1, 1200, 3, 0)
-    yield "layer 1 across the widest page", *far_octets(widest, 1, 65534, TOP - 7)
+    yield "layer 1 across the widest page", *far_octets("line", widest, 1, 65534, TOP - 7)
 
 
 # In a small stack
@@ -150,37 +176,42 @@ def printed(program, stack, words):
         return b"no end after %d seconds" % reference_run.SECONDS
 
 
-def check_composer(tally, told, program, far, calls):
+def check_composer(tally, told, program, wide):
     stack = test_limits.least_stack(program) + STACK
-    for name, call, (answer, line) in calls:
+    for name, call, (answer, line) in wide:
         got = printed(program, stack, reference_run.words(*call))
         tally.check(got == answer.encode() + b"\n" + line + b".\n",
                     "%s: %s: %s is due, but it says %s" % (told, name, answer, got[:40]))
-    without = 0
+    print("%s: %d calls in a stack of %d KiB" % (told, len(wide), stack))
+
+
+def check_far(tally, told, program):
+    stack, without = test_limits.least_stack(program) + STACK, 0
     for name, words, due in far_calls():
-        got = printed(far, stack, words)
+        got = printed(program, stack, words)
         if got == b"no memory\n.\n":
             without += 1
         else:
             tally.check(got == due + b".\n", "%s: %s: %s is due, but it says %s"
                         % (told, name, due[:40], got[:40]))
-    print("%s: %d calls in a stack of %d KiB" % (told, len(calls), stack))
     if without:
         print("%s: %d calls are not tried, no memory for their samples" % (told, without))
 
 
 def main():
-    tally = reference_run.Tally()
-    calls = list(wide_calls(random.Random(1)))
-    far = reference_run.build("reference_line_far",
-                              parts=reference_run.CALLS + reference_run.FAR_DRIVER)
-    check_composer(tally, "the reference",
-                   reference_run.build("reference_line_plain", parts=reference_run.parts_of("line")), far,
-                   calls)
-    library = reference_run.build_library_driver(tally, "line")
-    if library is not None:
-        far = reference_run.build_library_driver(tally, "line_far", reference_run.FAR_DRIVER)
-        check_composer(tally, "the library", library, far, calls)
+    tally, rng = reference_run.Tally(), random.Random(1)
+    works, beside = list(wide_works(rng)), Wide(rng, 1, range(1, 16), 2)
+    for name, unseen in UNSEEN.items():
+        wide = [*wide_calls(works, beside, unseen), *(largest_calls(rng) if unseen is None else ())]
+        both = calls.Both(tally, calls.ALL[name])
+        check_composer(tally, "the reference's " + name, both.reference, wide)
+        if both.library is not None:
+            check_composer(tally, "the library's " + name, both.library, wide)
+    check_far(tally, "the reference", reference_run.build(
+        "reference_line_far", parts=reference_run.CALLS + reference_run.FAR_DRIVER))
+    far = reference_run.build_library_driver(tally, "line_far", reference_run.FAR_DRIVER)
+    if far is not None:
+        check_far(tally, "the library", far)
     return tally.end()
 
 

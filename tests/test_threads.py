@@ -21,7 +21,6 @@ from page_making import ROOM
 from write_random import page_of, rows_of, sheet_of
 
 DRIVER = ("console.c", os.path.join(reference_run.DRIVER, "threads.c"))
-NUMBERS = {name: k for k, name in enumerate(calls.ALL)}
 RANDOM = 6           # more of each call, good and damaged
 STRIPES = 64 * "6x2x15 all "
 
@@ -33,8 +32,8 @@ def words(name, case):
     numbers = [part for at, part in enumerate(case) if isinstance(part, int) and at != call.room]
     octets += [b""] * (3 - len(octets))
     room = 0 if call.room is None else case[call.room]
-    numbers += [0] * (2 - len(numbers))
-    told = reference_run.numbers(NUMBERS[name], *map(len, octets), room, *numbers)
+    told = reference_run.numbers(calls.NUMBERS[name], *map(len, octets), room,
+                                 *calls.told_numbers(numbers))
     return told + b"".join(octets)
 
 
@@ -49,8 +48,12 @@ def largest():
     yield "write", (sheet_of(rows), page, len(page_of(rows, page)))
     yield "write", (sheet_of(rows), page, 0)
     work = Wide(random.Random(1), 63, range(1, 16))
-    yield "line", work.call()
-    yield "line", work.call(planes=work.plane_octets() + b"\1")
+    unread = Wide(random.Random(1), 63, range(1, 16, 2))
+    for name, unseen in (("line", None), ("line_unseen", (1, 2, 3))):
+        work.unseen = unread.unseen = unseen
+        yield name, work.call()
+        yield name, unread.call()
+        yield name, work.call(planes=work.plane_octets() + b"\1")
     sheet = bytes(data_making.sheet_of(STRIPES))
     for layer in (2, 15, 16):
         yield "data", (sheet, bytes(1010), bytes(1010), 63, layer)
@@ -72,11 +75,11 @@ def check_stack(tally, told, bound):
     used = {}
     for call, _, octets in (map(int, line.split()) for line in told.splitlines()):
         used[call] = max(octets, used.get(call, 0))
-    for name, number in NUMBERS.items():
+    for name, number in calls.NUMBERS.items():
         tally.check(0 < used.get(number, 0) < bound, "%s: %s octets of stack, of %d"
                     % (name, used.get(number), bound))
     print("octets of stack: " + ", ".join("%s %d" % (name, used.get(number, 0))
-                                          for name, number in NUMBERS.items()))
+                                          for name, number in calls.NUMBERS.items()))
 
 
 def main():

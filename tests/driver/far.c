@@ -1,11 +1,11 @@
 /* Makes calls that are lent more octets than four octets count, through
  * include/spirerook.h.
  *
- *   far many   any number of calls, each behind eleven numbers of eight octets:
- *              which call (any_call.h), the lengths of the
- *              three parts lent for reading, how many octets of each are told,
- *              the room, two numbers (stripe and line, or stripe and layer), and
- *              how many octets of the buffer are shown; the octets told behind
+ *   far many   any number of calls, each behind fourteen numbers of eight octets:
+ *              which call (any_call.h), the lengths of the three parts lent for
+ *              reading, how many octets of each are told, the room, how many
+ *              octets of the buffer are shown, and the five numbers that a call
+ *              may be told; the octets told behind
  *
  * All octets that are not told are 0, those of the buffer too; only those that
  * somebody touches take memory.  The answer is a line: number, place, count,
@@ -22,7 +22,7 @@
 #include <string.h>
 #include <sys/mman.h>
 
-enum { NUMBERS = 11, LENT = CALL_PARTS + 1 };
+enum { NUMBERS = 9 + CALL_NUMBERS, LENT = CALL_PARTS + 1 };
 
 struct call {
     struct any_call any;
@@ -70,13 +70,10 @@ static bool far_one(struct call *call)
 /* False: the numbers do not fit each other, or what is left of the input. */
 static bool take_call(struct told *told, const uint64_t n[NUMBERS], struct call *call)
 {
-    struct any_call any = {.which = n[0],
-                           .sizes = {n[1], n[2], n[3]},
-                           .room = n[7],
-                           .first = (uint32_t)n[8],
-                           .second = (uint32_t)n[9]};
+    struct any_call any = {.which = n[0], .sizes = {n[1], n[2], n[3]}, .room = n[7]};
+    take_call_numbers(&any, n + 9);
     call->any = any;
-    call->shown = n[10];
+    call->shown = n[8];
     for (size_t k = 0; k < CALL_PARTS; k++) {
         call->told_sizes[k] = n[4 + k];
         call->told[k] = take_octets(told, n[4 + k]);

@@ -1,10 +1,10 @@
 /* How much stack the calls take, and that threads may call at once, through
  * include/spirerook.h.
  *
- *   threads   any number of calls from standard input, each behind seven numbers
- *             of four octets: which call (any_call.h), the
- *             lengths of the three parts lent for reading, the room, and two
- *             numbers (stripe and line, or stripe and layer); the parts behind
+ *   threads   any number of calls from standard input, each behind ten numbers of
+ *             four octets: which call (any_call.h), the lengths of the three parts
+ *             lent for reading, the room, and the five numbers that a call may be
+ *             told; the parts behind
  *
  * Each call is made here, then in a thread of SPIREROOK_STACK, then in one whose
  * stack was painted, then by THREADS threads at once, ROUNDS times each; answers
@@ -23,7 +23,7 @@
 #include <sys/mman.h>
 
 enum {
-    NUMBERS = 7,
+    NUMBERS = 5 + CALL_NUMBERS,
     MOST = 128, /* calls of one run */
     THREADS = 8,
     ROUNDS = 3,
@@ -185,11 +185,8 @@ static size_t read_jobs(const uint8_t *input, size_t octets, struct any_call job
     uint64_t n[NUMBERS];
     size_t count = 0;
     while (count < MOST && take_numbers(&told, 4, n, NUMBERS)) {
-        struct any_call job = {.which = n[0],
-                               .sizes = {n[1], n[2], n[3]},
-                               .room = n[4],
-                               .first = (uint32_t)n[5],
-                               .second = (uint32_t)n[6]};
+        struct any_call job = {.which = n[0], .sizes = {n[1], n[2], n[3]}, .room = n[4]};
+        take_call_numbers(&job, n + 5);
         for (size_t k = 0; k < CALL_PARTS; k++) {
             job.parts[k] = take_octets(&told, job.sizes[k]);
             if (job.which >= CALL_COUNT || job.parts[k] == NULL) {
