@@ -18,6 +18,7 @@ KINDS = {"read": {**dict.fromkeys(range(1, 13), "octet"), 13: "0", 18: "0"},
          "write": {1: "record", 5: "record", 14: "record", 16: "record", 13: "0", 18: "0"},
          "line": {14: "record", 17: "0", 15: "entry", 13: "0"},
          "data": {14: "record", 17: "0", 1: "record"}, "judge": {14: "record"}}
+SIBLINGS = {"line_unseen": "line"}      # a call has the answers, and the column, of another
 
 
 def blocks(text, kind):
@@ -65,13 +66,14 @@ def check_table(tally, text):
         texts = re.findall(r'X\((\d+), \w+, "(\w+)", "([^"]+)"\)', header.read())
     tally.check(len(texts) == len(counts.NAMES), "%d numbers in the header" % len(texts))
     for number, name, told in texts:
-        places = ["yes" if number == "0" else KINDS[call].get(int(number), "")
-                  for call in counts.GIVEN]
+        places = ["yes" if number == "0" else kinds.get(int(number), "")
+                  for kinds in KINDS.values()]
         row = "| %s | %s | %s | %s |" % (number, name, told, " | ".join(places))
         row = row.replace("|  |", "| |").replace("|  |", "| |")
         tally.check(row in text.splitlines(), "no such line: %s" % row)
     for call, numbers in counts.GIVEN.items():
-        tally.check({0, *KINDS[call]} == set(numbers), "places of %s" % call)
+        kinds = KINDS[SIBLINGS.get(call, call)]
+        tally.check({0, *kinds} == set(numbers), "places of %s" % call)
 
 
 def main():

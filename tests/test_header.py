@@ -147,6 +147,12 @@ def check_colours(tally, program, rng):
     tally.check(nearest > 0.98 * len(codes), "%d of %d are the nearest" % (nearest, len(codes)))
 
 
+def check_unseen(tally, program):
+    """"The default colour of an unseen pixel becomes 128 128 96", in both of its uses."""
+    lines = reference_run.run(program, b"", "unseen")[0].splitlines()
+    tally.check(lines == ["80806000", "128 128 96"], "unseen pixels: %s" % lines)
+
+
 def check_colour_words(tally, text):
     """The header tells what a colour is, and what a decoder must not do with it."""
     section = re.search(r"/\* ---- Colours ---- \*/(.*?)/\* ---- ", text, re.S)
@@ -163,16 +169,25 @@ def declared():
     return {found[2]: found[1] for found in calls.finditer(text)}, text
 
 
+def numbers_told(comments, call):
+    """The numbers that a call's comment names; those of another, where it says that its answers are
+    that call's."""
+    told = " ".join(re.sub(r"^ \*", "", comments.get(call, ""), flags=re.M).split())
+    other = re.search(r"\bAnswers\b[^.]* are those of (spirerook_\w+)", told)
+    if other:
+        return numbers_told(comments, other[1])
+    return {k for k, name in enumerate(counts.NAMES) if re.search(r"\b%s\b" % name, told)}
+
+
 def check_calls(tally):
-    """Every declared call is exported and none else; its comment names its numbers."""
+    """Every declared call is exported and none else; its comment tells its numbers."""
     calls, text = declared()
     plain = re.sub(r"/\*.*?\*/", "", text, flags=re.S)
     tally.check(set(calls) == set(re.findall(r"^spirerook_\w+ (spirerook_\w+)\(", plain, re.M)),
                 "a call without a comment")
     tally.check(set(calls) == {"spirerook_" + call for call in counts.GIVEN}, "calls: %s" % calls)
     for call, numbers in counts.GIVEN.items():
-        told = calls.get("spirerook_" + call, "")
-        named = {k for k, name in enumerate(counts.NAMES) if re.search(r"\b%s\b" % name, told)}
+        named = numbers_told(calls, "spirerook_" + call)
         tally.check(named == set(numbers), "spirerook_%s: its comment differs from what it gives: %s"
                     % (call, sorted(named ^ set(numbers))))
     shared = os.path.join(reference_run.ROOT, "build", "libspirerook.so")
@@ -205,6 +220,7 @@ def main():
             check_records(tally, program, random.Random(seed))
             check_planes(tally, program)
             check_colours(tally, program, random.Random(seed))
+            check_unseen(tally, program)
             check_misuse(tally, program)
     check_calls(tally)
     check_colour_words(tally, declared()[1])

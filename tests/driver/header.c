@@ -9,7 +9,9 @@
  *                    record made again of its fields follows in hexadecimal
  *   header planes    lines of a layer and a start: the entry in hexadecimal
  *   header colours   three octets a colour from standard input: its sRGB in
- *                    hexadecimal */
+ *                    hexadecimal
+ *   header unseen    the colour of unseen pixels, as an array begins with it in
+ *                    hexadecimal, and as three arguments */
 #include "spirerook.h"
 #include "spirerook_colour.h"
 
@@ -140,6 +142,18 @@ static void print_colours(void)
     }
 }
 
+static void print_arguments(uint8_t u0, uint8_t u1, uint8_t u2)
+{
+    printf("%u %u %u\n", (unsigned)u0, (unsigned)u1, (unsigned)u2);
+}
+
+static void print_unseen(void)
+{
+    const uint8_t pixel[] = {SPIREROOK_UNSEEN, 0};
+    print_octets(pixel, sizeof pixel);
+    print_arguments(SPIREROOK_UNSEEN);
+}
+
 int main(int arguments, char **words)
 {
     const char *what = arguments == 2 ? words[1] : "";
@@ -153,8 +167,10 @@ int main(int arguments, char **words)
         print_planes();
     } else if (strcmp(what, "colours") == 0) {
         print_colours();
+    } else if (strcmp(what, "unseen") == 0) {
+        print_unseen();
     } else {
-        fputs("use: header numbers | bounds | records | planes | colours\n", stderr);
+        fputs("use: header numbers | bounds | records | planes | colours | unseen\n", stderr);
         return 1;
     }
     return 0;
