@@ -13,14 +13,17 @@ import threading
 
 import boundary_making
 import calls
+import faults_unseen
 import fuzz
 import planting
 import reference_run
 
 SEED = 20
 COUNT = reference_run.trials(200)    # good cases, and as many damaged
-READ, WRITE, LINE, DATA, JUDGE = ("    return same;", "    return told;", "    return shown;",
-                                  "    return handed;", "    return judged;")
+READ, WRITE, LINE, DATA, JUDGE, LINE_UNSEEN = (
+    "    return same;", "    return told;", "    return shown;", "    return handed;",
+    "    return judged;", "    return given;")
+LINE_INPUTS = [("sheet", "sheet_len"), ("planes", "planes_len"), ("samples", "samples_len")]
 
 
 def before(answer, code):
@@ -80,9 +83,11 @@ FAULTS = [
         WRITE, "for (size_t k = told.count; !told.number && k < page_len; k++) page[k] = 0;")),
     ("write", "TooLong not told", *before(WRITE, "if (told.number == 18) told.number = 13;")),
     ("write", "an octet of the page", *before(WRITE, "if (told.count > 40) page[40] ^= 1;")),
-    *lent("line", LINE, "out", "out_len", [("sheet", "sheet_len"), ("planes", "planes_len"),
-                                           ("samples", "samples_len")]),
+    *lent("line", LINE, "out", "out_len", LINE_INPUTS),
     *answered("line", LINE),
+    *lent("line_unseen", LINE_UNSEEN, "out", "out_len", LINE_INPUTS),
+    *answered("line_unseen", LINE_UNSEEN),
+    *faults_unseen.OF_COLOUR,
     ("line", "octets past the line 0", *before(
         LINE, "for (size_t k = shown.count; !shown.number && k < out_len; k++) out[k] = 0;")),
     ("line", "the last pixel seen", *before(LINE, "if (shown.count) out[shown.count - 1] = 1;")),

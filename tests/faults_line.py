@@ -1,4 +1,5 @@
-"""Plants faults in the reference's composer, one at a time; the table has to find each.
+"""Plants faults in the reference's composer and in the two calls over it, one at a time; the table
+has to find each.
 
 A fault is found when the faulty build answers some call of tests/lines.md
 otherwise than the table does. So a rule that no line tests shows here, as a
@@ -7,14 +8,12 @@ fault that nobody finds.
 
 import sys
 
+import faults_unseen
 import line_making
 import planting
 import reference_run
 
 MANY = 15 * 28
-
-# what makes a fault of an exported call: code before its answer is given
-RETURN = "    return shown;"
 
 # (file, what goes wrong, the text of the file, the text in its place)
 FAULTS = [
@@ -300,61 +299,35 @@ FAULTS = [
     ("line.c", "seen in 0 0 0 is unseen", "octets[3] = seen ? 1 : 0;",
      "octets[3] = seen && colour != 0;"),
     ("line.c", "seen is 255", "octets[3] = seen ? 1 : 0;", "octets[3] = seen ? 255 : 0;"),
-    ("line.c", "a colour shown that is not seen", "uint32_t shown = seen ? colour : 0;",
+    ("line.c", "a colour shown that is not seen", "uint32_t shown = seen ? colour : unseen;",
      "uint32_t shown = colour;"),
     ("line.c", "a colour's octets backward", "octets[0] = (uint8_t)(shown / 65536);",
      "shown = shown % 256 * 65536 + shown / 256 % 256 * 256 + shown / 65536;\n"
      "    octets[0] = (uint8_t)(shown / 65536);"),
-    # what is lent
-    ("as_library.c", "a refusal changes an octet", RETURN,
-     "    if (shown.number != 0 && out_len > 0) out[0] ^= 1;\n" + RETURN),
-    ("as_library.c", "NoRoom changes an octet", RETURN,
-     "    if (shown.number == 13 && out_len > 0) out[0] ^= 1;\n" + RETURN),
-    ("as_library.c", "an octet past the result changed", RETURN,
-     "    if (shown.number == 0 && out_len > shown.count) out[shown.count] ^= 1;\n" + RETURN),
-    ("as_library.c", "all octets past the result 0", RETURN,
-     "    for (size_t k = shown.count; k < out_len && !shown.number; k++) out[k] = 0;\n" + RETURN),
-    ("as_library.c", "an octet behind the buffer changed", RETURN,
-     "    if (out_len > 0) out[out_len] ^= 1;\n" + RETURN),
-    ("as_library.c", "an octet before the buffer changed", RETURN,
-     "    if (out_len > 0) out[-1] ^= 1;\n" + RETURN),
-    ("as_library.c", "an octet behind the samples read", RETURN,
-     "    if (samples_len > 0) shown.count += samples[samples_len] & 0;\n"
-     "    if (samples_len > 0) *(volatile const uint8_t *)(samples + samples_len);\n" + RETURN),
-    ("as_library.c", "an octet behind the plane list read", RETURN,
-     "    if (planes_len > 0) *(volatile const uint8_t *)(planes + planes_len);\n" + RETURN),
-    ("as_library.c", "an octet behind the sheet read", RETURN,
-     "    if (sheet_len > 0) *(volatile const uint8_t *)(sheet + sheet_len);\n" + RETURN),
-    ("as_library.c", "the samples changed", RETURN,
-     "    if (samples_len > 0) ((uint8_t *)samples)[samples_len - 1] ^= 1;\n" + RETURN),
-    ("as_library.c", "the plane list changed", RETURN,
-     "    if (planes_len > 0) ((uint8_t *)planes)[0] ^= 1;\n" + RETURN),
-    ("as_library.c", "a count with a refusal", "composed.count}",
-     "composed.number + composed.count}"),
-    ("as_library.c", "a place with Done", "composed.place,", "composed.place + !composed.number,"),
-    ("as_library.c", "a null pointer refused", RETURN,
-     "    if (planes == NULL || samples == NULL) shown.number = 15, shown.count = 0;\n" + RETURN),
-    ("as_library.c", "only aligned buffers taken", RETURN,
-     "    if ((uintptr_t)samples % 2 == 1 && samples_len > 4) { shown.number = 15; "
-     "shown.count = 0; }\n" + RETURN),
 ]
 
 
-def found_by(program, cases):
+def found_by(program, asked):
     """The first call of the table whose answer or line is not the table's."""
-    answers = reference_run.call_many(program, [case.work() for case in cases])
-    for case, got in zip(cases, answers):
-        if got != (case.answer, case.due):
-            return "line %s, %s" % (case.number, case.name)
-    return None
+    answers = reference_run.call_many(program, [case for _, case, _ in asked])
+    return next((what for (what, _, due), got in zip(asked, answers) if got != due), None)
+
+
+def groups_of(cases):
+    """(call, what is asked of it): those first that take the least, few records."""
+    for few in (True, False):
+        chosen = [case for case in cases if (len(case.sheet) <= MANY) == few]
+        yield "line", [case.asked(None) for case in chosen]
+        yield "line_unseen", [case.asked(unseen) for case in chosen
+                              for unseen in case.unseens()[1:4 if few else 2]]
 
 
 def main():
-    cases = line_making.table()
-    # those first that take the least: few records
-    groups = ([case for case in cases if len(case.sheet) <= MANY],
-              [case for case in cases if len(case.sheet) > MANY])
-    return planting.check_table("line", FAULTS, groups, found_by)
+    names, groups = zip(*groups_of(line_making.table()))
+    of_calls = [(file, "%s: %s" % (call, what), old, new) for call, what, file, old, new
+                in faults_unseen.OF_COLOUR + faults_unseen.OF_LENT]
+    return planting.check_table("line", FAULTS + faults_unseen.SHARED + of_calls, groups, found_by,
+                                names)
 
 
 if __name__ == "__main__":

@@ -22,13 +22,16 @@ class Planted:
         with open(os.path.join(self.folder, file), encoding="utf-8") as source:
             text = source.read()
         self.times = text.count(old)
+        self.built = {}
         with open(os.path.join(self.folder, file), "w", encoding="utf-8") as faulty:
             faulty.write(text.replace(old, new))
 
     def build(self, parts):
         """A program over it. No warnings here: a fault may leave a name unused."""
-        return reference_run.build(os.path.join(self.name, os.path.basename(parts[-1])[:-2]),
-                                   self.folder, ("-O1", "-w"), parts)
+        if parts not in self.built:
+            name = os.path.join(self.name, os.path.basename(parts[-1])[:-2])
+            self.built[parts] = reference_run.build(name, self.folder, ("-O1", "-w"), parts)
+        return self.built[parts]
 
 
 def check_all(tally, group, faults, found_by):
@@ -48,19 +51,20 @@ def check_all(tally, group, faults, found_by):
     print("%d faults" % len(faults))
 
 
-def check_table(name, faults, groups, found_by):
+def check_table(name, faults, groups, found_by, names=None):
     """A program that holds the reference of a call, each time with one fault, to its table:
     `found_by(program, cases)` answers the first of a group of cases that the table has otherwise,
-    or None. Groups come in the order of the time that they take. Answers the exit status."""
+    or None. Groups come in the order of the time that they take; `names` has the call of each,
+    where it is not `name` for all. Answers the exit status."""
     tally = reference_run.Tally()
-    parts = reference_run.parts_of(name)
-    sound = reference_run.build("reference_%s_sound" % name, parts=parts)
-    for cases in groups:
+    asked = list(zip(names or [name] * len(groups), groups))
+    for call, cases in asked:
+        sound = reference_run.build("reference_%s_sound" % call, parts=reference_run.parts_of(call))
         tally.check(found_by(sound, cases) is None, "the sound reference does not fit the table")
 
     def first(planted, _):
-        program = planted.build(parts)
-        return next(filter(None, (found_by(program, cases) for cases in groups)), None)
+        return next(filter(None, (found_by(planted.build(reference_run.parts_of(call)), cases)
+                                  for call, cases in asked)), None)
 
     check_all(tally, "faults_" + name, faults, first)
     return tally.end()

@@ -25,7 +25,7 @@ static inline const char *bad_pixels(const uint8_t *pixels, uint64_t octets,
         bool is_unseen = pixel[0] == unseen[0] && pixel[1] == unseen[1] && pixel[2] == unseen[2] &&
                          pixel[3] == 0;
         if (!is_unseen && pixel[3] != 1) {
-            return "a fourth octet of no pixel";
+            return "a pixel that is neither seen nor unseen";
         }
     }
     return octets % SPIREROOK_PIXEL_OCTETS == 0 ? NULL : "a part of a pixel";
