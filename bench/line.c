@@ -170,9 +170,11 @@ static void put_pixel(uint8_t *out, uint32_t shown)
 
 spirerook_answer LINE(const uint8_t *sheet, size_t sheet_len, const uint8_t *planes,
                       size_t planes_len, const uint8_t *samples, size_t samples_len,
-                      uint32_t stripe, uint32_t line, uint8_t *out, size_t out_len)
+                      uint32_t stripe, uint32_t line, uint8_t u0, uint8_t u1, uint8_t u2,
+                      uint8_t *out, size_t out_len)
 {
     struct stripe s;
+    uint32_t unseen = (uint32_t)u0 << 16 | (uint32_t)u1 << 8 | u2;
     uint64_t verdict = c_judge(sheet, sheet_len);
     if (verdict >= REFUSED)
         return (spirerook_answer){SPIREROOK_BAD_SHEET, (uint32_t)(verdict - REFUSED), 0};
@@ -186,7 +188,9 @@ spirerook_answer LINE(const uint8_t *sheet, size_t sheet_len, const uint8_t *pla
 #ifdef BY_ROWS
     find_rows(&s, line);
 #endif
-    for (uint32_t x = 0; x < s.page_width; x++)
-        put_pixel(out + (size_t)x * 4, pixel_at(&s, x, line));
+    for (uint32_t x = 0; x < s.page_width; x++) {
+        uint32_t shown = pixel_at(&s, x, line);
+        put_pixel(out + (size_t)x * 4, shown == 0 ? unseen : shown);
+    }
     return (spirerook_answer){SPIREROOK_DONE, 0, (uint64_t)s.page_width * 4};
 }

@@ -29,6 +29,7 @@ struct work {
     uint8_t *samples;
     size_t samples_size;
     uint32_t stripe, line;
+    uint8_t unseen[3];
     size_t room;
 };
 
@@ -149,6 +150,7 @@ static void read_last(struct work *w, const struct shape *s)
             read_layer(w, s, first + (layer - 1) * RECORD_SIZE, starts);
     w->stripe = be16(first);
     w->line = s->height / 2;
+    memcpy(w->unseen, (const uint8_t[]){SPIREROOK_UNSEEN}, sizeof w->unseen);
     w->room = 4 * (size_t)s->width;
 }
 
@@ -201,6 +203,8 @@ static void make_small(struct work *w)
         add_small(w, k, width);
     w->stripe = any(stripes);
     w->line = 0;
+    for (int i = 0; i < 3; i++)
+        w->unseen[i] = (uint8_t)any(3); // often that of a seen pixel
     w->room = 4 * (size_t)width + any(2);
     for (const uint8_t *p = w->sheet; p != w->sheet + w->sheet_size; p += RECORD_SIZE) {
         if (be16(p) != w->stripe)
@@ -232,12 +236,12 @@ static void damage(struct work *w)
 // ---- all must agree
 
 static uint8_t lines[SIDES][MOST_OUT];
-static composer *const composers[SIDES] = {spirerook_line, c_line, c_line_by_rows};
+static composer *const composers[SIDES] = {spirerook_line_unseen, c_line, c_line_by_rows};
 
 static spirerook_answer call(composer *f, const struct work *w, uint8_t *out)
 {
     return f(w->sheet, w->sheet_size, w->planes, w->planes_size, w->samples, w->samples_size,
-             w->stripe, w->line, out, w->room);
+             w->stripe, w->line, w->unseen[0], w->unseen[1], w->unseen[2], out, w->room);
 }
 
 static uint32_t agreed(const char *what, const struct work *w)

@@ -1,7 +1,7 @@
 """The viewer's profile on an A4 page at 300 to the inch, and its composing beside the literal C composer.
 
 A page of text on paper with coloured words and two passes of pencil is made by spirerook-make. The
-viewer is built twice, over the library and over bench/line.c in the place of spirerook_line; both
+viewer is built twice, over the library and over bench/line.c in the place of spirerook_line_unseen; both
 show the page in turns, their pictures must be the same, and medians are told.
 """
 
@@ -90,7 +90,9 @@ def build_literal():
     """The viewer with the C composer where it calls the library's."""
     objects = ["build/host/%s.o" % name for name in run(["make", "-s", "view-objects"]).decode().split() if name != "view/view"]
     strict = ["cc", "-std=c11", "-D_GNU_SOURCE", "-Wall", "-Wextra", "-Iinclude", "-Ihost"]
-    run([*strict, "-O2", "-Dspirerook_line=c_line", "-c", "-o", "build/bench_view/view.o", "host/view/view.c"])
+    run([*strict, "-O2", "-Dspirerook_line_unseen=c_line", "-c", "-o", "build/bench_view/view.o", "host/view/view.c"])
+    if b" U c_line\n" not in run(["nm", "build/bench_view/view.o"]):
+        sys.exit("bench: the viewer composes lines by another call than spirerook_line_unseen")
     for name in ("line", "judge"):
         run([*strict, "-O3", "-falign-functions=64", "-c", "-o", "build/bench_view/%s.o" % name, "bench/%s.c" % name])
     own = ["build/bench_view/%s.o" % name for name in ("view", "line", "judge")]
