@@ -1,8 +1,8 @@
 """The viewer's profile on an A4 page at 300 to the inch, and its composing beside the literal C composer.
 
 A page of text on paper with coloured words and two passes of pencil is made by spirerook-make. The
-viewer is built twice, over the library and over bench/line.c in the place of spirerook_line_unseen; both
-show the page in turns, their pictures must be the same, and medians are told.
+viewer is built twice, over the library and over bench/line.c in the place of spirerook_line_unseen;
+both show the page in turns, their pictures must be the same, and medians are told.
 """
 
 import os

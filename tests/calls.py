@@ -127,11 +127,11 @@ class Siblings(Answering):
         return answers
 
 
-def difference(due, got):
+def difference(due, got, one="the reference", other="the library"):
     """What one says and the other, and the first octet in which they differ."""
     where = ""
     if due[1] != got[1]:
         at = next((k for k, pair in enumerate(zip(due[1], got[1])) if pair[0] != pair[1]),
                   min(len(due[1]), len(got[1])))
         where = "; octet %d is another" % at
-    return "the reference says %s, the library %s%s" % (due[0], got[0], where)
+    return "%s says %s, %s %s%s" % (one, due[0], other, got[0], where)

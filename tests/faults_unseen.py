@@ -23,10 +23,9 @@ def before(call, what, code):
     return call, what, "as_library.c", answer, "    %s\n%s" % (code, answer)
 
 
-def colour(call, what, *octets):
+def colour(call, what, octets):
     """Another unseen colour than the one that is due."""
-    return (call, what, "as_library.c", "{%s}" % ", ".join(COLOURS[call]),
-            "{%s}" % ", ".join(octets))
+    return call, what, "as_library.c", "{%s}" % ", ".join(COLOURS[call]), "{%s}" % octets
 
 
 # what is lent to each call, and its answer
@@ -82,7 +81,8 @@ REFUSED = [
     ("u written where the sheet is bad",
      "if (ANSWER.number == 14 && out_len > 2) { size_t k = 0; " + PAINT + " }"),
     ("u written behind the line",
-     "if (!ANSWER.number && out_len > ANSWER.count + 2) { size_t k = ANSWER.count; " + PAINT + " }"),
+     "if (!ANSWER.number && out_len > ANSWER.count + 2) { size_t k = ANSWER.count; " + PAINT
+     + " }"),
     ("a line that is none, of one unseen pixel",
      "if (ANSWER.number == 17 && out_len > 3) { size_t k = 0; " + PAINT
      + " out[3] = 0; ANSWER.number = 0; ANSWER.count = 4; }"),
@@ -110,26 +110,20 @@ SHARED = [
      "composed.number + composed.count}"),
 ]
 
-OTHER_COLOURS = [
-    colour("line", "unseen as it was", "0", "0", "0"),
-    colour("line", "128 96 128", "128", "96", "128"),
-    colour("line", "96 128 128", "96", "128", "128"),
-    colour("line", "128 128 128", "128", "128", "128"),
-    colour("line", "127 128 96", "127", "128", "96"),
-    colour("line_unseen", "u ignored, grey", "128", "128", "96"),
-    colour("line_unseen", "u ignored, as it was", "0", "0", "0"),
-    colour("line_unseen", "u0 and u1 exchanged", "u1", "u0", "u2"),
-    colour("line_unseen", "u1 and u2 exchanged", "u0", "u2", "u1"),
-    colour("line_unseen", "u0 and u2 exchanged", "u2", "u1", "u0"),
-    colour("line_unseen", "u0 thrice", "u0", "u0", "u0"),
-    colour("line_unseen", "u2 thrice", "u2", "u2", "u2"),
-    colour("line_unseen", "seven bits of each octet", "u0 % 128", "u1 % 128", "u2 % 128"),
-    colour("line_unseen", "u taken where it is not 0 0 0", "u0 | u1 | u2 ? u0 : 128",
-           "u0 | u1 | u2 ? u1 : 128", "u0 | u1 | u2 ? u2 : 96"),
-    before("line_unseen", "u over the seen pixels that are grey",
-           EACH + "if (out[k] == 128 && out[k + 1] == 128 && out[k + 2] == 96) " + PAINT),
-]
+OTHER_COLOURS = [colour("line", what, octets) for what, octets in (
+    ("unseen as it was", "0, 0, 0"), ("128 96 128", "128, 96, 128"), ("96 128 128", "96, 128, 128"),
+    ("128 128 128", "128, 128, 128"), ("127 128 96", "127, 128, 96"))]
+OTHER_COLOURS += [colour("line_unseen", what, octets) for what, octets in (
+    ("u ignored, grey", "128, 128, 96"), ("u ignored, as it was", "0, 0, 0"),
+    ("u0 and u1 exchanged", "u1, u0, u2"), ("u1 and u2 exchanged", "u0, u2, u1"),
+    ("u0 and u2 exchanged", "u2, u1, u0"), ("u0 thrice", "u0, u0, u0"), ("u2 thrice", "u2, u2, u2"),
+    ("seven bits of each octet", "u0 % 128, u1 % 128, u2 % 128"),
+    ("grey for 0 0 0", "u0 | u1 | u2 ? u0 : 128, u0 | u1 | u2 ? u1 : 128, u0 | u1 | u2 ? u2 : 96"))]
+# as a sibling would that goes over the other call's line and looks at its colours
+BY_COLOUR = before("line_unseen", "u over the seen pixels that are grey",
+                   EACH + "if (out[k] == 128 && out[k + 1] == 128 && out[k + 2] == 96) " + PAINT)
 
-OF_COLOUR = [*OTHER_COLOURS, *(before(call, *fault) for call in ANSWERS for fault in PIXELS),
+OF_COLOUR = [*OTHER_COLOURS, BY_COLOUR,
+             *(before(call, *fault) for call in ANSWERS for fault in PIXELS),
              *(before("line_unseen", *fault) for fault in REFUSED)]
 OF_LENT = [before(call, *fault) for call in ANSWERS for fault in LENT]

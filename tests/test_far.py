@@ -25,8 +25,8 @@ def words(name, parts, room=0, numbers=(0, 0), shown=0):
     """A call as the driver reads it; a part is its octets, or its octets and its length."""
     parts = [part if isinstance(part, tuple) else (part, len(part)) for part in parts]
     parts += [(b"", 0)] * (3 - len(parts))
-    told = [calls.NUMBERS[name], *(size for _, size in parts), *(len(octets) for octets, _ in parts),
-            room, shown, *calls.told_numbers(numbers)]
+    told = [calls.NUMBERS[name], *(size for _, size in parts),
+            *(len(octets) for octets, _ in parts), room, shown, *calls.told_numbers(numbers)]
     return b"".join(big(n, 8) for n in told) + b"".join(octets for octets, _ in parts)
 
 
@@ -52,7 +52,8 @@ def write_calls():
                                                 shown=len(page)), due
         yield "a page in room %d" % size, words("write", [sheet, data], size, shown=len(page)), due
         # the record behind the sheet is all zeros: stripe 0, layer 0
-        yield "a sheet of %d octets" % size, words("write", [(sheet, size), data], 200), "14 3 0 0 0 "
+        yield "a sheet of %d octets" % size, words("write", [(sheet, size), data], 200), (
+            "14 3 0 0 0 ")
 
 
 def line_calls(name, unseen):

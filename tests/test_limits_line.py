@@ -78,7 +78,8 @@ def largest_calls(rng):
 def wide_works(rng):
     """(name, Wide) of few records"""
     for name, read, stripes in [
-            ("all read", range(1, 16), 1), ("nothing read", [], 1), ("images read", range(1, 16, 2), 1),
+            ("all read", range(1, 16), 1), ("nothing read", [], 1),
+            ("images read", range(1, 16, 2), 1),
             ("some read", [1, 3, 5, 7, 10, 11, 12, 13, 14, 15], 2)]:
         yield "the widest line, " + name, Wide(rng, 0, read, stripes)
 
@@ -152,10 +153,11 @@ def far_calls():
             yield ("layer %d, line %d, from 2^32 - 1" % (layer, line),
                    *far_octets("line", stripe, layer, line, TOP - 1))
         yield "layer %d from 0, the last line" % layer, *far_octets("line", stripe, layer, 65534, 0)
-        yield "layer %d, an octet less" % layer, *far_octets("line", stripe, layer, 65534, TOP - 1, 1)
         for name in UNSEEN:
             yield ("%s, layer %d from 5, the last line" % (name, layer),
                    *far_octets(name, stripe, layer, 65534, 5))
+            yield ("%s, layer %d, an octet less" % (name, layer),
+                   *far_octets(name, stripe, layer, 65534, TOP - 1, 1))
             yield ("%s, layer %d, 2^32 octets less" % (name, layer),
                    *far_octets(name, stripe, layer, 65534, TOP - 1, TOP))
             scaled = far_stripe(300, layer, 100, 17, 5)
