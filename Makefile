@@ -11,10 +11,9 @@ BINDIR = $(PREFIX)/bin
 PROGRAMS = spirerook-view spirerook-make
 
 # the programs over the library: host/NAME.c each
-BOTH = apart apart_inside digest file new_file lines names sheet_words turns
+BOTH = apart apart_inside colour digest file new_file lines names sheet_words turns
 VIEW = $(addprefix view/,view options choices book pencil colour_notes layers decode decode_fax decode_t85 decode_jpeg picture screen) $(BOTH)
-MAKE_PAGE = $(addprefix make/,make plan plan_layer plan_words picture_in picture_png picture_pnm to_lab code_fax code_t85 code_jpeg layers sheets side notes outputs octets trouble) \
-	colour $(BOTH)
+MAKE_PAGE = $(addprefix make/,make plan plan_layer plan_words picture_in picture_png picture_pnm to_lab code_fax code_t85 code_jpeg layers sheets side notes outputs octets trouble) $(BOTH)
 # they open what strangers send
 HARDENED = -D_FORTIFY_SOURCE=2 -fstack-protector-strong
 HOST_C = cc -std=c11 -D_GNU_SOURCE -Wall -Wextra -Werror -O2 $(HARDENED) -Iinclude -Ihost

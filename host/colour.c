@@ -3,6 +3,7 @@
 #include "colour.h"
 
 #include <math.h>
+#include <string.h>
 
 static const double white[3] = {0.96422, 1.0, 0.82521};
 static const double lightest = 255.0;
@@ -24,6 +25,25 @@ static double from_screen(double value)
 static uint8_t nearest(double value)
 {
     return value <= 0 ? 0 : value >= lightest ? 255 : (uint8_t)lround(value);
+}
+
+static int digit_of(char octet)
+{
+    static const char digits[] = "0123456789ABCDEFabcdef";
+    const char *found = octet == '\0' ? NULL : strchr(digits, octet);
+    int value = found == NULL ? -1 : (int)(found - digits);
+    return value > 15 ? value - 6 : value;
+}
+
+bool srgb_of_digits(const char *text, uint8_t srgb[3])
+{
+    bool known = strlen(text) == 6;
+    for (size_t k = 0; known && k < 6; k++) {
+        int digit = digit_of(text[k]);
+        known = digit >= 0;
+        srgb[k / 2] = (uint8_t)((k % 2 == 0 ? 0 : srgb[k / 2] * 16) + digit);
+    }
+    return known;
 }
 
 void lab_of_srgb(const uint8_t srgb[3], uint8_t lab[3])

@@ -5,6 +5,7 @@
 #include <string.h>
 
 #include "coders.h"
+#include "colour.h"
 
 static bool is_blank(char octet)
 {
@@ -146,25 +147,12 @@ bool take_coder(plan_line *line, uint32_t *coder)
                  word == NULL ? "" : word->text);
 }
 
-static int digit_of(char octet)
-{
-    static const char digits[] = "0123456789ABCDEFabcdef";
-    const char *found = octet == '\0' ? NULL : strchr(digits, octet);
-    int value = found == NULL ? -1 : (int)(found - digits);
-    return value > 15 ? value - 6 : value;
-}
-
 bool take_srgb(plan_line *line, uint8_t srgb[3])
 {
     const plan_word *word = next_word(line);
-    bool known = word != NULL && strlen(word->text) == 6;
-    for (size_t k = 0; known && k < 6; k++) {
-        int digit = digit_of(word->text[k]);
-        known = digit >= 0;
-        srgb[k / 2] = (uint8_t)((k % 2 == 0 ? 0 : srgb[k / 2] * 16) + digit);
-    }
-    return known || wrong(line, "'base' needs a colour of six digits, RRGGBB%s%s",
-                          word == NULL ? "" : ", not ", word == NULL ? "" : word->text);
+    return (word != NULL && srgb_of_digits(word->text, srgb)) ||
+           wrong(line, "'base' needs a colour of six digits, RRGGBB%s%s",
+                 word == NULL ? "" : ", not ", word == NULL ? "" : word->text);
 }
 
 bool take_lab(plan_line *line, uint8_t base[3])
