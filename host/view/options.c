@@ -2,6 +2,7 @@
 
 #include <string.h>
 
+#include "colour.h"
 #include "lines.h"
 
 static const char help[] =
@@ -15,6 +16,7 @@ static const char help[] =
     "  --no-digests             takes a pencil that SHEET.sha256 does not tell to be the page's\n"
     "  --list                   tells the layers and where they stand; nothing is decoded\n"
     "  --unread STRIPE:LAYER .. shows the page as if these layers could not be read\n"
+    "  --unseen RRGGBB          draws unseen pixels in this colour, not as green squares on magenta\n"
     "  --stripe N               shows this stripe only; stripes count from 0, layers from 1\n"
     "  --memory SIZE            for the samples of a stripe, as 512M or 2G (1G if not given)\n"
     "  --seconds N or N:M       for a decoder: N of the processor (10 if not given), M by the clock (6 N)\n"
@@ -88,6 +90,17 @@ static bool take_unread(const char **values, options *asked)
     return true;
 }
 
+/* '#' may stand before the digits, as people write colours. */
+static bool take_unseen(const char **values, options *asked)
+{
+    uint8_t srgb[3];
+    asked->plain_unseen = srgb_of_digits(values[0] + (values[0][0] == '#'), srgb);
+    if (asked->plain_unseen) {
+        lab_of_srgb(srgb, asked->unseen);
+    }
+    return asked->plain_unseen;
+}
+
 static bool take_memory(const char **values, options *asked)
 {
     const char *rest = number_at(values[0], most_memory, &asked->memory);
@@ -119,6 +132,7 @@ static bool take_seconds(const char **values, options *asked)
 }
 
 #define LAYER "STRIPE:LAYER, a stripe from 0 to 63 and a layer from 1 to 15"
+#define COLOUR "RRGGBB, six hexadecimal digits of red, green and blue"
 #define SECONDS \
     "N or N:M, N from 1 to 3600 seconds of the processor and M from N to 86400 by the clock"
 _Static_assert(SPIREROOK_STRIPES == 64 && SPIREROOK_LAYERS == 15, "the words of faults say so");
@@ -139,6 +153,7 @@ static const option known[] = {
     {"--pencil", 2, take_pencil, "needs the names of a sheet and of its pencil file", "an empty name", 0},
     {"--stripe", 1, take_stripe, "needs a number from 0 to 63", "not a number from 0 to 63", 0},
     {"--unread", 1, take_unread, "needs " LAYER, "not " LAYER, 0},
+    {"--unseen", 1, take_unseen, "needs " COLOUR, "not " COLOUR, 0},
     {"--memory", 1, take_memory, "needs a size, at most 4G, as 300K, 512M or 2G", "at most 4G, as 300K, 512M or 2G", 0},
     {"--seconds", 1, take_seconds, "needs " SECONDS, "not " SECONDS, 0},
     {"--list", 0, NULL, NULL, NULL, offsetof(options, list)},
@@ -244,7 +259,8 @@ static options_answer check_together(const options *asked)
 
 options_answer read_options(int count, char **words, options *asked)
 {
-    *asked = (options){.memory = DEFAULT_MEMORY,
+    *asked = (options){.unseen = {SPIREROOK_UNSEEN},
+                       .memory = DEFAULT_MEMORY,
                        .seconds = DEFAULT_SECONDS,
                        .clock_seconds = DEFAULT_SECONDS * CLOCK_TIMES};
     uint32_t seen = 0;

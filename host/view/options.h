@@ -15,6 +15,8 @@ typedef struct {
     const char *page, *pencil_sheet, *pencil_file, *out; /* null where not given */
     bool list, times, no_pencil, no_digests, no_sandbox;
     bool unread[SPIREROOK_STRIPES][SPIREROOK_LAYERS + 1];
+    bool plain_unseen; /* unseen pixels are drawn in one colour, not in the pattern */
+    uint8_t unseen[3]; /* the codes of that colour, or of the library's own */
     bool one_stripe;
     uint32_t stripe;
     uint64_t memory; /* octets of samples that a stripe's layers may take together */

@@ -184,17 +184,28 @@ bool put_row(picture *made, const uint8_t *row)
     return compress_row(made, made->row_octets + 1, Z_NO_FLUSH);
 }
 
-bool end_picture(picture *made, uint64_t unseen)
+/* What programs find by its name; a zero octet parts the two. */
+static bool put_text(picture *made, const char *name, const char *text)
 {
-    char text[48];
+    char both[48];
+    int count = snprintf(both, sizeof both, "%s%c%s", name, 0, text);
+    return put_chunk(made, "tEXt", (const uint8_t *)both, (size_t)count);
+}
+
+bool end_picture(picture *made, uint64_t unseen, const uint8_t *colour)
+{
+    char number[24], digits[8];
     uint8_t sum[4];
-    size_t name = (size_t)snprintf(text, sizeof text, "Unseen pixels") + 1;
-    size_t count = name + (size_t)snprintf(text + name, sizeof text - name, "%" PRIu64, unseen);
     bool good = put_runs(made) && compress_row(made, 0, Z_FINISH);
     put4(sum, (uint32_t)made->sum);
+    snprintf(number, sizeof number, "%" PRIu64, unseen);
     good = good && put_octets(made, sum, 4) && empty_room(made) &&
-           put_chunk(made, "tEXt", (const uint8_t *)text, count) &&
-           put_chunk(made, "IEND", NULL, 0);
+           put_text(made, "Unseen pixels", number);
+    if (good && colour != NULL) {
+        snprintf(digits, sizeof digits, "#%02X%02X%02X", colour[0], colour[1], colour[2]);
+        good = put_text(made, "Unseen colour", digits);
+    }
+    good = good && put_chunk(made, "IEND", NULL, 0);
     drop_picture(made);
     return good;
 }

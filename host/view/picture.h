@@ -15,8 +15,9 @@ picture *begin_picture(FILE *file, uint32_t width, uint32_t height, uint32_t res
  * follow. */
 bool put_row(picture *picture, const uint8_t *row);
 
-/* The end, with a text that tells how many pixels are unseen.  Frees the picture. */
-bool end_picture(picture *picture, uint64_t unseen);
+/* The end, with texts that tell how many pixels are unseen and, where they have a plain colour and
+ * no pattern (else NULL), which.  Frees the picture. */
+bool end_picture(picture *picture, uint64_t unseen, const uint8_t *colour);
 
 void drop_picture(picture *picture);
 

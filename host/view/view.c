@@ -58,6 +58,9 @@ static bool set_up(run *r, const options *asked, const book *opened)
     r->line = malloc((size_t)r->width * SPIREROOK_PIXEL_OCTETS);
     r->before = calloc(r->width, SPIREROOK_PIXEL_OCTETS);
     r->row = malloc((size_t)r->width * 3);
+    if (asked->plain_unseen && r->colours != NULL) {
+        draw_plain(r->colours, asked->unseen);
+    }
     return r->colours != NULL && r->line != NULL && r->before != NULL && r->row != NULL;
 }
 
@@ -108,9 +111,11 @@ static void colour_line(run *r)
 static bool compose_line(run *r, const stripe_layers *read, size_t stripe, uint32_t line)
 {
     const book *b = r->opened;
-    spirerook_answer done = spirerook_line(
+    const uint8_t *unseen = r->asked->unseen;
+    spirerook_answer done = spirerook_line_unseen(
         b->sheet, b->sheet_octets, read->planes, read->planes_octets, read->samples, read->octets,
-        (uint32_t)stripe, line, r->line, (size_t)r->width * SPIREROOK_PIXEL_OCTETS);
+        (uint32_t)stripe, line, unseen[0], unseen[1], unseen[2], r->line,
+        (size_t)r->width * SPIREROOK_PIXEL_OCTETS);
     if (done.number != SPIREROOK_DONE) {
         end_progress(r);
         complain("%s: stripe %zu, line %u: refused: %s (%u) at %u", r->asked->page, stripe,
@@ -150,7 +155,7 @@ static bool show_line(run *r, const stripe_layers *read, size_t stripe, uint32_t
         r->composed++;
     } else {
         if (r->y == r->composed || r->y % SQUARE == 0) {
-            unseen_row(r->width, r->y, r->row);
+            unseen_row(r->colours, r->width, r->y, r->row);
         }
         r->unseen += r->width;
     }
@@ -210,6 +215,17 @@ static void tell_sides(const options *asked, uint32_t width, uint32_t height)
     add_words(": %u by %u pixels, ", (unsigned)width, (unsigned)height);
 }
 
+/* As they are drawn, which may be a step off what was asked for. */
+static void tell_unseen(const screen *colours)
+{
+    if (colours->plain) {
+        add_words(", drawn as #%02X%02X%02X (--unseen)", colours->unseen[0], colours->unseen[1],
+                  colours->unseen[2]);
+    } else {
+        add_words(", drawn as green squares on magenta");
+    }
+}
+
 /* The last line of all: what was shown, with which pencil. */
 static void tell_page(const run *r)
 {
@@ -219,6 +235,7 @@ static void tell_page(const run *r)
         add_words("all seen");
     } else {
         add_words("%" PRIu64 " of %" PRIu64 " unseen", r->unseen, pixels);
+        tell_unseen(r->colours);
     }
     tell_pencil(&r->opened->source);
 }
@@ -253,7 +270,7 @@ static bool show_stripes(run *r, FILE *file)
     }
     end_progress(r);
     if (good && r->picture != NULL) {
-        good = end_picture(r->picture, r->unseen);
+        good = end_picture(r->picture, r->unseen, r->colours->plain ? r->colours->unseen : NULL);
         r->picture = NULL;
     }
     return good;
