@@ -148,7 +148,7 @@ def check_unread(tally, whole, name, area):
     tally.check(same and len(shown) == len(whole), "%s: a pixel outside the layer differs" % name)
     unseen = sum(line[x:x + 3] in (MAGENTA, GREEN) for line in shown[top:bottom] for x in range(3 * left, 3 * right, 3))
     with open(os.path.join(OUT, name + ".txt"), encoding="utf-8") as file:
-        told = int(re.search(r", (\d+) of \d+ unseen; pencil: \S+, \S+\n\Z", file.read()).group(1))
+        told = int(re.search(r", (\d+) of \d+ unseen, drawn as green squares on magenta; pencil: \S+, \S+\n\Z", file.read()).group(1))
     tally.check(unseen == told > 0, "%s: %d pixels of the pattern, %d told" % (name, unseen, told))
 
 

@@ -1,7 +1,8 @@
 """The viewer's pictures, pixel for pixel, beside tests/view_reference.py.
 
-Random pages of all types, coders, resolutions and places, with pencil sheets and unread layers;
-stored layers of outside coders; colours. SEED repeats a run, PAGES sets how many pages it has.
+Random pages of all types, coders, resolutions and places, with pencil sheets and unread layers, half
+of them with a plain colour for unseen; stored layers of outside coders; colours. SEED repeats a run,
+PAGES sets how many pages it has.
 """
 
 import concurrent.futures
@@ -49,7 +50,7 @@ def due_lines(page, stripe=None):
     return lines
 
 
-def words_for(coders, page, stripe=None):
+def words_for(coders, page, stripe=None, unseen=view_reference.Squares()):
     """Files for a page, and the words that show it."""
     names = [coders.path(name) for name in ("a.page", "a.png", "pencil.sheet", "a.pencil")]
     view_making.write(names[0], page.octets())
@@ -62,6 +63,8 @@ def words_for(coders, page, stripe=None):
     unread = ["%d:%d" % (s, layer.number) for s, layer in page.coded() if layer.unread]
     if unread:
         words += ["--unread", *unread]
+    if isinstance(unseen, view_reference.Plain):
+        words += ["--unseen", unseen.asked]
     return words + (["--stripe", str(stripe)] if stripe is not None else []), names[1]
 
 
@@ -83,9 +86,9 @@ def check_told(results, name, page, shown, stripe):
                           "%s: no line '%s' in\n%s" % (name, due, shown.told))
 
 
-def check_page(results, coders, page, name, stripe=None):
+def check_page(results, coders, page, name, stripe=None, unseen=view_reference.Squares()):
     """A page is shown as the reference has it, and what is told of it is true."""
-    words, out = words_for(coders, page, stripe)
+    words, out = words_for(coders, page, stripe, unseen)
     if os.path.exists(out):
         os.remove(out)
     shown, lines = Shown(words, out), due_lines(page, stripe)
@@ -101,7 +104,7 @@ def check_page(results, coders, page, name, stripe=None):
     sizes = (picture.width, picture.height)
     results.check(sizes == (page.width, len(lines)), "%s: a picture of %d by %d" % (name, *sizes))
     if sizes == (page.width, len(lines)):
-        difference = view_reference.compared(lines, picture)
+        difference = view_reference.compared(lines, picture, unseen)
         results.note(lines, difference)
         results.check(difference.wrong == 0, "%s: %d pixels are wrong, the first %s"
                       % (name, difference.wrong, difference.first))
@@ -116,15 +119,32 @@ def check_page(results, coders, page, name, stripe=None):
 
 
 def check_counts(results, name, picture, shown, difference):
-    """Four ways to count the unseen, and the status."""
+    """Four ways to count the unseen, what they are told to be drawn as, and the status."""
     counts = (difference.unseen, difference.shown_unseen, (shown.unseen() or (-1,))[0],
               int(picture.texts.get("Unseen pixels", -1)))
     results.check(len(set(counts)) == 1, "%s: due, shown, reported and noted unseen pixels are %s"
                   % (name, counts))
     results.check((shown.unseen() or (0, 0))[1] == difference.pixels,
                   "%s: told as %s pixels" % (name, shown.unseen()))
+    drawn = difference.drawn
+    results.check(shown.drawn() == (drawn.told if difference.unseen else None),
+                  "%s: told as drawn as %s, not %s" % (name, shown.drawn(), drawn.told))
+    texts = {"Unseen pixels": str(difference.unseen)}
+    texts.update({"Unseen colour": drawn.digits} if drawn.digits else {})
+    results.check(picture.texts == texts, "%s: the PNG tells %s" % (name, picture.texts))
     due = 3 if difference.unseen else 0
     results.check(shown.status == due, "%s: status %s, not %d" % (name, shown.status, due))
+
+
+def random_unseen(rng, page):
+    """For half of the pages the pattern; else any colour, or one that a seen pixel may have too."""
+    if rng.random() < 0.5:
+        return view_reference.Squares()
+    bases = [view_reference.screen(layer.base, ()) for layers in page.stripes for layer in layers]
+    while True:
+        asked = rng.choice([*bases, (255,) * 3, (0,) * 3, tuple(rng.randbytes(3)), tuple(rng.randbytes(3))])
+        if view_reference.is_certain(asked):
+            return view_reference.Plain(asked)
 
 
 def check_random(seed, count):
@@ -137,7 +157,8 @@ def check_random(seed, count):
         for _, layer in page.coded():
             layer.unread = rng.random() < share
         stripe = rng.randrange(len(page.stripes)) if rng.random() < 0.2 else None
-        check_page(results, coders, page, "random page %d of %d" % (number, seed), stripe)
+        check_page(results, coders, page, "random page %d of %d" % (number, seed), stripe,
+                   random_unseen(rng, page))
     return results
 
 

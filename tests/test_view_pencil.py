@@ -420,6 +420,7 @@ def check_last_lines(tally, folder):
     page = "show.page: %s, " % SIZE
     pencil = "; pencil: show.sheet, show.pencil"
     unseen = WIDTH * HEIGHT     # pixels; the strike has 100
+    squares, grey = ", drawn as green squares on magenta", ", drawn as #808080 (--unseen)"
     for words, due, status in (
             ((), page + "all seen" + pencil, 0), (("-o", "out.png"), page + "all seen" + pencil, 0),
             (("--times",), page + "all seen" + pencil, 0),
@@ -433,8 +434,14 @@ def check_last_lines(tally, folder):
             (("--no-pencil",), page + "all seen; pencil left out (--no-pencil): show.sheet", 0),
             (("--no-digests",), page + "all seen" + pencil + ", not checked (--no-digests)", 0),
             (("--no-pencil", "--no-digests"), page + "all seen; pencil left out (--no-pencil): show.sheet", 0),
-            (("--unread", "0:4"), page + "%d of %d unseen" % (unseen, unseen) + pencil, 3),
-            (("--unread", "0:2"), page + "%d of %d unseen" % (unseen - 100, unseen) + pencil, 3)):
+            (("--unread", "0:4"), page + "%d of %d unseen" % (unseen, unseen) + squares + pencil, 3),
+            (("--unread", "0:2"), page + "%d of %d unseen" % (unseen - 100, unseen) + squares + pencil, 3),
+            (("--unread", "0:2", "--unseen", "808080"),
+             page + "%d of %d unseen" % (unseen - 100, unseen) + grey + pencil, 3),
+            (("--unread", "0:4", "--unseen", "#808080", "-o", "out.png"),
+             page + "%d of %d unseen" % (unseen, unseen) + grey + pencil, 3),
+            (("--unseen", "808080"), page + "all seen" + pencil, 0),
+            (("--unseen", "808080", "--list"), page + "not decoded (--list)" + pencil, 0)):
         shown = folder.show("show.page", *words)
         check_last(tally, shown, due, status)
         before = shown.told.splitlines()[-2:-1]

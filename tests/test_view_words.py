@@ -43,6 +43,7 @@ def check_colours(tally, folder):
 # Options
 
 LAYER = "STRIPE:LAYER, a stripe from 0 to 63 and a layer from 1 to 15"
+COLOUR = "RRGGBB, six hexadecimal digits of red, green and blue"
 SECONDS = "N or N:M, N from 1 to 3600 seconds of the processor and M from N to 86400 by the clock"
 FAULTS = [
     ("", "no page is named; --help tells how"), ("--list", "no page is named; --help tells how"),
@@ -72,6 +73,11 @@ FAULTS = [
     ("show.page --unread 0:6", "--unread 0:6: the stripe has no such layer"),
     ("show.page --unread 0:4 --no-pencil", "--unread 0:4: the stripe has no such layer"),
     ("show.page --unread 0:5", "--unread 0:5: the layer is not coded, so nothing of it is read"),
+    ("show.page --unseen", "--unseen: needs " + COLOUR),
+    *(("show.page --unseen " + word, "--unseen %s: not %s" % (word, COLOUR))
+      for word in ("''", "#", "80808", "#80808", "8080800", "##808080", "808080#", "80808G", "0x8080", "-80808",
+                   "+80808", "80.808", "888", "grey", "--list", "\uff18080", "\u0661\u0662\u0663")),
+    ("show.page --unseen 808080 --unseen 808080", "--unseen 808080: given twice"),
     ("show.page --memory", "--memory: needs a size, at most 4G, as 300K, 512M or 2G"),
     *(("show.page --memory " + word, "--memory %s: at most 4G, as 300K, 512M or 2G" % word)
       for word in ("5G", "4097M", "1T", "1.5G", "1GB", "''", "M", "18446744073709551617")),
@@ -87,11 +93,13 @@ def check_options(tally, folder):
         tally.check(shown.status == 2 and shown.wrong == "spirerook-view: %s\n" % due and not shown.told,
                     "%s: status %s, '%s', not '%s'" % (line, shown.status, shown.wrong, due))
     for line in ("--seconds 1", "--seconds 3600", "--seconds 5:5", "--seconds 3600:86400", "--no-sandbox",
-                 "--no-digests --no-pencil", "--memory 4G --stripe 0", "--no-pencil --no-pencil"):
+                 "--no-digests --no-pencil", "--memory 4G --stripe 0", "--no-pencil --no-pencil",
+                 "--unseen 09AFaf", "--unseen #09afAF", "--unseen 000000 --list", "--unseen ffffff --stripe 0"):
         shown = folder.show("show.page", *line.split())
         tally.check(shown.status == 0 and not shown.wrong, "%s: %s" % (line, shown.wrong))
     told = folder.show("--help").told
-    for word in ("--seconds N", "--no-sandbox", "--no-pencil", "--no-digests", "--pencil SHEET FILE"):
+    for word in ("--seconds N", "--no-sandbox", "--no-pencil", "--no-digests", "--pencil SHEET FILE",
+                 "--unseen RRGGBB"):
         tally.check(word in told, "--help does not tell of " + word)
 
 

@@ -303,14 +303,22 @@ class Shown:
         self.told, self.wrong = told.decode("utf-8", "replace"), wrong.decode("utf-8", "replace")
         self.out = read(out) if out and os.path.exists(out) else None
 
-    def unseen(self):
-        """(unseen, all) of the page's line, or None."""
-        found = re.findall(r": (\d+) by (\d+) pixels, (?:(\d+) of (\d+) unseen|all seen)"
+    def last_line(self):
+        """The cells of the page's line, or None."""
+        found = re.findall(r": (\d+) by (\d+) pixels, (?:(\d+) of (\d+) unseen, drawn as ([^;]+)|all seen)"
                            r"; (?:no pencil given|pencil[ :].*)\n\Z", self.told, re.M)
-        if len(found) != 1:
+        return found[0] if len(found) == 1 else None
+
+    def unseen(self):
+        """(unseen, all) of that line, or None."""
+        if self.last_line() is None:
             return None
-        width, height, unseen, all_pixels = (int(cell or 0) for cell in found[0])
+        width, height, unseen, all_pixels = (int(cell or 0) for cell in self.last_line()[:4])
         return (unseen, all_pixels) if unseen else (0, width * height)
+
+    def drawn(self):
+        """What it tells unseen to be drawn as; None where all is seen."""
+        return self.last_line() and self.last_line()[4] or None
 
     def is_read(self, stripe, layer):
         """Whether a layer's line ends with `read`; None if there is not one line for it."""

@@ -147,11 +147,76 @@ def screen_exactly(codes):
     return tuple(255 * companded(min(max(part, 0.0), 1.0)) for part in rgb)
 
 
+def rounded(parts):
+    return tuple(int(part + 0.5) for part in parts)
+
+
 @functools.lru_cache(maxsize=1 << 18)
-def screen(codes):
-    """The three octets; never one of the two colours that stand for unseen."""
-    rgb = tuple(int(part + 0.5) for part in screen_exactly(codes))
-    return rgb if rgb not in (MAGENTA, GREEN) else tuple(max(part - 1, 0) for part in rgb)
+def screen(codes, kept=(MAGENTA, GREEN)):
+    """The three octets; never one of the colours that stand for unseen."""
+    rgb = rounded(screen_exactly(codes))
+    if rgb not in kept:
+        return rgb
+    return tuple(max(part - 1, 0) for part in rgb) if any(rgb) else (1, 1, 1)
+
+
+# The way there, of what `--unseen` asks for
+
+TO_XYZ = inverse(TO_RGB)
+
+
+def light_of(value):
+    """IEC 61966-2-1: of a part from 0 to 1."""
+    return value / 12.92 if value <= 0.04045 else ((value + 0.055) / 1.055) ** 2.4
+
+
+def root(t):
+    return t ** (1 / 3) if t > (6 / 29) ** 3 else t / (3 * (6 / 29) ** 2) + 4 / 29
+
+
+def codes_exactly(rgb):
+    """The codes of sRGB octets, within their range but not rounded."""
+    cones = product(BRADFORD, product(TO_XYZ, [light_of(part / 255) for part in rgb]))
+    light = product(CONES_AS, [of / by for of, by in zip(cones, ADAPTING)])
+    fx, fy, fz = (root(part / white) for part, white in zip(light, D50))
+    exact = ((116 * fy - 16) * 255 / 100, 128 + 500 * (fx - fy) * 255 / 170,
+             96 + 200 * (fy - fz) * 255 / 200)
+    return tuple(min(max(part, 0.0), 255.0) for part in exact)
+
+
+# What unseen pixels are drawn as
+
+class Squares:
+    """Green squares on magenta; the manual leaves open where they stand, the viewer has them so."""
+
+    kept, told, digits = (MAGENTA, GREEN), "green squares on magenta", None
+
+    def at(self, x, y):
+        return GREEN if x // SQUARE % 2 == 1 and y // SQUARE % 2 == 1 else MAGENTA
+
+
+class Plain:
+    """The colour that `--unseen` asks for, as near as codes come to it."""
+
+    def __init__(self, asked):
+        self.asked = "%02X%02X%02X" % asked
+        self.codes = rounded(codes_exactly(asked))
+        self.kept = (rounded(screen_exactly(self.codes)),)
+        self.digits = "#%02X%02X%02X" % self.kept[0]
+        self.told = self.digits + " (--unseen)"
+
+    def at(self, _x, _y):
+        return self.kept[0]
+
+
+def is_certain(asked):
+    """Whether `--unseen` of this colour is drawn in one colour only, however many digits the constants
+    have: those of the viewer's move codes by 0.012, and the screen's colour by 0.33 where it is dark."""
+    def is_far(part, by):
+        return abs(part % 1 - 0.5) > by
+    codes = codes_exactly(asked)
+    return all(is_far(part, 0.03) for part in codes) and all(
+        is_far(part, 0.4 if part < 64 else 0.08) for part in screen_exactly(rounded(codes)))
 
 
 # How a shown picture is told from the due one
@@ -159,26 +224,27 @@ def screen(codes):
 class Difference:
     """Counts what the shown pixels are against the due ones."""
 
-    def __init__(self):
+    def __init__(self, unseen):
+        self.drawn = unseen
         self.pixels = self.unseen = self.wrong = self.shown_unseen = 0
         self.steps, self.first = set(), ""
 
     def add(self, x, y, due, shown):
         self.pixels += 1
-        if shown in (MAGENTA, GREEN):
+        if shown in self.drawn.kept:
             self.shown_unseen += 1
         if due is UNSEEN:
             self.unseen += 1
-            right = shown == pattern(x, y)
+            right = shown == self.drawn.at(x, y)
         else:
-            right = shown == screen(due) or self.is_a_step(due, shown)
+            right = shown == screen(due, self.drawn.kept) or self.is_a_step(due, shown)
         if not right:
             self.wrong += 1
             self.first = self.first or "at %d %d %s is due, and %s is shown" % (
-                x, y, due and (due, screen(due)), shown)
+                x, y, due and (due, screen(due, self.drawn.kept)), shown)
 
     def add_right(self, line):
-        """A line shown to the octet; no seen colour of the reference is one of the pattern's."""
+        """A line shown to the octet; no seen colour of the reference is one of those kept."""
         unseen = line.count(UNSEEN)
         self.pixels += len(line)
         self.unseen += unseen
@@ -186,28 +252,24 @@ class Difference:
 
     def is_a_step(self, due, shown):
         """Rounding near a half, where digits of the constants may tell, most for light near 0 (of all
-        codes none by 0.95); or one of the two colours kept free, for which the manual does not say
-        what is darkened."""
-        exact = screen_exactly(due)
-        rounded = tuple(int(part + 0.5) for part in exact)
-        if rounded in (MAGENTA, GREEN):
-            return shown != rounded and all(0 <= r - s <= 1 for r, s in zip(rounded, shown))
+        codes none by 0.95); or one of the colours kept free, for which the manual does not say what
+        is darkened, or of black lightened."""
+        exact, kept = screen_exactly(due), self.drawn.kept
+        rgb = rounded(exact)
+        if rgb in kept:
+            way = 1 if any(rgb) else -1
+            return shown != rgb and all(0 <= way * (r - s) <= 1 for r, s in zip(rgb, shown))
         near = all(abs(part - s) < 0.95 for part, s in zip(exact, shown))
         if near:
             self.steps.add(due)
-        return near and shown not in (MAGENTA, GREEN)
+        return near and shown not in kept
 
 
-def pattern(x, y):
-    """Green squares on magenta; the manual leaves open where they stand, the viewer has them so."""
-    return GREEN if x // SQUARE % 2 == 1 and y // SQUARE % 2 == 1 else MAGENTA
-
-
-def compared(lines, picture):
-    """The difference of lines of colours and a PNG."""
-    difference = Difference()
+def compared(lines, picture, unseen=Squares()):
+    """The difference of lines of colours and a PNG, in which unseen is drawn so."""
+    difference = Difference(unseen)
     for y, line in enumerate(lines):
-        plain = b"".join(bytes(pattern(x, y) if due is UNSEEN else screen(due))
+        plain = b"".join(bytes(unseen.at(x, y) if due is UNSEEN else screen(due, unseen.kept))
                          for x, due in enumerate(line))
         if picture.samples == 3 and picture.rows[y] == plain:
             difference.add_right(line)
