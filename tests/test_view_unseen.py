@@ -24,6 +24,13 @@ STRONG = [(255, 0, 0), (0, 255, 0), (0, 0, 255), (0, 255, 255), (255, 0, 255), (
           (0, 1, 0), (0, 0, 1), (254, 255, 255)]
 
 
+def show(words, out, **settings):
+    """A run whose picture is not one that stood there before."""
+    if os.path.exists(out):
+        os.remove(out)
+    return Shown(words, out, **settings)
+
+
 # The colour
 
 def unread_page(coders, width=8, height=2):
@@ -50,9 +57,9 @@ def check_conversion(results, coders, rng):
     colours += [tuple(rng.randbytes(3)) for _ in range(reference_run.trials(100))]
     for asked in colours:
         digits = "%02X%02X%02X" % asked
-        shown = Shown([*words, "--unseen", rng.choice((digits, "#" + digits, digits.lower()))], out)
+        shown = show([*words, "--unseen", rng.choice((digits, "#" + digits, digits.lower()))], out)
         told = re.fullmatch(r"#([0-9A-F]{6}) \(--unseen\)", shown.drawn() or "")
-        if not told:
+        if not told or not shown.out:
             results.check(False, "%s: %s %s" % (digits, shown.wrong, shown.told))
             continue
         drawn, due = tuple(bytes.fromhex(told[1])), Plain(asked)
@@ -141,9 +148,12 @@ def check_uncomposed(results, coders):
         words, out = test_view.words_for(coders, page, unseen=unseen)
         for looks in range(1, 10):
             name = "unseen as %s, late after %d looks" % (unseen.told, looks)
-            shown = Shown(words, out, env=dict(os.environ, LD_PRELOAD=shim, LOOKS=str(looks)))
+            shown = show(words, out, env=dict(os.environ, LD_PRELOAD=shim, LOOKS=str(looks)))
             told = re.search(r"^\S+: lines (\d+) to 79 were not composed within ", shown.told, re.M)
             first = int(told[1]) if told else len(due)
+            if not shown.out:
+                results.check(False, "%s: status %s, %s" % (name, shown.status, shown.wrong))
+                continue
             firsts.add(first)
             lines = due[:first] + [[UNSEEN] * page.width] * (len(due) - first)
             picture = view_reference.Png(shown.out)
