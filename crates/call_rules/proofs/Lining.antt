@@ -4,7 +4,7 @@
 use Prim.Native.Nat.{ℕ, _<_}
 use mathlib.Core.Path.{_≡_, sym, ap, subst, _∙_}
 use mathlib.Core.Logic.{_↔_, _⊎_}
-use mathlib.Core.List.{List}
+use mathlib.Core.List.{List, [], _∷_}
 use lib.ListN.{length, getD}
 use Rattle.answers.specs.declared.Answer.the-variants.{Done}
 use Rattle.answers_report.specs.declared.Report.{Report}
@@ -16,7 +16,7 @@ use Rattle.picture_rules.specs.Content.{SeenAs}
 use Rattle.picture_rules.specs.Line.{lineOf}
 use Rattle.picture_rules.specs.Sentences.{sceneOf}
 use Rattle.picture_rules.specs.Demand.{fourAt, seenIn, unseenIn, at, Shown, Reread, AllRead}
-use Rattle.picture_rules.proofs.Demand3.{mark-seen, mark-unseen, recoloured, demand-3, refused-line}
+use Rattle.picture_rules.proofs.Demand3.{mark-seen, mark-unseen, octets-told, recoloured, demand-3, refused-line}
 use Rattle.picture_rules.proofs.More.{more-stays, all-seen}
 use Rattle.picture_rules.proofs.Before.{answers-before, into-before}
 use Rattle.call_rules.specs.Calls.{LineUnseenCall, LineCall, BaseLineCall}
@@ -73,6 +73,15 @@ module _ (sheet planes samples : List ℕ) (k y : ℕ) where
   )
 
   module _ (out : List ℕ) (r : Report) (out′ : List ℕ) where
+    -- demand 3 in the octets that C gives and gets: c0 c1 c2 1 exactly if every content gives that colour, u0 u1 u2 0 exactly if none is given by all
+    pub lined-octets : (u0 u1 u2 : ℕ) → LineUnseenCall sheet planes samples k y (record { c0 = u0; c1 = u1; c2 = u2 }) out r out′ → r .number ≡ 0
+        → (x : ℕ) → x < widthOf (sceneOf sheet (listOf planes) samples k)
+        → ((c0 c1 c2 : ℕ) → fourAt out′ x ≡ c0 ∷ c1 ∷ c2 ∷ 1 ∷ []
+        ↔ SeenAs (sceneOf sheet (listOf planes) samples k) (at x) (at y) (record { c0 = c0; c1 = c1; c2 = c2 }))
+        × (fourAt out′ x ≡ u0 ∷ u1 ∷ u2 ∷ 0 ∷ [] ↔ ((c : Colour) → SeenAs (sceneOf sheet (listOf planes) samples k) (at x) (at y) c → ⊥))
+    lined-octets u0 u1 u2 c z x h =
+        octets-told u0 u1 u2 (lined-shown sheet planes samples k y (record { c0 = u0; c1 = u1; c2 = u2 }) out r out′ c z .pixels x h)
+
     -- the exported line is its sibling with 128 128 96
     pub lined-grey : LineCall sheet planes samples k y out r out′ ↔ LineUnseenCall sheet planes samples k y (record { c0 = 128; c1 = 128; c2 = 96 }) out r out′
     lined-grey = (λ c. c, λ c. c)

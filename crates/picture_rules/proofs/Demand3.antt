@@ -68,6 +68,12 @@ module _ {u : Colour} {v : Scene} {y x : ℕ} {four : List ℕ} (t : Tells u v y
       go (inl s) m = clash (sym m ∙ ap (λ (l : List ℕ). getD l 3 0) (s .1))
       go (inr e) m = t .unseen .0 e
 
+-- the same octet by octet, for any three of an unseen colour
+pub octets-told : {v : Scene} {y x : ℕ} {four : List ℕ} (u0 u1 u2 : ℕ) → Tells (record { c0 = u0; c1 = u1; c2 = u2 }) v y x four
+    → ((c0 c1 c2 : ℕ) → four ≡ c0 ∷ c1 ∷ c2 ∷ 1 ∷ [] ↔ SeenAs v (at x) (at y) (record { c0 = c0; c1 = c1; c2 = c2 }))
+    × (four ≡ u0 ∷ u1 ∷ u2 ∷ 0 ∷ [] ↔ ((c : Colour) → SeenAs v (at x) (at y) c → ⊥))
+octets-told u0 u1 u2 t = (λ c0 c1 c2. t .seen (record { c0 = c0; c1 = c1; c2 = c2 }), t .unseen)
+
 -- where no unseen colour is given, a pixel is 128 128 96 0 exactly if it is unseen
 pub grey-unseen : {v : Scene} {y x : ℕ} {four : List ℕ} → Tells unseenGrey v y x four
     → four ≡ 128 ∷ 128 ∷ 96 ∷ 0 ∷ [] ↔ ((c : Colour) → SeenAs v (at x) (at y) c → ⊥)

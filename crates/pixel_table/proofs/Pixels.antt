@@ -23,7 +23,7 @@ use Rattle.picture_rules.specs.Samples.{maskAt, imageAt}
 use Rattle.picture_rules.specs.Place.{scale}
 use Rattle.picture_rules.specs.Line.{lineOf, lineInto}
 use Rattle.picture_rules.proofs.Demand3.{line-length, line-anywhere}
-use Rattle.picture_rules.specs.Demand.{fourAt, seenIn, unseenIn}
+use Rattle.picture_rules.specs.Demand.{fourAt, seenIn}
 
 -- a pixel of a page 8 main pixels wide
 pub record Pixel : Type 0 where
@@ -121,14 +121,14 @@ pixel-d =
 
 abbrev pub pixel-e : Pixel
 pixel-e =
-    record { sheet = sheetOf (blankImage 1 white ∷ mask2 ∷ blankImage 3 black ∷ []); records = 3; stripes = 1; planes = []; samples = []; stripe = 0; line = 1; x = 5; due = unseenIn }
+    record { sheet = sheetOf (blankImage 1 white ∷ mask2 ∷ blankImage 3 black ∷ []); records = 3; stripes = 1; planes = []; samples = []; stripe = 0; line = 1; x = 5; due = λ u. u .c0 ∷ u .c1 ∷ u .c2 ∷ 0 ∷ [] }
 
 -- (f), (g): layer 3 unread, from main pixel 2 to 5, mask 1: inside, and outside
 abbrev pub sheet-fg : List ℕ
 sheet-fg = sheetOf (blankImage 1 white ∷ mask2 ∷ image 3 2 2 1 200 black ∷ [])
 
 abbrev pub pixel-f : Pixel
-pixel-f = record { sheet = sheet-fg; records = 3; stripes = 1; planes = entry 2 0; samples = replicate 16 1; stripe = 0; line = 1; x = 5; due = unseenIn }
+pixel-f = record { sheet = sheet-fg; records = 3; stripes = 1; planes = entry 2 0; samples = replicate 16 1; stripe = 0; line = 1; x = 5; due = λ u. u .c0 ∷ u .c1 ∷ u .c2 ∷ 0 ∷ [] }
 
 abbrev pub pixel-g : Pixel
 pixel-g = record { sheet = sheet-fg; records = 3; stripes = 1; planes = entry 2 0; samples = replicate 16 1; stripe = 0; line = 1; x = 6; due = λ u. seenIn black }
