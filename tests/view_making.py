@@ -305,7 +305,7 @@ class Shown:
 
     def last_line(self):
         """The cells of the page's line, or None."""
-        found = re.findall(r": (\d+) by (\d+) pixels, (?:(\d+) of (\d+) unseen, drawn as ([^;]+)|all seen)"
+        found = re.findall(r": (\d+) by (\d+) pixels, (?:(\d+) of (\d+) unseen(?:, drawn as ([^;]+))?|all seen)"
                            r"; (?:no pencil given|pencil[ :].*)\n\Z", self.told, re.M)
         return found[0] if len(found) == 1 else None
 
@@ -317,7 +317,7 @@ class Shown:
         return (unseen, all_pixels) if unseen else (0, width * height)
 
     def drawn(self):
-        """What it tells unseen to be drawn as; None where all is seen."""
+        """What it tells unseen to be drawn as; None where all is seen, or nothing is drawn."""
         return self.last_line() and self.last_line()[4] or None
 
     def is_read(self, stripe, layer):

@@ -215,8 +215,8 @@ static void tell_sides(const options *asked, uint32_t width, uint32_t height)
     add_words(": %u by %u pixels, ", (unsigned)width, (unsigned)height);
 }
 
-/* As they are drawn, which may be a step off what was asked for. */
-static void tell_unseen(const screen *colours)
+/* As they are drawn, which may be off what was asked for. */
+static void tell_drawn(const screen *colours)
 {
     if (colours->plain) {
         add_words(", drawn as #%02X%02X%02X (--unseen)", colours->unseen[0], colours->unseen[1],
@@ -235,7 +235,9 @@ static void tell_page(const run *r)
         add_words("all seen");
     } else {
         add_words("%" PRIu64 " of %" PRIu64 " unseen", r->unseen, pixels);
-        tell_unseen(r->colours);
+        if (r->asked->out != NULL) {
+            tell_drawn(r->colours);
+        }
     }
     tell_pencil(&r->opened->source);
 }

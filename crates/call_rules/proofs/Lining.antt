@@ -5,17 +5,19 @@ use Prim.Native.Nat.{ℕ, _<_}
 use mathlib.Core.Path.{_≡_, sym, ap, subst, _∙_}
 use mathlib.Core.Logic.{_↔_, _⊎_}
 use mathlib.Core.List.{List, [], _∷_}
-use lib.ListN.{length, getD}
+use lib.ListN.{length, getD, drop}
+use Rattle.answers.specs.declared.Answer.{Answer}
 use Rattle.answers.specs.declared.Answer.the-variants.{Done}
 use Rattle.answers_report.specs.declared.Report.{Report}
-use Rattle.answers_report.specs.Report.{reportOf}
+use Rattle.answers_report.specs.Report.{reportOf, report-by-values}
 use Rattle.sheet_rules.specs.declared.Colour.{Colour}
 use Rattle.picture_rules.specs.Planes.{listOf}
 use Rattle.picture_rules.specs.Samples.{widthOf}
 use Rattle.picture_rules.specs.Content.{SeenAs}
 use Rattle.picture_rules.specs.Line.{lineOf}
-use Rattle.picture_rules.specs.Sentences.{sceneOf}
+use Rattle.picture_rules.specs.Sentences.{sceneOf, Gives}
 use Rattle.picture_rules.specs.Demand.{fourAt, seenIn, unseenIn, at, Shown, Reread, AllRead}
+use Rattle.picture_rules.proofs.Exactly.{line-exactly}
 use Rattle.picture_rules.proofs.Demand3.{mark-seen, mark-unseen, octets-told, recoloured, demand-3, refused-line}
 use Rattle.picture_rules.proofs.More.{more-stays, all-seen}
 use Rattle.picture_rules.proofs.Before.{answers-before, into-before}
@@ -27,6 +29,13 @@ module _ (sheet planes samples : List ℕ) (k y : ℕ) (u : Colour) (out : List 
   pub lined-kept : (r .number ≡ 0 → ⊥) → out′ ≡ out
   lined-kept n = c .holds ∙ refused-line sheet (listOf planes) samples k y u out (report-refused (lineOf sheet (listOf planes) samples k y (length out)) r (c .reports) n)
 
+  -- each report is given exactly when the sentences have its answer
+  pub lined-told : (a : Answer) → r ≡ reportOf a ↔ Gives sheet (listOf planes) samples k y (length out) a
+  lined-told a = (
+    λ e. line-exactly sheet (listOf planes) samples k y (length out) a .0 (report-by-values (lineOf sheet (listOf planes) samples k y (length out)) a (sym (c .reports) ∙ e)),
+    λ g. c .reports ∙ ap reportOf (line-exactly sheet (listOf planes) samples k y (length out) a .1 g),
+  )
+
   module _ (z : r .number ≡ 0) where
     answered : lineOf sheet (listOf planes) samples k y (length out) ≡ Done (r .count)
     answered = report-done (lineOf sheet (listOf planes) samples k y (length out)) r (c .reports) z
@@ -35,6 +44,10 @@ module _ (sheet planes samples : List ℕ) (k y : ℕ) (u : Colour) (out : List 
     pub lined-shown : Shown sheet (listOf planes) samples k y u out out′ (r .count)
     lined-shown =
         subst (λ (l : List ℕ). Shown sheet (listOf planes) samples k y u out l (r .count)) (sym (c .holds)) (demand-3 sheet (listOf planes) samples k y u out (r .count) answered)
+
+    -- the octets past the line stay
+    pub lined-rest : drop (r .count) out′ ≡ drop (r .count) out
+    lined-rest = lined-shown .past
 
     -- the mark alone tells, whatever the unseen colour is: 1 exactly if all contents give one colour, 0 exactly if they do not
     module _ (x : ℕ) (h : x < widthOf (sceneOf sheet (listOf planes) samples k)) where

@@ -4,8 +4,8 @@ use Prim.Native.Nat.{ℕ, zero, suc, _+_, _*_, _%_, _<_, _≤_}
 use native.Mathlib.Omega.{arith}
 use mathlib.Core.Path.{_≡_, refl, sym, ap, subst, _∙_}
 use mathlib.Core.Bool.{Bool, true, false, cond, _&&_}
-use mathlib.Core.List.{List}
-use lib.ListN.{length, getD}
+use mathlib.Core.List.{List, _++_, List·Memᴰ}
+use lib.ListN.{length, getD, List·getD-append}
 use lib.Dec.{eqb}
 use Rattle.sheet_rules.specs.StripeTable.{layerRecord}
 use Rattle.laws.proofs.Cases.{cond-with, cond-both, clash}
@@ -165,6 +165,22 @@ module _ (s : List ℕ) (k y : ℕ) (pl qm : PlaneList) (d e : List ℕ) (g : St
         grows (stackAt old x z) (stackAt new x z) (pairsOf old)
         (λ j a b. mask-grows (j * 2) (omega arith) (omega arith) (omega arith))
         (λ j a. image-grows (j * 2 + 1) (omega arith) (omega arith) (omega arith))
+
+-- ---- when what was read is read again, and when all is read
+
+-- more samples behind the same, and entries that stand in the second list too
+pub reread-more : (v w : Scene) (more : List ℕ) → w .samples ≡ v .samples ++ more
+    → ((p : Plane) → List·Memᴰ p (v .planes) → List·Memᴰ p (w .planes) × (p .start + planeSpan (recordOf v (p .layer)) ≤ length (v .samples))) → Reread v w
+reread-more v w more e all p m = (
+  p,
+  all p m .0,
+  refl,
+  λ i h. let k = all p m .1 in ap (λ (l : List ℕ). getD l (p .start + i) 0) e ∙ List·getD-append (v .samples) more 0 (p .start + i) (omega arith),
+)
+
+-- an entry for each layer
+pub all-listed : (v : Scene) → ((l : ℕ) → 1 ≤ l → l ≤ v .extent .layers → (p : Plane) × List·Memᴰ p (v .planes) × (p .layer ≡ l)) → AllRead v
+all-listed v each l a b c = each l a b
 
 -- ---- the fourth octet
 
