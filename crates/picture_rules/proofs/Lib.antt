@@ -1,4 +1,5 @@
 pub mod Division
+pub mod Down
 pub mod Scenes
 pub mod Places
 pub mod Rule

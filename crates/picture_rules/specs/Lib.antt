@@ -4,6 +4,7 @@ pub mod Samples
 pub mod Sentences
 pub mod Content
 pub mod Demand
+pub mod Down
 pub mod Decide
 pub mod Line
 pub mod BaseLine
