@@ -1,47 +1,73 @@
--- One law for each way out of the pairs of a pixel: its premises are what is known there.
+-- One law for each way out of the way down: its premises are what is known there.
 -- Assumes nothing.
-use Prim.Native.Nat.{ℕ, _+_, _*_, _≤_, _<_}
+use Prim.Native.Nat.{ℕ, zero, suc, _+_, _-_, _*_, _≤_, _<_}
 use native.Mathlib.Omega.{arith}
-use native.Mathlib.Numerals.{add-one}
-use mathlib.Core.Path.{_≡_, ap, _∙_}
+use mathlib.Core.Path.{_≡_, refl, ap, _∙_}
+use mathlib.Core.Bool.{true, false}
 use mathlib.Core.List.{List}
+use lib.ListN.{length}
 use borrow.Author.Needs.{needs}
+use Rattle.laws.proofs.Cases.{clash}
 use Rattle.picture_rules.specs.declared.MainPos.{MainPos}
 use Rattle.picture_rules.specs.declared.Sample.{Sample}
 use Rattle.picture_rules.specs.declared.Mask.{Mask}
-use Rattle.picture_rules.specs.Decide.{pairStep, decide}
+use Rattle.picture_rules.specs.declared.Mask.the-variants.{Zero, One, Hidden}
+use Rattle.picture_rules.specs.Down.{passing, candidates}
 use Rattle.line_fetch.specs.declared.Row.{Row}
-use Rattle.line_fetch.specs.Rows.{rowAt, rowMask, rowImage, MaskFits, ImageFits}
-use Rattle.line_pixel.specs.Rows.{rowPair, rowStack, PairFits, RowsFit}
+use Rattle.line_fetch.specs.Rows.{rowSize, rowAt, rowMask, rowImage, MaskFits, ImageFits}
+use Rattle.line_pixel.specs.Rows.{rowMasks, MasksFit}
+use Rattle.line_pixel.specs.Lead.{wayFrom, Leads}
 
-module _ (s d ns : List ℕ) (x : MainPos) where
-  pub decide-none : (cur : Sample) (r : Row) → r ≡ rowAt ns 1 → cur ≡ rowImage s d r x → cur ≡ decide (rowStack s d ns x) 0
-  unfolding decide
-  decide-none cur r e f = rw (f, e)
+-- ---- a pair on the way
 
-  pub decide-more : (j : ℕ) (cur new : Sample) → cur ≡ decide (rowStack s d ns x) j → new ≡ rowPair s d ns (j + 1) x cur → new ≡ decide (rowStack s d ns x) (j + 1)
-  unfolding decide rowPair
-  decide-more j cur new p e = rw (e, p, add-one j)
+candidates-at : (mask : ℕ → Mask) (j : ℕ) (m : Mask) → 0 < j → m ≡ mask j → candidates mask j ≡ passing m j (candidates mask (j - 1))
+unfolding candidates
+candidates-at mask zero m h e = absurd (omega arith)
+candidates-at mask (suc j) m h e = let z : suc j - 1 ≡ j = omega arith in rw (e, z)
 
-  pub decide-all : (pairs j : ℕ) (cur : Sample) → cur ≡ decide (rowStack s d ns x) j → j ≤ pairs → pairs ≤ j → cur ≡ decide (rowStack s d ns x) pairs
-  decide-all pairs j cur p a b = let z : j ≡ pairs = omega arith in p ∙ ap (decide (rowStack s d ns x)) z
+module _ (d ns : List ℕ) (x : MainPos) where
+  abbrev mask : ℕ → Mask
+  mask = rowMasks d ns x
 
-module _ (s d ns : List ℕ) where
-  pub fits-first : (pairs : ℕ) (r : Row) → RowsFit s d ns pairs → r ≡ rowAt ns 1 → ImageFits s d r
-  fits-first pairs r g e = rw e (g .image)
+  pub lead-begins : (from : ℕ) → candidates (rowMasks d ns x) from ≡ candidates (rowMasks d ns x) from
+  lead-begins from = refl
 
-  pub fits-pair : (pairs j : ℕ) → RowsFit s d ns pairs → j < pairs → PairFits s d ns (j + 1)
-  fits-pair pairs j g h = g .pair (j + 1) (omega arith) (omega arith)
+  pub lead-passed : (from j : ℕ) (r : Row) (m : Mask) → candidates (rowMasks d ns x) from ≡ candidates (rowMasks d ns x) j → 0 < j → r ≡ rowAt ns (j * 2)
+      → m ≡ rowMask d r x → m ≡ Zero → candidates (rowMasks d ns x) from ≡ candidates (rowMasks d ns x) (j - 1)
+  unfolding passing
+  lead-passed from j r m p h er em e = p ∙ candidates-at mask j m h (rw er at em) ∙ rw e
 
-  pub fits-mask : (j : ℕ) (r : Row) → PairFits s d ns j → r ≡ rowAt ns (j * 2) → MaskFits d r
-  fits-mask j r g e = rw e (g .mask)
+  pub lead-sure : (from j : ℕ) (r : Row) (m : Mask) → candidates (rowMasks d ns x) from ≡ candidates (rowMasks d ns x) j → j ≤ from → 0 < j → r ≡ rowAt ns (j * 2)
+      → m ≡ rowMask d r x → m ≡ One → Leads (rowMasks d ns x) from (record { pair = j; sure = true })
+  unfolding passing wayFrom
+  lead-sure from j r m p l h er em e = record { most = l; under = λ u. h; way = p ∙ candidates-at mask j m h (rw er at em) ∙ rw e }
 
-  pub fits-image : (j : ℕ) (r : Row) → PairFits s d ns j → r ≡ rowAt ns (j * 2 + 1) → ImageFits s d r
-  fits-image j r g e = rw e (g .image)
+  pub lead-unsure : (from j : ℕ) (r : Row) (m : Mask) → candidates (rowMasks d ns x) from ≡ candidates (rowMasks d ns x) j → j ≤ from → 0 < j → r ≡ rowAt ns (j * 2)
+      → m ≡ rowMask d r x → m ≡ Hidden → Leads (rowMasks d ns x) from (record { pair = j; sure = false })
+  unfolding passing wayFrom
+  lead-unsure from j r m p l h er em e = record { most = l; under = λ u. h; way = p ∙ candidates-at mask j m h (rw er at em) ∙ rw e }
 
-  pub pair-made : (j : ℕ) (x : MainPos) (m : Mask) (low up new : Sample) (a b : Row) → a ≡ rowAt ns (j * 2) → m ≡ rowMask d a x → b ≡ rowAt ns (j * 2 + 1)
-      → up ≡ rowImage s d b x → new ≡ pairStep m low up → new ≡ rowPair s d ns j x low
-  unfolding rowPair
-  pair-made j x m low up new a b ea em eb eu e = rw (e, em, ea, eu, eb)
+  pub lead-lowest : (from j : ℕ) → candidates (rowMasks d ns x) from ≡ candidates (rowMasks d ns x) j → j ≤ 0
+      → Leads (rowMasks d ns x) from (record { pair = 0; sure = true })
+  unfolding candidates wayFrom
+  lead-lowest from j p h =
+      let z : j ≡ 0 = omega arith in
+      record { most = omega arith; under = λ u. clash cc; way = p ∙ ap (candidates mask) z }
 
-pub ruleset deciding = (needs, decide-none, decide-more, decide-all, fits-first, fits-pair, fits-mask, fits-image, pair-made)
+-- ---- what is read is there
+
+module _ (d ns : List ℕ) where
+  pub fits-room : (from j : ℕ) → MasksFit d ns from → j ≤ from → 0 < j → j * 2 * rowSize ≤ length ns
+  fits-room from j g l h = let r = g .room in omega arith
+
+  pub fits-mask : (from j : ℕ) (r : Row) → MasksFit d ns from → j ≤ from → 0 < j → r ≡ rowAt ns (j * 2) → MaskFits d r
+  fits-mask from j r g l h e = rw e (g .mask j h l)
+
+pub fits-image : (s d ns : List ℕ) (j : ℕ) (r : Row) → ImageFits s d (rowAt ns (j * 2 + 1)) → r ≡ rowAt ns (j * 2 + 1) → ImageFits s d r
+fits-image s d ns j r g e = rw e g
+
+pub image-made : (s d ns : List ℕ) (j : ℕ) (x : MainPos) (r : Row) (p : Sample) → r ≡ rowAt ns (j * 2 + 1) → p ≡ rowImage s d r x
+    → p ≡ rowImage s d (rowAt ns (j * 2 + 1)) x
+image-made s d ns j x r p e f = rw (f, e)
+
+pub ruleset leading = (needs, lead-begins, lead-passed, lead-sure, lead-unsure, lead-lowest, fits-room, fits-mask, fits-image, image-made)

@@ -1,30 +1,71 @@
-// One pixel of a line: layer 1, then the pairs from the lowest up.
+// One pixel of a line, from the highest pair down (02, 2026-06): a sample is fetched only where a mask may choose it.
 ghost use mathlib.Core.Path.{_≡_};
+ghost use Prim.Native.Nat.{_+_, _*_, _≤_};
+ghost use lib.ListN.{length};
 ghost use Rattle.picture_rules.specs.Decide.{decide};
-ghost use Rattle.line_pixel.specs.Rows.{rowPair, rowStack, PairFits, RowsFit};
+ghost use Rattle.line_fetch.specs.Rows.{rowSize, rowAt, rowImage, ImageFits};
+ghost use Rattle.line_pixel.specs.Rows.{rowMasks, rowStack, MasksFit, RowsFit};
+ghost use Rattle.line_pixel.specs.Lead.{Leads, MayChoose};
 use picture_rules::MainPos;
+use picture_rules::Mask;
 use picture_rules::Sample;
 
-// Pair j more, from 1 on: the mask of layer 2j and the image layer 2j + 1, over what lies below.
-pub fn pair_at(s: &[u8], d: &[u8], rows: &[usize], j: usize, x: MainPos, low: Sample) -> Sample
-    requires { ⌜ PairFits (now s) (now d) (now rows) j ⌝ }
-    ensures { λ r. ⌜ r ≡ rowPair (now (s .entry)) (now (d .entry)) (now (rows .entry)) j x low ⌝ }
-{
-    let m = line_fetch::mask_at(d, line_fetch::row_at(rows, j * 2), x);
-    let up = line_fetch::image_at(s, d, line_fetch::row_at(rows, j * 2 + 1), x);
-    line_pair::pair_step(m, low, up)
+// An image layer that may show, by its pair; pair 0 is layer 1. It is sure where its mask is known to be 1, or it has none: nothing below it shows then.
+pub struct Candidate {
+    pub pair: usize,
+    pub sure: bool,
 }
 
-// What pixel x shows: layer 1, then each pair upward by its number.
+// The first candidate from a pair down: masks known to be 0 are passed.
+pub fn candidate_from(d: &[u8], rows: &[usize], from: usize, x: MainPos) -> Candidate
+    requires { ⌜ MasksFit (now d) (now rows) from ⌝ }
+    ensures { λ r. ⌜ Leads (rowMasks (now (d .entry)) (now (rows .entry)) x) from r ⌝ }
+{
+    let mut j = from;
+    while 0 < j {
+        let m = line_fetch::mask_at(d, line_fetch::row_at(rows, j * 2), x);
+        match m {
+            Mask::Zero => {}
+            Mask::One => {
+                return Candidate {
+                    pair: j,
+                    sure: true,
+                };
+            }
+            Mask::Hidden => {
+                return Candidate {
+                    pair: j,
+                    sure: false,
+                };
+            }
+        }
+        j -= 1;
+    }
+    Candidate {
+        pair: 0,
+        sure: true,
+    }
+}
+
+// The sample of pair j's image layer, asked for only where its mask may choose it.
+pub fn image_of(s: &[u8], d: &[u8], rows: &[usize], j: usize, x: MainPos) -> Sample
+    requires { ⌜ ((j * 2 + 1) * rowSize ≤ length (now rows)) × ImageFits (now s) (now d) (rowAt (now rows) (j * 2 + 1)) × MayChoose (rowMasks (now d) (now rows) x) j ⌝ }
+    ensures { λ r. ⌜ r ≡ rowImage (now (s .entry)) (now (d .entry)) (rowAt (now (rows .entry)) (j * 2 + 1)) x ⌝ }
+{
+    line_fetch::image_at(s, d, line_fetch::row_at(rows, j * 2 + 1), x)
+}
+
+// What pixel x shows: what all candidates down to the first sure one agree on. Where two differ, or one is not known, those below alter nothing.
 pub fn pixel(s: &[u8], d: &[u8], rows: &[usize], pairs: usize, x: MainPos) -> Sample
     requires { ⌜ RowsFit (now s) (now d) (now rows) pairs ⌝ }
     ensures { λ r. ⌜ r ≡ decide (rowStack (now (s .entry)) (now (d .entry)) (now (rows .entry)) x) pairs ⌝ }
 {
-    let mut cur = line_fetch::image_at(s, d, line_fetch::row_at(rows, 1), x);
-    let mut j: usize = 0;
-    while j < pairs {
-        j += 1;
-        cur = pair_at(s, d, rows, j, x, cur);
+    let mut c = candidate_from(d, rows, pairs, x);
+    let mut cur = image_of(s, d, rows, c.pair, x);
+    while !c.sure & line_agree::is_known(cur) {
+        c = candidate_from(d, rows, c.pair - 1, x);
+        let up = image_of(s, d, rows, c.pair, x);
+        cur = line_agree::agreed(cur, up);
     }
     cur
 }

@@ -1,40 +1,56 @@
-use Rattle.line_pixel.proofs.Laws.{deciding}
-use Prim.Native.Nat.{_-_, _≤_}
-use mathlib.Core.Path.{_≡_}
-use Rattle.picture_rules.specs.Decide.{decide}
+use Rattle.line_pixel.proofs.Shows.{showing, Shows, show-more, fits-next}
 use Rattle.line_pixel.specs.Rows.{rowStack}
 use Rattle.line_pixel.proofs.pixel.Statement.{statement}
 use Rattle.line_pixel.proofs.pixel.Tie as tie
 
 abbrev Inv-loop : tie.InvT-loop
-Inv-loop s d rows pairs x cur₀ j₀ cur j = (j ≤ pairs) × (cur ≡ decide (rowStack s d rows x) j)
+Inv-loop s d rows pairs x c₀ cur₀ c cur = Shows (rowStack s d rows x) pairs c cur
 
 abbrev μ-loop : tie.MeasureT-loop
-μ-loop s d rows pairs x cur₀ j₀ cur j = pairs - j
+μ-loop s d rows pairs x c₀ cur₀ c cur = c .pair
 
-row-at-requires : tie.Need-row-at-requires Inv-loop μ-loop
-row-at-requires c κs = search deciding
+candidate-from-requires : tie.Need-candidate-from-requires Inv-loop μ-loop
+candidate-from-requires c κs = search showing
 
-image-at-requires : tie.Need-image-at-requires Inv-loop μ-loop
-image-at-requires c κs = search deciding
+image-of-requires : tie.Need-image-of-requires Inv-loop μ-loop
+image-of-requires c κs = search showing
 
 loop-holds : tie.Need-loop-holds Inv-loop μ-loop
-loop-holds c = search deciding
+loop-holds c = search showing
 
-add-j : tie.Need-add-j Inv-loop μ-loop
-add-j c = search deciding
+is-known-requires : tie.Need-is-known-requires Inv-loop μ-loop
+is-known-requires c κs = search showing
 
-pair-at-requires : tie.Need-pair-at-requires Inv-loop μ-loop
-pair-at-requires c κs = search deciding
+sub-candidate-from : tie.Need-sub-candidate-from Inv-loop μ-loop
+sub-candidate-from c = search showing
+
+candidate-from-requires-2 : tie.Need-candidate-from-requires-2 Inv-loop μ-loop
+candidate-from-requires-2 c κs = search showing
+
+image-of-requires-2 : tie.Need-image-of-requires-2 Inv-loop μ-loop
+image-of-requires-2 c κs =
+    fits-next _ _ _ _ _ _ _ _
+    (c .before .before .before .before .before .before .before .before .before .before .before .pre)
+    (c .before .before .before .before .before .loop .inv)
+    (c .candidate-from2 .ensures)
+
+agreed-requires : tie.Need-agreed-requires Inv-loop μ-loop
+agreed-requires c κs = search showing
 
 loop-less : tie.Need-loop-less Inv-loop μ-loop
-loop-less c = search deciding
+loop-less c = search showing
 
 loop-again : tie.Need-loop-again Inv-loop μ-loop
-loop-again c = search deciding
+loop-again c =
+    show-more _ _ _ _ _ _ _ _ _ _ _
+    (c .before .before .before .before .before .before .before .loop .inv)
+    (c .before .before .before .before .if1 .taken)
+    (c .before .before .candidate-from2 .ensures)
+    (c .before .image-of2 .ensures)
+    (c .agreed .ensures)
 
 returns : tie.Need-returns Inv-loop μ-loop
-returns c = search deciding
+returns c = search showing
 
 pub pixel-spec : {M : Type 1} → statement M
 pixel-spec =
@@ -42,11 +58,14 @@ pixel-spec =
     (tie.spec
     Inv-loop
     μ-loop
-    row-at-requires
-    image-at-requires
+    candidate-from-requires
+    image-of-requires
     loop-holds
-    add-j
-    pair-at-requires
+    is-known-requires
+    sub-candidate-from
+    candidate-from-requires-2
+    image-of-requires-2
+    agreed-requires
     loop-less
     loop-again
     returns)

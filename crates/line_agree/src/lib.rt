@@ -1,7 +1,7 @@
-// The rule of a pair: a mask, what lies below it, and the image layer just above.
+// What two samples agree on.
 ghost use mathlib.Core.Path.{_≡_};
-ghost use Rattle.picture_rules.specs.Decide.{sameColour, agree, pairStep};
-use picture_rules::Mask;
+ghost use Rattle.picture_rules.specs.Decide.{sameColour, agree};
+ghost use Rattle.line_agree.specs.Known.{isKnown};
 use picture_rules::Sample;
 use sheet_rules::Colour;
 
@@ -29,13 +29,11 @@ pub fn agreed(low: Sample, up: Sample) -> Sample
     }
 }
 
-// Mask 1 takes the layer just above, mask 0 keeps, and under an unread mask stays what both agree on.
-pub fn pair_step(m: Mask, low: Sample, up: Sample) -> Sample
-    ensures { λ r. ⌜ r ≡ pairStep m low up ⌝ }
+pub fn is_known(p: Sample) -> bool
+    ensures { λ r. ⌜ r ≡ isKnown p ⌝ }
 {
-    match m {
-        Mask::Zero => low,
-        Mask::One => up,
-        Mask::Hidden => agreed(low, up),
+    match p {
+        Sample::Known(_) => true,
+        Sample::Unknown => false,
     }
 }

@@ -1,4 +1,4 @@
--- One law for each way out of the rule of a pair: its premises are what is known there.
+-- One law for each way out of what two samples agree on: its premises are what is known there.
 -- Assumes nothing.
 use mathlib.Core.Path.{_≡_, refl}
 use mathlib.Core.Bool.{Bool, true, false, _&&_}
@@ -7,9 +7,7 @@ use borrow.Author.Needs.{needs}
 use Rattle.sheet_rules.specs.declared.Colour.{Colour}
 use Rattle.picture_rules.specs.declared.Sample.{Sample}
 use Rattle.picture_rules.specs.declared.Sample.the-variants.{Known, Unknown}
-use Rattle.picture_rules.specs.declared.Mask.{Mask}
-use Rattle.picture_rules.specs.declared.Mask.the-variants.{Zero, One, Hidden}
-use Rattle.picture_rules.specs.Decide.{sameColour, agree, pairStep}
+use Rattle.picture_rules.specs.Decide.{sameColour, agree}
 
 pub same-test : (c e : Colour) → eqb (c .c0) (e .c0) && eqb (c .c1) (e .c1) && eqb (c .c2) (e .c2) ≡ sameColour c e
 unfolding sameColour
@@ -31,16 +29,4 @@ pub agree-low : (low up : Sample) → low ≡ Unknown → Unknown ≡ agree low 
 unfolding agree
 agree-low low up p = rw p
 
-pub step-zero : (m : Mask) (low up : Sample) → m ≡ Zero → low ≡ pairStep m low up
-unfolding pairStep
-step-zero m low up e = rw e
-
-pub step-one : (m : Mask) (low up : Sample) → m ≡ One → up ≡ pairStep m low up
-unfolding pairStep
-step-one m low up e = rw e
-
-pub step-hidden : (m : Mask) (low up r : Sample) → m ≡ Hidden → r ≡ agree low up → r ≡ pairStep m low up
-unfolding pairStep
-step-hidden m low up r e f = rw (e, f)
-
-pub ruleset pairing = (needs, same-test, agree-same, agree-other, agree-up, agree-low, step-zero, step-one, step-hidden)
+pub ruleset agreeing = (needs, same-test, agree-same, agree-other, agree-up, agree-low)

@@ -1,0 +1,8 @@
+-- Whether a sample is known.
+use mathlib.Core.Bool.{Bool, true, false}
+use Rattle.picture_rules.specs.declared.Sample.{Sample}
+use Rattle.picture_rules.specs.declared.Sample.the-variants.{Known, Unknown}
+
+abbrev pub isKnown : Sample → Bool
+isKnown (Known c) = true
+isKnown Unknown = false
