@@ -1,6 +1,7 @@
 // A line of pixels as C would have it: the sheet and the plane list are judged, the records of the
 // stripe are decoded once, then the paper's rule is done for each layer of each pixel, a division
-// and a fetch each. Compiled twice: with BY_ROWS the row of a layer is found once a line.
+// and a fetch each. Compiled twice: with BY_ROWS the row of a layer is found once a line, and a pixel
+// is worked out from the highest pair down.
 #include "line.h"
 #include "sheet.h"
 
@@ -145,10 +146,34 @@ static uint32_t colour_at(const struct layer *l, uint32_t x, uint32_t y)
 }
 
 // Two colours that are not known are 0 both, and stay so.
+static uint32_t agreed(uint32_t a, uint32_t b)
+{
+    return a == b ? a : 0;
+}
+
+#ifdef BY_ROWS
+// From the highest pair down: a colour is fetched only where a bit may choose it.
+static uint32_t pixel_at(const struct stripe *s, uint32_t x, uint32_t y)
+{
+    bool first = true;
+    uint32_t shown = 0;
+    for (uint32_t n = s->layers; n > 0; n -= 2) {
+        uint32_t bit = n == 1 ? 1 : bit_at(&s->layer[n - 1], x, y);
+        if (bit == 0)
+            continue;
+        uint32_t above = colour_at(&s->layer[n], x, y);
+        shown = first ? above : agreed(shown, above);
+        if (bit == 1 || shown == 0)
+            break;
+        first = false;
+    }
+    return shown;
+}
+#else
 static uint32_t choose(uint32_t bit, uint32_t below, uint32_t above)
 {
     if (bit == UNREAD)
-        return below == above ? below : 0;
+        return agreed(below, above);
     return bit == 1 ? above : below;
 }
 
@@ -159,6 +184,7 @@ static uint32_t pixel_at(const struct stripe *s, uint32_t x, uint32_t y)
         shown = choose(bit_at(&s->layer[n], x, y), shown, colour_at(&s->layer[n + 1], x, y));
     return shown;
 }
+#endif
 
 static void put_pixel(uint8_t *out, uint32_t shown)
 {

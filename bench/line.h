@@ -1,6 +1,6 @@
 // A line of pixels composed in C, for the same answers and lines as spirerook_line_unseen. The two
 // differ in what is done once a line: the first does all of the paper's rule for each layer of each
-// pixel; the second finds each layer's row of samples first.
+// pixel; the second finds each layer's row of samples first, and goes from the highest pair down.
 #ifndef BENCH_LINE_H
 #define BENCH_LINE_H
 

@@ -62,20 +62,28 @@ def writes(lines):
           ("page", "beside C by octets", "beside C by memchr", "beside copy and read"), rows)
 
 
+def line_ratios(line):
+    """A row's name, and its ratios: of s sides there are s times, then s - 1 ratios."""
+    numbers = re.findall(r"\d+\.\d+", line[46:])
+    return line[:46].strip(), numbers[(len(numbers) + 1) // 2:]
+
+
 def lines_of_pixels(lines):
+    beside = ("beside literal C", "beside C by rows", "beside the library before")
     groups = {}
     for line in block(lines, "nanoseconds a pixel"):
-        found = re.match(r" *(\d+) layers, k +(\d+), .*? +([\d.]+) +([\d.]+) +([\d.]+) +([\d.]+) +([\d.]+)", line)
-        groups.setdefault(int(found[1]), []).append((float(found[6]), float(found[7])))
+        name, ratios = line_ratios(line)
+        groups.setdefault(int(name.split()[0]), []).append([float(ratio) for ratio in ratios])
     rows = [("%d layers, %d rows" % (layers, len(ratios)), *("%.2f to %.2f" % (min(column), max(column)) for column in zip(*ratios)))
             for layers, ratios in sorted(groups.items())]
     table("A line of pixels", "Beside the literal C composer, which does the paper's rule for each layer of each pixel, and beside C "
-          "that finds each layer's row once a line. Rows differ in the resolution, the masks (in runs, at "
-          "random) and in what is read; the limit is 1.3 of the literal one.",
-          ("stripe", "beside literal C", "beside C by rows"), rows)
-    others = [name_and_numbers(line) for line in block(lines, "microseconds a line")]
-    table("Lines of other kinds", "The same two, a line each.", ("line", "beside literal C", "beside C by rows"),
-          [(name, *numbers[3:5]) for name, numbers in others])
+          "that finds each layer's row once a line and goes from the highest pair down. Rows differ in the resolution, the masks (in runs, at "
+          "random) and in what is read; the limit is 1.3 of the literal one.", ("stripe", *beside[:len(rows[0]) - 1]), rows)
+    others = [line_ratios(line) for line in block(lines, "microseconds a line")]
+    table("Lines of other kinds", "The same, a line each.", ("line", *beside[:len(rows[0]) - 1]), [(name, *ratios) for name, ratios in others])
+    for line in lines:
+        if line.startswith("beside the library before"):
+            print("\n" + wrapped("B%s." % line[1:].rstrip()))
 
 
 def viewer(lines):

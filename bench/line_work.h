@@ -1,0 +1,39 @@
+// The lines that are timed, and small ones, good and damaged, on which all composers must agree
+// first.
+#ifndef BENCH_LINE_WORK_H
+#define BENCH_LINE_WORK_H
+
+#include "line.h"
+
+#include <stdbool.h>
+
+#define MOST_SHEET (64 * 15 * RECORD_SIZE)
+#define MOST_SAMPLES (256u << 20)
+
+struct work {
+    uint8_t sheet[MOST_SHEET + RECORD_SIZE], planes[16 * 5 + 4];
+    size_t sheet_size, planes_size;
+    uint8_t *samples;
+    size_t samples_size;
+    uint32_t stripe, line;
+    uint8_t unseen[3];
+    size_t room;
+};
+
+// What a timed line is made of.
+struct shape {
+    uint32_t width, height, layers, k;
+    uint32_t run;  // main pixels of a mask that are alike; 0: each sample by itself
+    uint32_t ones; // of 16 runs in the masks of the highest pairs, above layer 8; 0: eight
+    bool half;     // layers 3, 4, 7, 8, 11, 12 and 15 are not read
+    bool shared;   // one stretch of samples for all image layers, one for all masks
+};
+
+// A stripe of this shape behind others of as many layers, so high each; all that the shape has read
+// is listed.
+void make_behind(struct work *w, const struct shape *s, uint32_t stripes, uint32_t height);
+
+void make_small(struct work *w);
+void damage(struct work *w);
+
+#endif
