@@ -260,6 +260,8 @@ FAULTS = [
      "        } else {\n"
      "            colour = pixel->value[1];\n"
      "        }"),
+    ("line.c", "a known mask taken as 1, whatever its value", "        if (pixel->value[mask] == 1) {",
+     "        if (pixel->value[mask] == 1 || !pixel->unread[mask]) {"),
     ("line.c", "layer 1 never shown", "uint32_t colour = pixel->value[1];",
      "uint32_t colour = pixel->value[3];"),
     # seen and unseen
