@@ -2,8 +2,8 @@
 -- Assumes nothing.
 use Prim.Native.Nat.{ℕ, zero, suc, _+_, _-_, _*_, _≤_, _<_}
 use native.Mathlib.Omega.{arith}
-use mathlib.Core.Path.{_≡_, refl, ap, _∙_}
-use mathlib.Core.Bool.{true, false}
+use mathlib.Core.Path.{_≡_, ap, _∙_}
+use mathlib.Core.Bool.{Bool, true, false}
 use mathlib.Core.List.{List}
 use lib.ListN.{length}
 use borrow.Author.Needs.{needs}
@@ -29,23 +29,25 @@ module _ (d ns : List ℕ) (x : MainPos) where
   abbrev mask : ℕ → Mask
   mask = rowMasks d ns x
 
-  pub lead-begins : (from : ℕ) → candidates (rowMasks d ns x) from ≡ candidates (rowMasks d ns x) from
-  lead-begins from = refl
-
   pub lead-passed : (from j : ℕ) (r : Row) (m : Mask) → candidates (rowMasks d ns x) from ≡ candidates (rowMasks d ns x) j → 0 < j → r ≡ rowAt ns (j * 2)
       → m ≡ rowMask d r x → m ≡ Zero → candidates (rowMasks d ns x) from ≡ candidates (rowMasks d ns x) (j - 1)
   unfolding passing
   lead-passed from j r m p h er em e = p ∙ candidates-at mask j m h (rw er at em) ∙ rw e
 
+  led-by : (from j : ℕ) (r : Row) (m : Mask) (b : Bool) → candidates (rowMasks d ns x) from ≡ candidates (rowMasks d ns x) j → j ≤ from → 0 < j → r ≡ rowAt ns (j * 2)
+      → m ≡ rowMask d r x → passing m j (candidates (rowMasks d ns x) (j - 1)) ≡ wayFrom (rowMasks d ns x) (record { pair = j; sure = b })
+      → Leads (rowMasks d ns x) from (record { pair = j; sure = b })
+  led-by from j r m b p l h er em e = record { most = l; under = λ u. h; way = p ∙ candidates-at mask j m h (rw er at em) ∙ e }
+
   pub lead-sure : (from j : ℕ) (r : Row) (m : Mask) → candidates (rowMasks d ns x) from ≡ candidates (rowMasks d ns x) j → j ≤ from → 0 < j → r ≡ rowAt ns (j * 2)
       → m ≡ rowMask d r x → m ≡ One → Leads (rowMasks d ns x) from (record { pair = j; sure = true })
   unfolding passing wayFrom
-  lead-sure from j r m p l h er em e = record { most = l; under = λ u. h; way = p ∙ candidates-at mask j m h (rw er at em) ∙ rw e }
+  lead-sure from j r m p l h er em e = led-by from j r m true p l h er em (rw e)
 
   pub lead-unsure : (from j : ℕ) (r : Row) (m : Mask) → candidates (rowMasks d ns x) from ≡ candidates (rowMasks d ns x) j → j ≤ from → 0 < j → r ≡ rowAt ns (j * 2)
       → m ≡ rowMask d r x → m ≡ Hidden → Leads (rowMasks d ns x) from (record { pair = j; sure = false })
   unfolding passing wayFrom
-  lead-unsure from j r m p l h er em e = record { most = l; under = λ u. h; way = p ∙ candidates-at mask j m h (rw er at em) ∙ rw e }
+  lead-unsure from j r m p l h er em e = led-by from j r m false p l h er em (rw e)
 
   pub lead-lowest : (from j : ℕ) → candidates (rowMasks d ns x) from ≡ candidates (rowMasks d ns x) j → j ≤ 0
       → Leads (rowMasks d ns x) from (record { pair = 0; sure = true })
@@ -70,4 +72,4 @@ pub image-made : (s d ns : List ℕ) (j : ℕ) (x : MainPos) (r : Row) (p : Samp
     → p ≡ rowImage s d (rowAt ns (j * 2 + 1)) x
 image-made s d ns j x r p e f = rw (f, e)
 
-pub ruleset leading = (needs, lead-begins, lead-passed, lead-sure, lead-unsure, lead-lowest, fits-room, fits-mask, fits-image, image-made)
+pub ruleset leading = (needs, lead-passed, lead-sure, lead-unsure, lead-lowest, fits-room, fits-mask, fits-image, image-made)

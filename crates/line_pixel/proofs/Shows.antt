@@ -8,13 +8,13 @@ use mathlib.Core.Bool.{Bool, true, false, not, _&&_, cond}
 use mathlib.Core.List.{List}
 use lib.ListN.{length}
 use borrow.Author.Needs.{needs}
-use Rattle.laws.proofs.Cases.{clash}
+use Rattle.laws.proofs.Cases.{cond-with, cond-both, clash}
 use Rattle.picture_rules.specs.declared.MainPos.{MainPos}
 use Rattle.picture_rules.specs.declared.Sample.{Sample}
 use Rattle.picture_rules.specs.declared.Sample.the-variants.{Known, Unknown}
 use Rattle.picture_rules.specs.declared.Mask.{Mask}
 use Rattle.picture_rules.specs.Decide.{agree, Stack, decide}
-use Rattle.picture_rules.specs.Down.{last, more, Among, candidates, allAgree, down}
+use Rattle.picture_rules.specs.Down.{Way, Among, allAgree, down}
 use Rattle.picture_rules.proofs.Rule.{agree-assoc}
 use Rattle.picture_rules.proofs.Down.{down-is-decide, candidates-told}
 use Rattle.line_agree.specs.Known.{isKnown}
@@ -48,11 +48,8 @@ ended false b Unknown low k t = refl
 module _ (st : Stack) where
   along : (c : Candidate) → allAgree (st .image) (wayFrom (st .mask) c) ≡ under st c (st .image (c .pair))
   unfolding wayFrom under allAgree down
-  along c = go (c .sure)
-    where
-      go : (b : Bool) → allAgree (st .image) (cond b (last (c .pair)) (more (c .pair) (candidates (st .mask) (c .pair - 1)))) ≡ cond b (st .image (c .pair)) (agree (st .image (c .pair)) (decide st (c .pair - 1)))
-      go true = refl
-      go false = ap (agree (st .image (c .pair))) (down-is-decide st (c .pair - 1))
+  along c =
+      cond-both (λ (w : Way) (p : Sample). allAgree (st .image) w ≡ p) (c .sure) (λ e. refl) (λ e. ap (agree (st .image (c .pair))) (down-is-decide st (c .pair - 1)))
 
   led : (n : ℕ) (c : Candidate) → Leads (st .mask) n c → decide st n ≡ under st c (st .image (c .pair))
   unfolding down
@@ -60,11 +57,8 @@ module _ (st : Stack) where
 
   further : (c : Candidate) (cur up : Sample) → agree cur (under st c up) ≡ under st c (agree cur up)
   unfolding under
-  further c cur up = go (c .sure)
-    where
-      go : (b : Bool) → agree cur (cond b up (agree up (decide st (c .pair - 1)))) ≡ cond b (agree cur up) (agree (agree cur up) (decide st (c .pair - 1)))
-      go true = refl
-      go false = sym (agree-assoc cur up (decide st (c .pair - 1)))
+  further c cur up =
+      cond-both (λ (p q : Sample). agree cur p ≡ q) (c .sure) (λ e. refl) (λ e. sym (agree-assoc cur up (decide st (c .pair - 1))))
 
   going-on : (n : ℕ) (c e : Candidate) (cur : Sample) → Shows st n c cur → c .sure ≡ false → Leads (st .mask) (c .pair - 1) e → decide st n ≡ under st e (agree cur (st .image (e .pair)))
   unfolding under
@@ -116,11 +110,7 @@ module _ (s d ns : List ℕ) (pairs : ℕ) where
 module _ (mask : ℕ → Mask) where
   first-among : (c : Candidate) → Among (c .pair) (wayFrom mask c)
   unfolding wayFrom Among
-  first-among c = go (c .sure)
-    where
-      go : (b : Bool) → Among (c .pair) (cond b (last (c .pair)) (more (c .pair) (candidates mask (c .pair - 1))))
-      go true = refl
-      go false = inl refl
+  first-among c = cond-with (Among (c .pair)) (c .sure) (λ e. refl) (λ e. inl refl)
 
   pub lead-chosen : (n : ℕ) (c : Candidate) → Leads mask n c → MayChoose mask (c .pair)
   unfolding MayChoose
