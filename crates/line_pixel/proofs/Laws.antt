@@ -7,16 +7,15 @@ use mathlib.Core.Bool.{Bool, true, false}
 use mathlib.Core.List.{List}
 use lib.ListN.{length}
 use borrow.Author.Needs.{needs}
-use Rattle.laws.proofs.Cases.{clash}
 use Rattle.picture_rules.specs.declared.MainPos.{MainPos}
 use Rattle.picture_rules.specs.declared.Sample.{Sample}
 use Rattle.picture_rules.specs.declared.Mask.{Mask}
 use Rattle.picture_rules.specs.declared.Mask.the-variants.{Zero, One, Hidden}
-use Rattle.picture_rules.specs.Down.{passing, candidates}
+use Rattle.picture_rules.specs.Down.{passing, candidates, MayShow}
 use Rattle.line_fetch.specs.declared.Row.{Row}
 use Rattle.line_fetch.specs.Rows.{rowSize, rowAt, rowMask, rowImage, MaskFits, ImageFits}
-use Rattle.line_pixel.specs.Rows.{rowMasks, MasksFit}
-use Rattle.line_pixel.specs.Lead.{wayFrom, Leads}
+use Rattle.line_pixel.specs.Rows.{rowMasks, MasksFit, RowsFit}
+use Rattle.line_pixel.specs.Lead.{wayFrom}
 
 -- ---- a pair on the way
 
@@ -34,27 +33,25 @@ module _ (d ns : List ℕ) (x : MainPos) where
   unfolding passing
   lead-passed from j r m p h er em e = p ∙ candidates-at mask j m h (rw er at em) ∙ rw e
 
-  led-by : (from j : ℕ) (r : Row) (m : Mask) (b : Bool) → candidates (rowMasks d ns x) from ≡ candidates (rowMasks d ns x) j → j ≤ from → 0 < j → r ≡ rowAt ns (j * 2)
+  led-by : (from j : ℕ) (r : Row) (m : Mask) (b : Bool) → candidates (rowMasks d ns x) from ≡ candidates (rowMasks d ns x) j → 0 < j → r ≡ rowAt ns (j * 2)
       → m ≡ rowMask d r x → passing m j (candidates (rowMasks d ns x) (j - 1)) ≡ wayFrom (rowMasks d ns x) (record { pair = j; sure = b })
-      → Leads (rowMasks d ns x) from (record { pair = j; sure = b })
-  led-by from j r m b p l h er em e = record { most = l; under = λ u. h; way = p ∙ candidates-at mask j m h (rw er at em) ∙ e }
+      → candidates (rowMasks d ns x) from ≡ wayFrom (rowMasks d ns x) (record { pair = j; sure = b })
+  led-by from j r m b p h er em e = p ∙ candidates-at mask j m h (rw er at em) ∙ e
 
-  pub lead-sure : (from j : ℕ) (r : Row) (m : Mask) → candidates (rowMasks d ns x) from ≡ candidates (rowMasks d ns x) j → j ≤ from → 0 < j → r ≡ rowAt ns (j * 2)
-      → m ≡ rowMask d r x → m ≡ One → Leads (rowMasks d ns x) from (record { pair = j; sure = true })
+  pub lead-sure : (from j : ℕ) (r : Row) (m : Mask) → candidates (rowMasks d ns x) from ≡ candidates (rowMasks d ns x) j → 0 < j → r ≡ rowAt ns (j * 2)
+      → m ≡ rowMask d r x → m ≡ One → candidates (rowMasks d ns x) from ≡ wayFrom (rowMasks d ns x) (record { pair = j; sure = true })
   unfolding passing wayFrom
-  lead-sure from j r m p l h er em e = led-by from j r m true p l h er em (rw e)
+  lead-sure from j r m p h er em e = led-by from j r m true p h er em (rw e)
 
-  pub lead-unsure : (from j : ℕ) (r : Row) (m : Mask) → candidates (rowMasks d ns x) from ≡ candidates (rowMasks d ns x) j → j ≤ from → 0 < j → r ≡ rowAt ns (j * 2)
-      → m ≡ rowMask d r x → m ≡ Hidden → Leads (rowMasks d ns x) from (record { pair = j; sure = false })
+  pub lead-unsure : (from j : ℕ) (r : Row) (m : Mask) → candidates (rowMasks d ns x) from ≡ candidates (rowMasks d ns x) j → 0 < j → r ≡ rowAt ns (j * 2)
+      → m ≡ rowMask d r x → m ≡ Hidden → candidates (rowMasks d ns x) from ≡ wayFrom (rowMasks d ns x) (record { pair = j; sure = false })
   unfolding passing wayFrom
-  lead-unsure from j r m p l h er em e = led-by from j r m false p l h er em (rw e)
+  lead-unsure from j r m p h er em e = led-by from j r m false p h er em (rw e)
 
   pub lead-lowest : (from j : ℕ) → candidates (rowMasks d ns x) from ≡ candidates (rowMasks d ns x) j → j ≤ 0
-      → Leads (rowMasks d ns x) from (record { pair = 0; sure = true })
+      → candidates (rowMasks d ns x) from ≡ wayFrom (rowMasks d ns x) (record { pair = 0; sure = true })
   unfolding candidates wayFrom
-  lead-lowest from j p h =
-      let z : j ≡ 0 = omega arith in
-      record { most = omega arith; under = λ u. clash cc; way = p ∙ ap (candidates mask) z }
+  lead-lowest from j p h = let z : j ≡ 0 = omega arith in p ∙ ap (candidates mask) z
 
 -- ---- what is read is there
 
@@ -65,11 +62,19 @@ module _ (d ns : List ℕ) where
   pub fits-mask : (from j : ℕ) (r : Row) → MasksFit d ns from → j ≤ from → 0 < j → r ≡ rowAt ns (j * 2) → MaskFits d r
   fits-mask from j r g l h e = rw e (g .mask j h l)
 
-pub fits-image : (s d ns : List ℕ) (j : ℕ) (r : Row) → ImageFits s d (rowAt ns (j * 2 + 1)) → r ≡ rowAt ns (j * 2 + 1) → ImageFits s d r
-fits-image s d ns j r g e = rw e g
+-- ---- the sample of a layer that may show
+
+module _ (s d ns : List ℕ) (pairs : ℕ) where
+  pub room-shown : (mask : ℕ → Mask) (j : ℕ) → RowsFit s d ns pairs → MayShow mask pairs j → (j * 2 + 1) * rowSize ≤ length ns
+  room-shown mask zero g h = g .room
+  room-shown mask (suc j) g h = g .pair (suc j) (omega arith) (h .most) .room
+
+  pub fits-shown : (mask : ℕ → Mask) (j : ℕ) (r : Row) → RowsFit s d ns pairs → MayShow mask pairs j → r ≡ rowAt ns (j * 2 + 1) → ImageFits s d r
+  fits-shown mask zero r g h e = rw e (g .image)
+  fits-shown mask (suc j) r g h e = rw e (g .pair (suc j) (omega arith) (h .most) .image)
 
 pub image-made : (s d ns : List ℕ) (j : ℕ) (x : MainPos) (r : Row) (p : Sample) → r ≡ rowAt ns (j * 2 + 1) → p ≡ rowImage s d r x
     → p ≡ rowImage s d (rowAt ns (j * 2 + 1)) x
 image-made s d ns j x r p e f = rw (f, e)
 
-pub ruleset leading = (needs, lead-passed, lead-sure, lead-unsure, lead-lowest, fits-room, fits-mask, fits-image, image-made)
+pub ruleset leading = (needs, lead-passed, lead-sure, lead-unsure, lead-lowest, fits-room, fits-mask, room-shown, fits-shown, image-made)

@@ -18,7 +18,7 @@ rowMasks d ns x j = rowMask d (rowAt ns (j * 2)) x
 
 abbrev pub rowStack : List ℕ → List ℕ → List ℕ → MainPos → Stack
 rowStack s d ns x =
-    record { mask = λ j. rowMask d (rowAt ns (j * 2)) x; image = λ j. rowImage s d (rowAt ns (j * 2 + 1)) x }
+    record { mask = rowMasks d ns x; image = λ j. rowImage s d (rowAt ns (j * 2 + 1)) x }
 
 pub record MasksFit (d ns : List ℕ) (n : ℕ) : Type 0 where
   pub room : n * 2 * rowSize ≤ length ns

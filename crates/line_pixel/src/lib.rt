@@ -1,11 +1,11 @@
-// One pixel of a line, from the highest pair down (02, 2026-06): a sample is fetched only where a mask may choose it.
+// One pixel of a line, from the highest pair down (02, 2026-06): an image layer's sample is fetched only where it may show.
 ghost use mathlib.Core.Path.{_≡_};
-ghost use Prim.Native.Nat.{_+_, _*_, _≤_};
-ghost use lib.ListN.{length};
+ghost use Prim.Native.Nat.{_+_, _*_};
 ghost use Rattle.picture_rules.specs.Decide.{decide};
-ghost use Rattle.line_fetch.specs.Rows.{rowSize, rowAt, rowImage, ImageFits};
+ghost use Rattle.picture_rules.specs.Down.{candidates, MayShow};
+ghost use Rattle.line_fetch.specs.Rows.{rowAt, rowImage};
 ghost use Rattle.line_pixel.specs.Rows.{rowMasks, rowStack, MasksFit, RowsFit};
-ghost use Rattle.line_pixel.specs.Lead.{Leads, MayChoose};
+ghost use Rattle.line_pixel.specs.Lead.{wayFrom};
 use picture_rules::MainPos;
 use picture_rules::Mask;
 use picture_rules::Sample;
@@ -19,7 +19,7 @@ pub struct Candidate {
 // The first candidate from a pair down: masks known to be 0 are passed.
 pub fn candidate_from(d: &[u8], rows: &[usize], from: usize, x: MainPos) -> Candidate
     requires { ⌜ MasksFit (now d) (now rows) from ⌝ }
-    ensures { λ r. ⌜ Leads (rowMasks (now (d .entry)) (now (rows .entry)) x) from r ⌝ }
+    ensures { λ r. ⌜ candidates (rowMasks (now (d .entry)) (now (rows .entry)) x) from ≡ wayFrom (rowMasks (now (d .entry)) (now (rows .entry)) x) r ⌝ }
 {
     let mut j = from;
     while 0 < j {
@@ -47,9 +47,9 @@ pub fn candidate_from(d: &[u8], rows: &[usize], from: usize, x: MainPos) -> Cand
     }
 }
 
-// The sample of pair j's image layer, asked for only where its mask may choose it.
-pub fn image_of(s: &[u8], d: &[u8], rows: &[usize], j: usize, x: MainPos) -> Sample
-    requires { ⌜ ((j * 2 + 1) * rowSize ≤ length (now rows)) × ImageFits (now s) (now d) (rowAt (now rows) (j * 2 + 1)) × MayChoose (rowMasks (now d) (now rows) x) j ⌝ }
+// The sample of pair j's image layer, for which only those may ask where it may show: `pairs` is there to say so.
+pub fn image_of(s: &[u8], d: &[u8], rows: &[usize], pairs: usize, j: usize, x: MainPos) -> Sample
+    requires { ⌜ RowsFit (now s) (now d) (now rows) pairs × MayShow (rowMasks (now d) (now rows) x) pairs j ⌝ }
     ensures { λ r. ⌜ r ≡ rowImage (now (s .entry)) (now (d .entry)) (rowAt (now (rows .entry)) (j * 2 + 1)) x ⌝ }
 {
     line_fetch::image_at(s, d, line_fetch::row_at(rows, j * 2 + 1), x)
@@ -61,10 +61,10 @@ pub fn pixel(s: &[u8], d: &[u8], rows: &[usize], pairs: usize, x: MainPos) -> Sa
     ensures { λ r. ⌜ r ≡ decide (rowStack (now (s .entry)) (now (d .entry)) (now (rows .entry)) x) pairs ⌝ }
 {
     let mut c = candidate_from(d, rows, pairs, x);
-    let mut cur = image_of(s, d, rows, c.pair, x);
+    let mut cur = image_of(s, d, rows, pairs, c.pair, x);
     while !c.sure & line_agree::is_known(cur) {
         c = candidate_from(d, rows, c.pair - 1, x);
-        let up = image_of(s, d, rows, c.pair, x);
+        let up = image_of(s, d, rows, pairs, c.pair, x);
         cur = line_agree::agreed(cur, up);
     }
     cur

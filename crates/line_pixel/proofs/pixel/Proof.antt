@@ -1,4 +1,4 @@
-use Rattle.line_pixel.proofs.Shows.{showing, Shows, show-more, fits-next}
+use Rattle.line_pixel.proofs.Shows.{showing, Shows, next-shows, show-more}
 use Rattle.line_pixel.specs.Rows.{rowStack}
 use Rattle.line_pixel.proofs.pixel.Statement.{statement}
 use Rattle.line_pixel.proofs.pixel.Tie as tie
@@ -28,11 +28,10 @@ candidate-from-requires-2 : tie.Need-candidate-from-requires-2 Inv-loop μ-loop
 candidate-from-requires-2 c κs = search showing
 
 image-of-requires-2 : tie.Need-image-of-requires-2 Inv-loop μ-loop
-image-of-requires-2 c κs =
-    fits-next _ _ _ _ _ _ _ _
-    (c .before .before .before .before .before .before .before .before .before .before .before .pre)
-    (c .before .before .before .before .before .loop .inv)
-    (c .candidate-from2 .ensures)
+image-of-requires-2 c κs = (
+  c .before .before .before .before .before .before .before .before .before .before .before .pre,
+  next-shows _ _ _ _ _ _ _ _ _ (c .before .before .before .before .before .loop .inv) (c .before .before .if1 .taken) (c .candidate-from2 .ensures),
+)
 
 agreed-requires : tie.Need-agreed-requires Inv-loop μ-loop
 agreed-requires c κs = search showing
