@@ -80,7 +80,7 @@ def lines_of_pixels(lines):
           "that finds each layer's row once a line and goes from the highest pair down. Rows differ in the resolution, the masks (in runs, at "
           "random) and in what is read; the limit is 1.3 of the literal one.", ("stripe", *beside[:len(rows[0]) - 1]), rows)
     others = [line_ratios(line) for line in block(lines, "microseconds a line")]
-    table("Lines of other kinds", "The same, a line each.", ("line", *beside[:len(rows[0]) - 1]), [(name, *ratios) for name, ratios in others])
+    table("Lines of other kinds", "The same, a line each. The library before is that whose archive BEFORE named." if len(rows[0]) > 3 else "The same, a line each.", ("line", *beside[:len(rows[0]) - 1]), [(name, *ratios) for name, ratios in others])
     for line in lines:
         if line.startswith("beside the library before"):
             print("\n" + wrapped("B%s." % line[1:].rstrip()))
