@@ -13,13 +13,13 @@ use Rattle.picture_rules.specs.declared.Sample.the-variants.{Known, Unknown}
 use Rattle.picture_rules.specs.Decide.{agree, Stack, decide}
 use Rattle.picture_rules.specs.Down.{Way, Among, candidates, allAgree, down, MayShow}
 use Rattle.picture_rules.proofs.Rule.{agree-assoc}
-use Rattle.picture_rules.proofs.Down.{down-is-decide, candidates-told}
+use Rattle.picture_rules.proofs.Down.{down-is-decide}
 use Rattle.line_agree.specs.Known.{isKnown}
 use Rattle.line_fetch.specs.Rows.{rowAt, rowImage}
 use Rattle.line_pixel.specs.declared.Candidate.{Candidate}
 use Rattle.line_pixel.specs.Rows.{rowMasks, rowStack, MasksFit, RowsFit}
 use Rattle.line_pixel.specs.Lead.{wayFrom}
-use Rattle.line_pixel.proofs.Ways.{first-among, below-among, unsure-some}
+use Rattle.line_pixel.proofs.Ways.{below-among, may-show, unsure-some}
 
 -- what a pixel shows where the candidates down to c agree on `cur`
 unfoldable pub under : Stack → Candidate → Sample → Sample
@@ -74,19 +74,15 @@ module _ (st : Stack) where
       → (j : ℕ) → Among j (wayFrom (st .mask) e) → Among j (candidates (st .mask) n)
   still-among n c e cur h f l j a = h .among j (below-among (st .mask) c j f (subst (Among j) (sym l) a))
 
-  -- a candidate on the way may show
-  may-show : (n : ℕ) (c : Candidate) → ((j : ℕ) → Among j (wayFrom (st .mask) c) → Among j (candidates (st .mask) n)) → MayShow (st .mask) n (c .pair)
-  may-show n c h = candidates-told (st .mask) n (c .pair) .0 (h (c .pair) (first-among (st .mask) c))
+pub first-shows : (d ns : List ℕ) (x : MainPos) (pairs : ℕ) (c : Candidate) → candidates (rowMasks d ns x) pairs ≡ wayFrom (rowMasks d ns x) c → MayShow (rowMasks d ns x) pairs (c .pair)
+first-shows d ns x pairs c l = may-show (rowMasks d ns x) pairs c (λ j a. subst (Among j) (sym l) a)
 
 -- ---- where the loop begins, goes on and ends
 
 module _ (s d ns : List ℕ) (x : MainPos) where
-  pub first-shows : (pairs : ℕ) (c : Candidate) → candidates (rowMasks d ns x) pairs ≡ wayFrom (rowMasks d ns x) c → MayShow (rowMasks d ns x) pairs (c .pair)
-  first-shows pairs c l = may-show (rowStack s d ns x) pairs c (λ j a. subst (Among j) (sym l) a)
-
   pub next-shows : (pairs : ℕ) (c e : Candidate) (cur : Sample) (b : Bool) → Shows (rowStack s d ns x) pairs c cur → not (c .sure) && b ≡ true
       → candidates (rowMasks d ns x) (c .pair - 1) ≡ wayFrom (rowMasks d ns x) e → MayShow (rowMasks d ns x) pairs (e .pair)
-  next-shows pairs c e cur b h t l = may-show (rowStack s d ns x) pairs e (still-among (rowStack s d ns x) pairs c e cur h (unsure (c .sure) b t) l)
+  next-shows pairs c e cur b h t l = may-show (rowMasks d ns x) pairs e (still-among (rowStack s d ns x) pairs c e cur h (unsure (c .sure) b t) l)
 
   pub show-begins : (pairs : ℕ) (c : Candidate) (cur : Sample) → candidates (rowMasks d ns x) pairs ≡ wayFrom (rowMasks d ns x) c
       → cur ≡ rowImage s d (rowAt ns (c .pair * 2 + 1)) x → Shows (rowStack s d ns x) pairs c cur
@@ -115,7 +111,7 @@ module _ (s d ns : List ℕ) (x : MainPos) where
       → candidates (rowMasks d ns x) (c .pair - 1) ≡ wayFrom (rowMasks d ns x) e → e .pair < c .pair
   show-less pairs c e cur b h t l =
       let p = show-some pairs c cur b h t in
-      let q = first-shows (c .pair - 1) e l .most in
+      let q = first-shows d ns x (c .pair - 1) e l .most in
       omega arith
 
   pub show-ends : (pairs : ℕ) (c : Candidate) (cur : Sample) (b : Bool) → Shows (rowStack s d ns x) pairs c cur → b ≡ isKnown cur → not (c .sure) && b ≡ false
@@ -128,6 +124,6 @@ module _ (s d ns : List ℕ) (x : MainPos) where
   fits-all pairs g = fits-masks s d ns pairs pairs g (omega arith)
 
   pub fits-below : (pairs : ℕ) (c : Candidate) (cur : Sample) → RowsFit s d ns pairs → Shows (rowStack s d ns x) pairs c cur → MasksFit d ns (c .pair - 1)
-  fits-below pairs c cur g h = let m = may-show (rowStack s d ns x) pairs c (h .among) .most in fits-masks s d ns pairs (c .pair - 1) g (omega arith)
+  fits-below pairs c cur g h = let m = may-show (rowMasks d ns x) pairs c (h .among) .most in fits-masks s d ns pairs (c .pair - 1) g (omega arith)
 
 pub ruleset showing = (needs, first-shows, show-begins, show-less, show-some, show-ends, fits-all, fits-below)

@@ -8,7 +8,8 @@ use mathlib.Core.Bool.{Bool, true, false}
 use Rattle.laws.proofs.Cases.{cond-with, clash}
 use Rattle.picture_rules.specs.declared.Mask.{Mask}
 use Rattle.picture_rules.specs.declared.Mask.the-variants.{Zero, One, Hidden}
-use Rattle.picture_rules.specs.Down.{Way, last, more, Among, passing, candidates}
+use Rattle.picture_rules.specs.Down.{Way, last, more, Among, passing, candidates, MayShow}
+use Rattle.picture_rules.proofs.Down.{candidates-told}
 use Rattle.line_pixel.specs.declared.Candidate.{Candidate}
 use Rattle.line_pixel.specs.Lead.{wayFrom}
 
@@ -39,13 +40,17 @@ module _ (mask : ℕ → Mask) where
 
   -- ---- on the way
 
-  pub first-among : (c : Candidate) → Among (c .pair) (wayFrom mask c)
+  first-among : (c : Candidate) → Among (c .pair) (wayFrom mask c)
   unfolding wayFrom Among
   first-among c = cond-with (Among (c .pair)) (c .sure) (λ e. refl) (λ e. inl refl)
 
   pub below-among : (c : Candidate) (j : ℕ) → c .sure ≡ false → Among j (candidates mask (c .pair - 1)) → Among j (wayFrom mask c)
   unfolding wayFrom Among
   below-among c j f a = rw f (inr a)
+
+  -- a candidate on the way may show
+  pub may-show : (n : ℕ) (c : Candidate) → ((j : ℕ) → Among j (wayFrom mask c) → Among j (candidates mask n)) → MayShow mask n (c .pair)
+  may-show n c h = candidates-told mask n (c .pair) .0 (h (c .pair) (first-among c))
 
   -- ---- only layer 1 has no mask, and it is sure
 

@@ -1,4 +1,4 @@
-use Rattle.line_pixel.proofs.Shows.{showing, Shows, next-shows, show-more}
+use Rattle.line_pixel.proofs.Shows.{showing, Shows, first-shows, next-shows, show-begins, show-more}
 use Rattle.line_pixel.specs.Rows.{rowStack}
 use Rattle.line_pixel.proofs.pixel.Statement.{statement}
 use Rattle.line_pixel.proofs.pixel.Tie as tie
@@ -13,10 +13,10 @@ candidate-from-requires : tie.Need-candidate-from-requires Inv-loop μ-loop
 candidate-from-requires c κs = search showing
 
 image-of-requires : tie.Need-image-of-requires Inv-loop μ-loop
-image-of-requires c κs = search showing
+image-of-requires c κs = (c .before .before .before .before .pre, first-shows _ _ _ _ _ (c .candidate-from .ensures))
 
 loop-holds : tie.Need-loop-holds Inv-loop μ-loop
-loop-holds c = search showing
+loop-holds c = show-begins _ _ _ _ _ _ _ (c .before .candidate-from .ensures) (c .image-of .ensures)
 
 is-known-requires : tie.Need-is-known-requires Inv-loop μ-loop
 is-known-requires c κs = search showing
