@@ -176,13 +176,13 @@ pub again-apart : (P : List ℕ → Type 0) {back : ℕ} {good : List ℕ → Bo
     → Stands (again back good refusal ∷ table) before out l → (good before ≡ true → Stands table before out l → P l) → P l
 again-apart P (held good k) go = go good k
 
-sized-one : (Q : List ℕ → Type 0) (w : Width) (vs : List ℕ) → Sized (w ∷ []) vs → ((v : ℕ) → v < bound w → Q (v ∷ [])) → Q vs
+pub sized-one : (Q : List ℕ → Type 0) (w : Width) (vs : List ℕ) → Sized (w ∷ []) vs → ((v : ℕ) → v < bound w → Q (v ∷ [])) → Q vs
 unfolding Sized
 sized-one Q w [] z go = absurd z
 sized-one Q w (v ∷ []) z go = go v (z .0)
 sized-one Q w (v ∷ u ∷ vs) z go = absurd (z .1)
 
-sized-more : (Q : List ℕ → Type 0) (w : Width) (ws : List Width) (vs : List ℕ) → Sized (w ∷ ws) vs
+pub sized-more : (Q : List ℕ → Type 0) (w : Width) (ws : List Width) (vs : List ℕ) → Sized (w ∷ ws) vs
     → ((v : ℕ) (us : List ℕ) → v < bound w → Sized ws us → Q (v ∷ us)) → Q vs
 unfolding Sized
 sized-more Q w ws [] z go = absurd z

@@ -1,2 +1,4 @@
 pub mod Field
 pub mod Stands
+pub mod Part
+pub mod Fault
