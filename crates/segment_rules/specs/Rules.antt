@@ -1,12 +1,19 @@
--- The rules in force on a page: the version and the mode that its start names (9.2.1). What differs between them is defined by cases on these rules.
+-- The rules in force on a page: the version and the mode that its start names (9.2.1). What differs between them is defined by cases on these.
 --
---   mode1      version 00, Mode 1
---   Taken r    these rules are taken: for now Mode 1's alone
-use mathlib.Core.Path.{_≡_}
+--   mode1                      version 00, Mode 1: the only rules that are taken for now
+--   versionOctet, modeOctet    the octets that name them
+use Prim.Native.Nat.{ℕ}
+use Rattle.segment_rules.specs.declared.Version.{Version}
+use Rattle.segment_rules.specs.declared.Version.the-variants.{Base}
+use Rattle.segment_rules.specs.declared.Mode.{Mode}
+use Rattle.segment_rules.specs.declared.Mode.the-variants.{One}
 use Rattle.segment_rules.specs.declared.Rules.{Rules}
 
 abbrev pub mode1 : Rules
-mode1 = record { version = 0; mode = 1 }
+mode1 = record { version = Base; mode = One }
 
-abbrev pub Taken : Rules → Type 0
-Taken r = r ≡ mode1
+abbrev pub versionOctet : Version → ℕ
+versionOctet Base = 0
+
+abbrev pub modeOctet : Mode → ℕ
+modeOctet One = 1
