@@ -14,7 +14,7 @@ use Rattle.laws.proofs.Says.{Says}
 use Rattle.field_rules.specs.Field.{Width, widths, Field, mark, val, again, bound, put, Sized}
 use Rattle.field_rules.specs.Stands.{Stands, at-end, marked, valued, held}
 use Rattle.field_rules.specs.Fault.{Broken, cut, other, wrong, late, Faulted, BadMarked, mark-cut, mark-other, BadNumbers, numbers-cut, numbers-wrong}
-use Rattle.field_rules.proofs.Laws.{length-put, end-apart, mark-apart, val-apart, again-apart, sized-one}
+use Rattle.field_rules.proofs.Laws.{length-put, end-apart, mark-apart, val-apart, again-apart, sized-one, sized-more}
 
 -- ---- the first field at fault, and one behind it
 
@@ -136,13 +136,27 @@ fault-val P {ws} {good} {refusal} {before = before} {at = at} {x = x} f here the
     let k = length-put ws vs z in
     subst P (sym (append-assoc (put ws vs) o rest)) (there vs (o ++ rest) z g (others at early later bad known (before ++ vs) (put ws vs) o rest (at + widths ws) t st1 (omega arith) b1))) b
 
--- a field of one number
+-- a field of one number, and of four
 pub fault-one : (P : List ℕ → Type 0) {w : Width} {good : List ℕ → List ℕ → Bool} {refusal : ℕ → Answer} {table : List Field} {before l : List ℕ} {at : ℕ} {x : Answer}
     → Faulted (val (w ∷ []) good refusal ∷ table) before at l x → (Broken (val (w ∷ []) good refusal) before at l x → P l)
     → ((v : ℕ) (more : List ℕ) → v < bound w → good before (v ∷ []) ≡ true → Faulted table (before ++ (v ∷ [])) (at + widths (w ∷ [])) more x → P (put (w ∷ []) (v ∷ []) ++ more)) → P l
 fault-one P {w} {good} {table = table} {before = before} {at = at} {x = x} f here there =
     fault-val P f here λ vs more z.
     sized-one (λ (us : List ℕ). good before us ≡ true → Faulted table (before ++ us) (at + widths (w ∷ [])) more x → P (put (w ∷ []) us ++ more)) w vs z λ v b. there v more b
+
+pub fault-four : (P : List ℕ → Type 0) {a b c d : Width} {good : List ℕ → List ℕ → Bool} {refusal : ℕ → Answer} {table : List Field} {before l : List ℕ} {at : ℕ} {x : Answer}
+    → Faulted (val (a ∷ b ∷ c ∷ d ∷ []) good refusal ∷ table) before at l x → (Broken (val (a ∷ b ∷ c ∷ d ∷ []) good refusal) before at l x → P l)
+    → ((y z w v : ℕ) (more : List ℕ) → y < bound a → z < bound b → w < bound c → v < bound d → good before (y ∷ z ∷ w ∷ v ∷ []) ≡ true
+    → Faulted table (before ++ (y ∷ z ∷ w ∷ v ∷ [])) (at + widths (a ∷ b ∷ c ∷ d ∷ [])) more x → P (put (a ∷ b ∷ c ∷ d ∷ []) (y ∷ z ∷ w ∷ v ∷ []) ++ more)) → P l
+fault-four P {a} {b} {c} {d} {good} {table = table} {before = before} {at = at} {x = x} f here there =
+    fault-val P f here λ vs more z0.
+    sized-more (Q more) a (b ∷ c ∷ d ∷ []) vs z0 λ y us by z1.
+    sized-more (λ (us : List ℕ). Q more (y ∷ us)) b (c ∷ d ∷ []) us z1 λ z ws bz z2.
+    sized-more (λ (us : List ℕ). Q more (y ∷ z ∷ us)) c (d ∷ []) ws z2 λ w ts bw z3.
+    sized-one (λ (us : List ℕ). Q more (y ∷ z ∷ w ∷ us)) d ts z3 λ v bv. there y z w v more by bz bw bv
+  where
+    Q : List ℕ → List ℕ → Type 0
+    Q more us = good before us ≡ true → Faulted table (before ++ us) (at + widths (a ∷ b ∷ c ∷ d ∷ [])) more x → P (put (a ∷ b ∷ c ∷ d ∷ []) us ++ more)
 
 -- ---- a field at fault, in words
 
@@ -159,14 +173,14 @@ fails true s n = absurd (n (s .told refl))
 fails false s n = refl
 
 pub broken-numbers : {ws : List Width} {known l : List ℕ} {good : List ℕ → List ℕ → Bool} {refusal : ℕ → Answer} {p : ℕ} {x : Answer} (Good : List ℕ → Type 0)
-    → ((vs : List ℕ) → Says (good known vs) (Good vs)) → Broken (val ws good refusal) known p l x → BadNumbers ws Good refusal p l x
+    → ((vs : List ℕ) → Sized ws vs → Says (good known vs) (Good vs)) → Broken (val ws good refusal) known p l x → BadNumbers ws Good refusal p l x
 broken-numbers Good says (cut c) = numbers-cut c
-broken-numbers Good says (wrong vs rest z g) = numbers-wrong vs rest z (λ k. false≢true (sym g ∙ says vs .shown k))
+broken-numbers Good says (wrong vs rest z g) = numbers-wrong vs rest z (λ k. false≢true (sym g ∙ says vs z .shown k))
 
 pub numbers-broken : {ws : List Width} {known l : List ℕ} {good : List ℕ → List ℕ → Bool} {refusal : ℕ → Answer} {p : ℕ} {x : Answer} (Good : List ℕ → Type 0)
-    → ((vs : List ℕ) → Says (good known vs) (Good vs)) → BadNumbers ws Good refusal p l x → Broken (val ws good refusal) known p l x
+    → ((vs : List ℕ) → Sized ws vs → Says (good known vs) (Good vs)) → BadNumbers ws Good refusal p l x → Broken (val ws good refusal) known p l x
 numbers-broken Good says (numbers-cut c) = cut c
-numbers-broken {known = known} {good = good} Good says (numbers-wrong vs rest z n) = wrong vs rest z (fails (good known vs) (says vs) n)
+numbers-broken {known = known} {good = good} Good says (numbers-wrong vs rest z n) = wrong vs rest z (fails (good known vs) (says vs z) n)
 
 pub broken-again : {back : ℕ} {good : List ℕ → Bool} {refusal : ℕ → Answer} {known l : List ℕ} {p : ℕ} {x : Answer} → Broken (again back good refusal) known p l x
     → (good known ≡ false) × (x ≡ refusal (p - back))

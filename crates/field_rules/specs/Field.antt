@@ -6,11 +6,12 @@
 --   Field            a field: `mark`, octets that must stand there; `val`, numbers under a rule that may look at those before; or `again`, a
 --                    rule on numbers read before, refused so many octets back
 --   fields table before s at   the numbers read, with those before in front; or the refusal of the first field at fault
+--   is good, any     a rule on a field of one number, and a field without a rule
 --   reach table before s at    how far it looked
 --
 -- A field that does not fit whole is Short, whatever its octets say.
 use Prim.Native.Nat.{ℕ, _+_, _-_, _<_}
-use mathlib.Core.Bool.{Bool, cond}
+use mathlib.Core.Bool.{Bool, true, cond}
 use mathlib.Core.List.{List, [], _∷_, _++_}
 use lib.ListN.{length, getD}
 use lib.Dec.{ltb}
@@ -54,6 +55,13 @@ pub data Field : Type 0 where
   mark : List ℕ → (ℕ → Answer) → Field
   val : List Width → (List ℕ → List ℕ → Bool) → (ℕ → Answer) → Field
   again : ℕ → (List ℕ → Bool) → (ℕ → Answer) → Field
+
+-- a rule on a field of one number
+abbrev pub is : (ℕ → Bool) → List ℕ → List ℕ → Bool
+is good before vs = good (getD vs 0 0)
+
+abbrev pub any : List ℕ → List ℕ → Bool
+any before vs = true
 
 unfoldable pub fields : List Field → List ℕ → List ℕ → ℕ → Res (List ℕ)
 unfolding widths numbers

@@ -1,0 +1,2 @@
+pub mod Begin
+pub mod Exactly
