@@ -16,8 +16,8 @@ use Rattle.field_rules.specs.Fault.{Faulted}
 use Rattle.field_rules.specs.Part.{Exact, Both, BadThen, bad-first, bad-later, spanOf, Span, span, BadSpan, cut-span, Mapped, mapped, Passed, passed, Failed, failed, bad-passed}
 use Rattle.field_rules.proofs.Parts.{exact-fields, exact-as, exact-then, Nothing, nothing, exact-ok, exact-span, exact-map, exact-test}
 use Rattle.segment_rules.specs.declared.Version.{Version}
-use Rattle.segment_rules.specs.Segment.{Need, passed as over, sized, Due, Named, beginOf, Segment, whole, begun, sizeIn, identIn, openTable, behindOf, segmentOf, BadSegment, bad-marker, bad-length, bad-ident, too-many, wrong-size, cut-body}
-use Rattle.segment_rules.proofs.Begin.{length-begin, numbersOf, begin-stands, begin-apart, faulted-begin, marker-faulted, length-faulted, ident-faulted, full-faulted}
+use Rattle.segment_rules.specs.Segment.{Need, passed as over, sized, Due, Named, beginOf, Opening, short, Segment, whole, begun, sizeIn, identIn, openTable, behindOf, segmentOf, BadSegment, bad-marker, bad-length, bad-ident, too-many, wrong-size, cut-body}
+use Rattle.segment_rules.proofs.Begin.{numbersOf, begin-stands, begin-apart, faulted-begin, marker-faulted, length-faulted, ident-faulted, full-faulted}
 
 -- ---- the body
 
@@ -79,60 +79,57 @@ module _ (version : Version) (due : Due) (s : List ℕ) (at : ℕ) (h : at ≤ l
   back-6 : (size : ℕ) → 6 ≤ size → size - 6 + 6 ≡ size
   back-6 size lo = omega arith
 
-  to-segment : (n size : ℕ) → Named due n → 6 ≤ size → size < 65536 → {need : Need} {l : List ℕ} {a : ℕ} → due .body n ≡ need → Behind n (size - 6) need l a
-      → Segment version due (beginOf n size ++ l) a
-  to-segment n size k lo hi {l = l} e (all-of z) =
-      let q : length l + 6 ≡ size = omega arith in
-      subst (λ (v : ℕ). Segment version due (beginOf n v ++ l) n) q (whole n l k e (omega arith))
-  to-segment n size k lo hi e (none-of z) =
-      let q = back-6 size lo in
-      subst (λ (l : List ℕ). Segment version due l n) (sym (append-nil (beginOf n size)))
-      (subst (λ (v : ℕ). Segment version due (beginOf n v) n) q (begun n (size - 6) k (e ∙ ap sized (sym z)) (omega arith)))
+  -- a length of six and more is that of a body
+  opening-of : (P : ℕ → List ℕ → Type 0) (n size : ℕ) → 6 ≤ size → size < 65536 → ((body : ℕ) (begin : List ℕ) → Opening version n body begin → P body begin) → P (size - 6) (beginOf n size)
+  opening-of P n size lo hi go = subst (λ (v : ℕ). P (size - 6) (beginOf n v)) (back-6 size lo) (go (size - 6) (beginOf n (size - 6 + 6)) (short (omega arith)))
+
+  to-segment : (n size : ℕ) {begin : List ℕ} → Named due n → Opening version n size begin → {need : Need} {l : List ℕ} {a : ℕ} → due .body n ≡ need → Behind n size need l a
+      → Segment version due (begin ++ l) a
+  to-segment n size {begin} k o {l = l} e (all-of z) = whole n begin l k e (subst (λ (j : ℕ). Opening version n j begin) (sym z) o)
+  to-segment n size {begin} k o e (none-of z) = subst (λ (l : List ℕ). Segment version due l n) (sym (append-nil begin)) (begun n size k (e ∙ ap sized (sym z)) o)
+
+  stands-of : (n size : ℕ) {begin : List ℕ} → Named due n → Opening version n size begin → First begin (numbersOf n (size + 6))
+  stands-of n size k (short hi) = begin-stands version due n (size + 6) k (omega arith) hi
+
+  same-size : (size : ℕ) → size + 6 - 6 ≡ size
+  same-size size = omega arith
 
   from-segment : {l : List ℕ} {a : ℕ} → Segment version due l a → Both First Second at l a
-  from-segment (whole n body k e hi) =
-      let q : length body ≡ length body + 6 - 6 = omega arith in
+  from-segment (whole n begin body k e o) =
       record {
-        front = beginOf n (length body + 6);
+        front = begin;
         rest = body;
         value = numbersOf n (length body + 6);
         octets = refl;
-        first = begin-stands version due n (length body + 6) k (omega arith) hi;
-        second = subst (λ (w : Need). Behind n (length body + 6 - 6) w body n) (sym e) (all-of q);
+        first = stands-of n (length body) k o;
+        second = subst (λ (w : Need). Behind n (length body + 6 - 6) w body n) (sym e) (all-of (sym (same-size (length body))));
       }
-  from-segment (begun n size k e hi) =
-      let q : size + 6 - 6 ≡ size = omega arith in
+  from-segment (begun {begin} n size k e o) =
       record {
-        front = beginOf n (size + 6);
+        front = begin;
         rest = [];
         value = numbersOf n (size + 6);
-        octets = sym (append-nil (beginOf n (size + 6)));
-        first = begin-stands version due n (size + 6) k (omega arith) hi;
-        second = subst (λ (w : Need). Behind n (size + 6 - 6) w [] n) (sym e) (none-of q);
+        octets = sym (append-nil begin);
+        first = stands-of n size k o;
+        second = subst (λ (w : Need). Behind n (size + 6 - 6) w [] n) (sym e) (none-of (same-size size));
       }
 
-  to-bad : (n size : ℕ) → Named due n → 6 ≤ size → size < 65536 → {need : Need} {l : List ℕ} {x : Answer} → due .body n ≡ need
-      → BadBehind (size - 6) (at + 2) (at + length (beginOf n size)) need l x → BadSegment version due at (beginOf n size ++ l) x
-  to-bad n size k lo hi {l = l} e (cut-of c) =
-      let q = back-6 size lo in
-      subst (BadSegment version due at (beginOf n size ++ l)) (ap (λ (j : ℕ). Short (at + j)) (sym (length-begin n size)))
-      (subst (λ (v : ℕ). BadSegment version due at (beginOf n v ++ l) (Short (at + 8))) q (cut-body n (size - 6) l (omega arith) k e c))
-  to-bad n size k lo hi {l = l} e (unfit {need = need} d) = wrong-size n size need l lo hi k e (λ z. d (omega arith))
+  to-bad : (n size : ℕ) {begin : List ℕ} → Named due n → Opening version n size begin → {need : Need} {l : List ℕ} {x : Answer} → due .body n ≡ need
+      → BadBehind size (at + 2) (at + length begin) need l x → BadSegment version due at (begin ++ l) x
+  to-bad n size {begin} k o {l = l} e (cut-of c) = cut-body n size begin l k e o c
+  to-bad n size {begin} k o {l = l} e (unfit {need = need} d) = wrong-size n size need begin l k e o d
 
   from-bad : {l : List ℕ} {x : Answer} → BadSegment version due at l x → BadThen First (Faulted (openTable version due) [] at) Worse at l x
   from-bad (bad-marker b) = bad-first (marker-faulted version due at b)
   from-bad (bad-length rest b) = bad-first (length-faulted version due at b)
   from-bad (bad-ident size rest lo hi b) = bad-first (ident-faulted version due at size lo hi b)
   from-bad (too-many n size rest lo hi oc g f) = bad-first (full-faulted version due at rest n size lo hi oc g f)
-  from-bad (wrong-size n size need rest lo hi k e d) =
-      bad-later (beginOf n size) rest (numbersOf n size) (begin-stands version due n size k lo hi)
-      (subst (λ (w : Need). BadBehind (size - 6) (at + 2) (at + length (beginOf n size)) w rest (BadLength (at + 2))) (sym e) (unfit (λ z. d (omega arith))))
-  from-bad (cut-body n size rest hi k e c) =
-      let q : size + 6 - 6 ≡ size = omega arith in
-      bad-later (beginOf n (size + 6)) rest (numbersOf n (size + 6)) (begin-stands version due n (size + 6) k (omega arith) hi)
-      (subst (BadBehind (size + 6 - 6) (at + 2) (at + length (beginOf n (size + 6))) (due .body n) rest) (ap (λ (j : ℕ). Short (at + j)) (length-begin n (size + 6)))
-      (subst (λ (w : Need). BadBehind (size + 6 - 6) (at + 2) (at + length (beginOf n (size + 6))) w rest (Short (at + length (beginOf n (size + 6))))) (sym e)
-      (cut-of (omega arith))))
+  from-bad (wrong-size n size need begin rest k e o d) =
+      bad-later begin rest (numbersOf n (size + 6)) (stands-of n size k o)
+      (subst (λ (w : Need). BadBehind (size + 6 - 6) (at + 2) (at + length begin) w rest (BadLength (at + 2))) (sym e) (unfit (λ z. d (omega arith))))
+  from-bad (cut-body n size begin rest k e o c) =
+      bad-later begin rest (numbersOf n (size + 6)) (stands-of n size k o)
+      (subst (λ (w : Need). BadBehind (size + 6 - 6) (at + 2) (at + length begin) w rest (Short (at + length begin))) (sym e) (cut-of (omega arith)))
 
   pub segment-exact : Exact (segmentOf version due s at) (Segment version due) (BadSegment version due at) s at
   unfolding segmentOf
@@ -142,7 +139,9 @@ module _ (version : Version) (due : Due) (s : List ℕ) (at : ℕ) (h : at ≤ l
       (exact-fields (openTable version due) [] s at h) (λ vs l st i. exact-behind (due .body (identIn vs)) (identIn vs) (sizeIn vs - 6) (at + 2) s (at + length l) i))
       (λ l a b. subst (λ (x : List ℕ). Segment version due x a) (sym (b .octets))
       (begin-apart version due (λ (vs f : List ℕ). Second vs (at + length f) (b .rest) a → Segment version due (f ++ b .rest) a) (b .first)
-      (λ n size k lo hi z. to-segment n size k lo hi refl z) (b .second)))
+      (λ n size k lo hi z.
+      opening-of (λ (j : ℕ) (f : List ℕ). Behind n j (due .body n) (b .rest) a → Segment version due (f ++ b .rest) a) n size lo hi (λ j f o y. to-segment n j k o refl y) z)
+      (b .second)))
       (λ l a z. from-segment z)
       (λ l x b. bad b)
       (λ l x b. from-bad b)
@@ -151,4 +150,6 @@ module _ (version : Version) (due : Due) (s : List ℕ) (at : ℕ) (h : at ≤ l
       bad {l} {x} (bad-first f) = faulted-begin version due at l x f
       bad {x = x} (bad-later f r vs st w) =
           begin-apart version due (λ (vs f : List ℕ). Worse vs (at + length f) r x → BadSegment version due at (f ++ r) x) st
-          (λ n size k lo hi z. to-bad n size k lo hi refl z) w
+          (λ n size k lo hi z.
+          opening-of (λ (j : ℕ) (f : List ℕ). BadBehind j (at + 2) (at + length f) (due .body n) r x → BadSegment version due at (f ++ r) x) n size lo hi
+          (λ j f o y. to-bad n j k o refl y) z) w

@@ -5,13 +5,12 @@
 --   Need                 what a body must be: any, which is passed over; or of so many octets, whose fields are read one by one
 --   Due                  what may stand at a place: which idents, which of them would be one too many, and the body of each
 --   Named due n          the ident n may stand there, and is not one too many
+--   Opening              the octets of a beginning whose ident is n and whose body has so many octets, as the version has it
 --   Segment              a segment as far as it is passed, and its ident
 --   openTable            its beginning, field by field: marker, length, ident, one too many; sizeIn, identIn: the numbers read
 --   behindOf             its body
 --   segmentOf            its ident, and where reading goes on: behind a body that is passed over, at the first octet of a body whose fields are read
 --   BadSegment           each way in which it is refused
---
--- The length counts itself, the ident and the body: version 00 has this form alone.
 use Prim.Native.Nat.{ℕ, _+_, _-_, _≤_, _<_}
 use mathlib.Core.Path.{_≡_}
 use mathlib.Core.Logic.{_≢_}
@@ -49,10 +48,13 @@ pub record Named (due : Due) (n : ℕ) : Type 0 where
 unfoldable pub beginOf : ℕ → ℕ → List ℕ
 beginOf n size = 0xFF ∷ 0xED ∷ octets16 size ++ (0x4D ∷ 0x52 ∷ 0x43 ∷ n ∷ [])
 
+-- the length counts itself, the ident and the body: version 00 has this form alone
+pub data Opening (version : Version) (n size : ℕ) : List ℕ → Type 0 where
+  short : size + 6 < 65536 → Opening version n size (beginOf n (size + 6))
+
 pub data Segment (version : Version) (due : Due) : List ℕ → ℕ → Type 0 where
-  whole : (n : ℕ) (body : List ℕ) → Named due n → due .body n ≡ passed → length body + 6 < 65536
-      → Segment version due (beginOf n (length body + 6) ++ body) n
-  begun : (n size : ℕ) → Named due n → due .body n ≡ sized size → size + 6 < 65536 → Segment version due (beginOf n (size + 6)) n
+  whole : (n : ℕ) (begin body : List ℕ) → Named due n → due .body n ≡ passed → Opening version n (length body) begin → Segment version due (begin ++ body) n
+  begun : {begin : List ℕ} (n size : ℕ) → Named due n → due .body n ≡ sized size → Opening version n size begin → Segment version due begin n
 
 -- ---- the reading: a length below 6 is judged at once, one that depends on the ident behind it; an ident too many before its length
 
@@ -104,8 +106,8 @@ pub data BadSegment (version : Version) (due : Due) (at : ℕ) : List ℕ → An
   too-many : (n size : ℕ) (rest : List ℕ) → 6 ≤ size → size < 65536 → n < 256 → due .may n ≡ true → due .full n ≡ true
       → BadSegment version due at (beginOf n size ++ rest) (BadStripe (at + 4))
   -- a length other than its fields need: at the length
-  wrong-size : (n size need : ℕ) (rest : List ℕ) → 6 ≤ size → size < 65536 → Named due n → due .body n ≡ sized need → size ≢ need + 6
-      → BadSegment version due at (beginOf n size ++ rest) (BadLength (at + 2))
+  wrong-size : (n size need : ℕ) (begin rest : List ℕ) → Named due n → due .body n ≡ sized need → Opening version n size begin → size ≢ need
+      → BadSegment version due at (begin ++ rest) (BadLength (at + 2))
   -- a body that passes the end: at its first octet
-  cut-body : (n size : ℕ) (rest : List ℕ) → size + 6 < 65536 → Named due n → due .body n ≡ passed → length rest < size
-      → BadSegment version due at (beginOf n (size + 6) ++ rest) (Short (at + 8))
+  cut-body : (n size : ℕ) (begin rest : List ℕ) → Named due n → due .body n ≡ passed → Opening version n size begin → length rest < size
+      → BadSegment version due at (begin ++ rest) (Short (at + length begin))
