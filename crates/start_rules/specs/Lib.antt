@@ -1,0 +1,4 @@
+pub mod Coders
+pub mod Grammar
+pub mod Reading
+pub mod Faults
