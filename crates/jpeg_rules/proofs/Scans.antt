@@ -14,7 +14,7 @@ use Rattle.jpeg_rules.specs.declared.Found.the-variants.{At, Nothing}
 use Rattle.jpeg_rules.specs.Grammar.{DataCode, Data, none, plain, stuffed}
 use Rattle.jpeg_rules.specs.Walk.{stopsOf, scanFrom, scanOf}
 use Rattle.jpeg_rules.specs.Faults.{Endless, all-data, lone}
-use Rattle.laws.proofs.Cases.{cond-with, clash, bool-else}
+use Rattle.laws.proofs.Cases.{cond-with, clash}
 use Rattle.jpeg_rules.proofs.Leaves.{says-data, says-stop, one-there, two-there}
 
 -- a pair that does not stop
