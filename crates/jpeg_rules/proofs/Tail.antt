@@ -62,7 +62,6 @@ pub record Over (s : List ℕ) (st t : Reach) (p : Piece) : Type 0 where
   pub good : Good p
   pub stands : drop (st .at) s ≡ octetsOf p ++ drop (t .at) s
   pub at : t .at ≡ st .at + length (octetsOf p)
-  pub inside : t .at ≤ length s
 
 module _ (s : List ℕ) (st t : Reach) (c : ℕ) where
   pub alone-over : (n : ℕ) → markerOf s (st .at) ≡ Code c n → classOf c ≡ Alone → t .at ≡ n → Over s st t alone
@@ -70,12 +69,10 @@ module _ (s : List ℕ) (st t : Reach) (c : ℕ) where
   alone-over n m k a =
       let x = marker-back s (st .at) c n m in
       let z = x .0 in
-      let y = x .1 in
       record {
         good = tt;
         stands = x .2 ∙ ap (λ (c : ℕ). 0xFF ∷ c ∷ drop n s) (alone-code c k) ∙ ap (λ (j : ℕ). 0xFF ∷ 0x01 ∷ drop j s) (sym a);
         at = omega arith;
-        inside = omega arith;
       }
 
   module _ (next : ℕ) (x : Stood s (st .at) c 2 next) where
@@ -84,12 +81,10 @@ module _ (s : List ℕ) (st t : Reach) (c : ℕ) where
     segment-over k a =
         let l = length-lengthed c (x .body) in
         let z = x .ends in
-        let y = x .inside in
         record {
           good = (k, x .fits);
           stands = x .stands ∙ ap (λ (j : ℕ). lengthed c (x .body) ++ drop j s) (sym a);
           at = omega arith;
-          inside = omega arith;
         }
 
     pub scan-over : (p : ℕ) → classOf c ≡ Scan → scanOf s next ≡ At p → t .at ≡ p → Over s st t (scan (x .body) (take (p - next) (drop next s)))
@@ -111,7 +106,6 @@ module _ (s : List ℕ) (st t : Reach) (c : ℕ) where
               ∙ ap (λ (u : List ℕ). lengthed 0xDA (x .body) ++ u) (y .1) ∙ sym (append-assoc (lengthed 0xDA (x .body)) coded (drop p s))
               ∙ ap (λ (j : ℕ). (lengthed 0xDA (x .body) ++ coded) ++ drop j s) (sym a);
           at = omega arith;
-          inside = omega arith;
         }
 
 -- ---- what a segment says of the resolution
