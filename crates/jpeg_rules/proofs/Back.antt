@@ -13,11 +13,10 @@ use borrow.Author.Tests.{eq-eqb, ne-eqb, ltb-false}
 use Rattle.octets.specs.Octets.{Octets, be16At}
 use Rattle.sheet_rules.specs.Sentences.{Listed}
 use Rattle.laws.proofs.Says.{says-eq, says-and, says-true}
-use Rattle.sheet_rules.proofs.New.{says-listed, says-divides}
 use Rattle.jpeg_rules.specs.declared.Class.the-variants.{Frame, Segment}
 use Rattle.jpeg_rules.specs.declared.Marker.the-variants.{Code}
 use Rattle.jpeg_rules.specs.declared.Seg.the-variants.{Body}
-use Rattle.jpeg_rules.specs.declared.Tag.the-variants.{Gives, Plain}
+use Rattle.jpeg_rules.specs.declared.Tag.the-variants.{Gives}
 use Rattle.jpeg_rules.specs.declared.Reach.{Reach}
 use Rattle.jpeg_rules.specs.declared.Turn.the-variants.{Stop}
 use Rattle.jpeg_rules.specs.declared.Walk.{Walk}
@@ -25,12 +24,12 @@ use Rattle.jpeg_rules.specs.declared.Walk.the-variants.{Ends}
 use Rattle.jpeg_rules.specs.Marker.{classOf, markerOf}
 use Rattle.jpeg_rules.specs.Grammar.{Piece, alone, segment, lengthed, octetsOf, piecesOf, Fits, Good, isScan, tagged, resolution, Each, Scanned, Layer}
 use Rattle.jpeg_rules.specs.Walk.{segOf, resolves, tagOf, framed, moved, begun, walkFrom, walkOf}
-use Rattle.laws.proofs.Cases.{cond-with, clash, bool-else}
-use Rattle.jpeg_rules.proofs.Leaves.{alone-code, marker-back, two-stand}
-use Rattle.jpeg_rules.proofs.Turns.{tag-of, number-is}
+use Rattle.laws.proofs.Cases.{cond-with, clash}
+use Rattle.jpeg_rules.proofs.Leaves.{marker-back, two-stand}
+use Rattle.jpeg_rules.proofs.Turns.{number-is}
 use Rattle.jpeg_rules.proofs.Walks.{Onward, by-alone, by-frame, by-scan, by-plain, by-tag, turn-told, Walks, stops, goes, walks-from}
-use Rattle.jpeg_rules.proofs.Tail.{Stood, stood, Tail, tail-back}
-use Rattle.jpeg_rules.proofs.There.{length-lengthed, res-plain, resolves-nonzero, tagged-long}
+use Rattle.jpeg_rules.proofs.Tail.{Stood, stood, Over, alone-over, segment-over, plain-test, gives-test, Tail, tail-back}
+use Rattle.jpeg_rules.proofs.There.{length-lengthed, says-resolves, res-plain, resolves-nonzero}
 
 -- ---- before the frame
 
@@ -55,13 +54,13 @@ pub record Head (s : List ℕ) (main : ℕ) (st : Reach) (e w h r : ℕ) : Type 
 
 module _ (s : List ℕ) (o : Octets s) (main e w h r : ℕ) where
   -- one piece in front
-  head-more : (st t : Reach) (p : Piece) → Good p → isScan p ≡ false → drop (st .at) s ≡ octetsOf p ++ drop (t .at) s
-      → t .at ≡ st .at + length (octetsOf p)
+  head-more : (st t : Reach) (p : Piece) → Over s st t p → isScan p ≡ false
       → ((ps : List Piece) → cond (eqb (t .res) 0) (resolution ps) (t .res) ≡ cond (eqb (st .res) 0) (resolution (p ∷ ps)) (st .res))
       → (Head s main t e w h r → (st .res ≢ 0) ⊎ (resolves main r ≡ true))
       → Head s main t e w h r → Head s main st e w h r
   unfolding Each piecesOf
-  head-more st t p g ns q a rs fd k =
+  head-more st t p y ns rs fd k =
+      let a = y .at in
       let l = length-append (octetsOf p) (piecesOf (k .before)) in
       let z = k .ends in
       record {
@@ -70,9 +69,9 @@ module _ (s : List ℕ) (o : Octets s) (main e w h r : ℕ) where
         body = k .body;
         after = k .after;
         octets =
-            q ∙ ap (λ (x : List ℕ). octetsOf p ++ x) (k .octets)
+            y .stands ∙ ap (λ (x : List ℕ). octetsOf p ++ x) (k .octets)
             ∙ sym (append-assoc (octetsOf p) (piecesOf (k .before)) (lengthed (k .code) (k .body) ++ (piecesOf (k .after) ++ (0xFF ∷ 0xD9 ∷ drop e s))));
-        early = ((g, ns), k .early);
+        early = ((y .good, ns), k .early);
         late = k .late;
         frame = k .frame;
         long = k .long;
@@ -132,31 +131,6 @@ module _ (s : List ℕ) (o : Octets s) (main e w h r : ℕ) where
         inside = y .inside;
       }
 
-  -- a segment that gives no resolution, and one that does
-  plain-test : (st : Reach) (c next : ℕ) (x : Stood s (st .at) c 2 next) → tagOf s st c (st .at + 2) ≡ Plain → eqb (st .res) 0 && tagged c (x .body) ≡ false
-  plain-test st c next x q =
-      ⊎-elim
-      (λ (t : eqb (st .res) 0 && tagged c (x .body) ≡ true).
-      let z : Gives (be16At s (st .at + 2 + 10)) ≡ Plain =
-      sym (tag-of s main st c (x .body) (drop next s) (x .stands) ∙ ap (λ (b : Bool). cond b (Gives (be16At s (st .at + 2 + 10))) Plain) t) ∙ q in
-      clash cc)
-      (λ (t : eqb (st .res) 0 && tagged c (x .body) ≡ false). t)
-      (bool-else (eqb (st .res) 0 && tagged c (x .body)))
-
-  gives-test : (st : Reach) (c next v : ℕ) (x : Stood s (st .at) c 2 next) → tagOf s st c (st .at + 2) ≡ Gives v
-      → (eqb (st .res) 0 && tagged c (x .body) ≡ true) × (be16At s (st .at + 2 + 10) ≡ v)
-  gives-test st c next v x q =
-      ⊎-elim
-      (λ (t : eqb (st .res) 0 && tagged c (x .body) ≡ true).
-      let z : Gives (be16At s (st .at + 2 + 10)) ≡ Gives v =
-      sym (tag-of s main st c (x .body) (drop next s) (x .stands) ∙ ap (λ (b : Bool). cond b (Gives (be16At s (st .at + 2 + 10))) Plain) t) ∙ q in
-      (t, cc))
-      (λ (t : eqb (st .res) 0 && tagged c (x .body) ≡ false).
-      let z : Plain ≡ Gives v =
-      sym (tag-of s main st c (x .body) (drop next s) (x .stands) ∙ ap (λ (b : Bool). cond b (Gives (be16At s (st .at + 2 + 10))) Plain) t) ∙ q in
-      clash cc)
-      (bool-else (eqb (st .res) 0 && tagged c (x .body)))
-
   found-same : (st t : Reach) → t .res ≡ st .res → Head s main t e w h r → (st .res ≢ 0) ⊎ (resolves main r ≡ true)
   found-same st t q k = ⊎-map (λ (d : t .res ≢ 0) z. d (q ∙ z)) (λ (v : resolves main r ≡ true). v) (k .found)
 
@@ -164,17 +138,12 @@ module _ (s : List ℕ) (o : Octets s) (main e w h r : ℕ) where
       → moved st next v ≡ t → Head s main t e w h r → Head s main st e w h r
   unfolding octetsOf Good isScan resolution
   head-tag st t c next v x k gv ok q y =
-      let g = gives-test st c next v x gv in
+      let g = gives-test s main st c next x v gv in
       let b = says-and (says-eq (st .res) 0) (says-true (tagged c (x .body))) .told (g .0) in
-      let l = tagged-long s main c (x .body) (b .1) in
-      let vb : v ≡ be16At (x .body) 8 =
-      sym (g .1) ∙ number-is s main st c (x .body) (drop next s) (x .stands) 8 (st .at + 2 + 10) (let u : st .at + 2 + 2 + 8 ≡ st .at + 2 + 10 = omega arith in u) (omega arith) in
+      let vb : v ≡ be16At (x .body) 8 = g .1 in
       let nz = resolves-nonzero s main v ok in
       let tr : t .res ≡ v = res-of q in
-      let a : t .at ≡ next = at-of q in
-      let l2 = length-lengthed c (x .body) in
-      let en = x .ends in
-      head-more st t (segment c (x .body)) (k, x .fits) refl (x .stands ∙ ap (λ (j : ℕ). lengthed c (x .body) ++ drop j s) (sym a)) (omega arith)
+      head-more st t (segment c (x .body)) (segment-over s st t c next x k (at-of q)) refl
       (λ ps.
       ap (λ (m : ℕ). cond (eqb m 0) (resolution ps) m) tr
       ∙ ap (λ (z : Bool). cond z (resolution ps) v) (ne-eqb v 0 nz)
@@ -191,13 +160,9 @@ module _ (s : List ℕ) (o : Octets s) (main e w h r : ℕ) where
       → (t .framed ≡ false → t .scanned ≡ false → Head s main t e w h r) → (t .framed ≡ true → t .res ≢ 0 → Tail s t e w h r) → Head s main st e w h r
   unfolding octetsOf Good isScan resolution
   head-onward st t f ns (by-alone c n m k q) go frame =
-      let x = marker-back s (st .at) c n m in
-      let a : t .at ≡ n = at-of q in
       let tr : t .res ≡ st .res = res-of q in
-      let z = x .0 in
-      head-more st t alone tt refl
-      (x .2 ∙ ap (λ (c : ℕ). 0xFF ∷ c ∷ drop n s) (alone-code c k) ∙ ap (λ (j : ℕ). 0xFF ∷ 0x01 ∷ drop j s) (sym a))
-      (omega arith) (λ ps. ap (λ (m : ℕ). cond (eqb m 0) (resolution ps) m) tr) (found-same st t tr)
+      head-more st t alone (alone-over s st t c n m k (at-of q)) refl
+      (λ ps. ap (λ (m : ℕ). cond (eqb m 0) (resolution ps) m) tr) (found-same st t tr)
       (go (ap (λ (v : Reach). v .framed) (sym q) ∙ f) (ap (λ (v : Reach). v .scanned) (sym q) ∙ ns))
   head-onward st t f ns (by-frame c n next m k nf nr g nh nw q) go frame =
       head-frame st t c n next m k ns nr g nh nw q (frame (ap (λ (v : Reach). v .framed) (sym q)) (λ z. nr (sym (res-of q) ∙ z)))
@@ -205,12 +170,9 @@ module _ (s : List ℕ) (o : Octets s) (main e w h r : ℕ) where
   head-onward st t f ns (by-plain c n next m k g pl q) go frame =
       let x = stood s o (st .at) c n 2 next (omega arith) m g in
       let b : n ≡ st .at + 2 = marker-back s (st .at) c n m .0 in
-      let a : t .at ≡ next = at-of q in
       let tr : t .res ≡ st .res = res-of q in
-      let l2 = length-lengthed c (x .body) in
-      let en = x .ends in
-      let pt = plain-test st c next x (ap (tagOf s st c) (sym b) ∙ pl) in
-      head-more st t (segment c (x .body)) (k, x .fits) refl (x .stands ∙ ap (λ (j : ℕ). lengthed c (x .body) ++ drop j s) (sym a)) (omega arith)
+      let pt = plain-test s main st c next x (ap (tagOf s st c) (sym b) ∙ pl) in
+      head-more st t (segment c (x .body)) (segment-over s st t c next x k (at-of q)) refl
       (λ ps. ap (λ (m : ℕ). cond (eqb m 0) (resolution ps) m) tr ∙ res-plain s main (st .res) c (x .body) ps pt)
       (found-same st t tr)
       (go (ap (λ (v : Reach). v .framed) (sym q) ∙ f) (ap (λ (v : Reach). v .scanned) (sym q) ∙ ns))
@@ -279,7 +241,7 @@ module _ (s : List ℕ) (o : Octets s) (start main e w h r : ℕ) where
       resolved : Head s main (begun (start + 2)) e w h r → Listed r × (r ∣ main)
       resolved k =
           ⊎-elim (λ (d : 0 ≢ 0). absurd (d refl))
-          (λ (v : resolves main r ≡ true). let x = says-and (says-listed r) (says-divides r main) .told v in (x .0, x .1 .1))
+          (λ (v : resolves main r ≡ true). says-resolves main r .told v)
           (k .found)
 
   pub walk-layer : walkOf s start main ≡ Ends e w h r → Walked s start main e w h r

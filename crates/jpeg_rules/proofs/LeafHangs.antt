@@ -97,7 +97,7 @@ scan-along t (suc m) i p l k =
     let b = k .inside in
     ⊎-elim (λ (z : i ≡ p). scan-here t i (omega arith) (ap (stopsAt t) z ∙ k .stop) ∙ ap At z)
     (λ (z : i ≢ p).
-    scan-next t i (omega arith) (k .before i (omega arith) (omega arith))
+    scan-next t i (k .before i (omega arith) (omega arith))
     ∙ scan-along t m (i + 1) p (omega arith)
     (record { after = omega arith; inside = b; stop = k .stop; before = λ q c d. k .before q (omega arith) d }))
     (says-else (says-eq i p))

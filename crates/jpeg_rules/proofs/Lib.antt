@@ -6,6 +6,8 @@ pub mod There
 pub mod Tail
 pub mod Back
 pub mod Within
+pub mod Refuses
+pub mod Refused
 pub mod LeafHangs
 pub mod Hangs
 pub mod Theorems

@@ -4,28 +4,31 @@ use Prim.Native.Nat.{ℕ, _+_, _-_, _≤_}
 use native.Mathlib.Omega.{arith}
 use mathlib.Core.Path.{_≡_, refl, sym, ap, _∙_}
 use mathlib.Core.Logic.{_⊎_, inl, inr, _≢_, ⊎-elim, ⊎-map}
-use mathlib.Core.Bool.{true, false, _&&_, false≢true}
+use mathlib.Core.Bool.{Bool, true, false, _&&_, cond, false≢true}
 use mathlib.Core.List.{List, [], _∷_, _++_, append-assoc}
 use lib.ListN.{length, take, drop, length-append, length-drop}
 use lib.Seq.{length-take-le}
 use lib.Dec.{eqb, leb}
 use Rattle.octets.specs.Octets.{Octets, be16At, octets16, standsAt}
-use Rattle.laws.proofs.Says.{says-eq, says-le, says-and, says-true}
+use Rattle.laws.proofs.Says.{says-eq, says-le, says-and, says-true, says-fails}
 use Rattle.jpeg_rules.specs.declared.Marker.the-variants.{Code}
+use Rattle.jpeg_rules.specs.declared.Class.the-variants.{Alone, Scan, Segment}
+use Rattle.jpeg_rules.specs.declared.Found.the-variants.{At}
 use Rattle.jpeg_rules.specs.declared.Seg.the-variants.{Body}
-use Rattle.jpeg_rules.specs.declared.Tag.the-variants.{Gives}
+use Rattle.jpeg_rules.specs.declared.Tag.the-variants.{Gives, Plain}
 use Rattle.jpeg_rules.specs.declared.Reach.{Reach}
 use Rattle.jpeg_rules.specs.declared.Turn.the-variants.{Stop}
 use Rattle.jpeg_rules.specs.declared.Walk.{Walk}
 use Rattle.jpeg_rules.specs.declared.Walk.the-variants.{Ends}
-use Rattle.jpeg_rules.specs.Marker.{markerOf}
-use Rattle.jpeg_rules.specs.Grammar.{Piece, alone, segment, scan, lengthed, octetsOf, piecesOf, Fits, Good, isScan, g3fax, Each, Scanned}
-use Rattle.jpeg_rules.specs.Walk.{segOf, tagOf, framed}
-use Rattle.laws.proofs.Cases.{cond-with, clash}
+use Rattle.jpeg_rules.specs.Marker.{classOf, markerOf}
+use Rattle.jpeg_rules.specs.Grammar.{Piece, alone, segment, scan, lengthed, octetsOf, piecesOf, Fits, Good, isScan, g3fax, tagged, Each, Scanned}
+use Rattle.jpeg_rules.specs.Walk.{segOf, scanOf, tagOf, framed}
+use Rattle.laws.proofs.Cases.{cond-with, clash, bool-else}
 use Rattle.jpeg_rules.proofs.Leaves.{alone-code, scan-code, end-code, marker-back, seg-back}
 use Rattle.jpeg_rules.proofs.Scans.{scan-data, scan-back}
 use Rattle.jpeg_rules.proofs.Walks.{Onward, by-alone, by-frame, by-scan, by-plain, by-tag, Ended, turn-told, Walks, stops, goes}
-use Rattle.jpeg_rules.proofs.There.{length-lengthed}
+use Rattle.jpeg_rules.proofs.There.{length-lengthed, tagged-long}
+use Rattle.jpeg_rules.proofs.Turns.{tag-of, number-is}
 
 -- ---- a marker with a length, as it stands
 
@@ -53,6 +56,83 @@ stood s o at c n least next two m g =
       stands = k .2 ∙ ap (λ (l : List ℕ). 0xFF ∷ c ∷ l) (b .stands ∙ sym (append-assoc (octets16 (length (b .body) + 2)) (b .body) (drop next s)));
     }
 
+-- ---- a turn that goes over a piece
+
+pub record Over (s : List ℕ) (st t : Reach) (p : Piece) : Type 0 where
+  pub good : Good p
+  pub stands : drop (st .at) s ≡ octetsOf p ++ drop (t .at) s
+  pub at : t .at ≡ st .at + length (octetsOf p)
+
+module _ (s : List ℕ) (st t : Reach) (c : ℕ) where
+  pub alone-over : (n : ℕ) → markerOf s (st .at) ≡ Code c n → classOf c ≡ Alone → t .at ≡ n → Over s st t alone
+  unfolding octetsOf Good
+  alone-over n m k a =
+      let x = marker-back s (st .at) c n m in
+      let z = x .0 in
+      record {
+        good = tt;
+        stands = x .2 ∙ ap (λ (c : ℕ). 0xFF ∷ c ∷ drop n s) (alone-code c k) ∙ ap (λ (j : ℕ). 0xFF ∷ 0x01 ∷ drop j s) (sym a);
+        at = omega arith;
+      }
+
+  module _ (next : ℕ) (x : Stood s (st .at) c 2 next) where
+    pub segment-over : classOf c ≡ Segment → t .at ≡ next → Over s st t (segment c (x .body))
+    unfolding octetsOf Good
+    segment-over k a =
+        let l = length-lengthed c (x .body) in
+        let z = x .ends in
+        record {
+          good = (k, x .fits);
+          stands = x .stands ∙ ap (λ (j : ℕ). lengthed c (x .body) ++ drop j s) (sym a);
+          at = omega arith;
+        }
+
+    pub scan-over : (p : ℕ) → classOf c ≡ Scan → scanOf s next ≡ At p → t .at ≡ p → Over s st t (scan (x .body) (take (p - next) (drop next s)))
+    unfolding octetsOf Good
+    scan-over p k q a =
+        let y = scan-data s next p q in
+        let b = scan-back s next p q in
+        let v = b .inside in
+        let i = b .after in
+        let z = x .ends in
+        let coded : List ℕ = take (p - next) (drop next s) in
+        let l1 = length-append (lengthed 0xDA (x .body)) coded in
+        let l2 = length-lengthed 0xDA (x .body) in
+        let l3 : length coded ≡ p - next = length-take-le (p - next) (drop next s) (let u = length-drop next s in omega arith) in
+        record {
+          good = (x .fits, y .0);
+          stands =
+              x .stands ∙ ap (λ (c : ℕ). lengthed c (x .body) ++ drop next s) (scan-code c k)
+              ∙ ap (λ (u : List ℕ). lengthed 0xDA (x .body) ++ u) (y .1) ∙ sym (append-assoc (lengthed 0xDA (x .body)) coded (drop p s))
+              ∙ ap (λ (j : ℕ). (lengthed 0xDA (x .body) ++ coded) ++ drop j s) (sym a);
+          at = omega arith;
+        }
+
+-- ---- what a segment says of the resolution
+
+module _ (s : List ℕ) (main : ℕ) (st : Reach) (c next : ℕ) (x : Stood s (st .at) c 2 next) where
+  tag-by : (b : Bool) → eqb (st .res) 0 && tagged c (x .body) ≡ b → tagOf s st c (st .at + 2) ≡ cond b (Gives (be16At s (st .at + 2 + 10))) Plain
+  tag-by b t = tag-of s main st c (x .body) (drop next s) (x .stands) ∙ ap (λ (b : Bool). cond b (Gives (be16At s (st .at + 2 + 10))) Plain) t
+
+  -- one that gives none, and one that does
+  pub plain-test : tagOf s st c (st .at + 2) ≡ Plain → eqb (st .res) 0 && tagged c (x .body) ≡ false
+  plain-test q =
+      says-fails (says-true (eqb (st .res) 0 && tagged c (x .body)))
+      (λ t. let z : Gives (be16At s (st .at + 2 + 10)) ≡ Plain = sym (tag-by true t) ∙ q in clash cc)
+
+  pub gives-test : (v : ℕ) → tagOf s st c (st .at + 2) ≡ Gives v → (eqb (st .res) 0 && tagged c (x .body) ≡ true) × (v ≡ be16At (x .body) 8)
+  gives-test v q =
+      ⊎-elim
+      (λ (t : eqb (st .res) 0 && tagged c (x .body) ≡ true).
+      let z : Gives (be16At s (st .at + 2 + 10)) ≡ Gives v = sym (tag-by true t) ∙ q in
+      let u : be16At s (st .at + 2 + 10) ≡ v = cc in
+      let b = says-and (says-eq (st .res) 0) (says-true (tagged c (x .body))) .told t in
+      let l = tagged-long s main c (x .body) (b .1) in
+      let y : st .at + 2 + 2 + 8 ≡ st .at + 2 + 10 = omega arith in
+      (t, sym u ∙ number-is s main st c (x .body) (drop next s) (x .stands) 8 (st .at + 2 + 10) y (omega arith)))
+      (λ (t : eqb (st .res) 0 && tagged c (x .body) ≡ false). let z : Plain ≡ Gives v = sym (tag-by false t) ∙ q in clash cc)
+      (bool-else (eqb (st .res) 0 && tagged c (x .body)))
+
 -- ---- after the frame
 
 pub record Tail (s : List ℕ) (st : Reach) (e w h r : ℕ) : Type 0 where
@@ -67,19 +147,20 @@ pub record Tail (s : List ℕ) (st : Reach) (e w h r : ℕ) : Type 0 where
   pub inside : e ≤ length s
 
 -- one piece in front
-tail-more : (s : List ℕ) (st t : Reach) (e w h r : ℕ) (p : Piece) → Good p → drop (st .at) s ≡ octetsOf p ++ drop (t .at) s
-    → t .at ≡ st .at + length (octetsOf p) → ((t .scanned ≡ true) → (st .scanned ≡ true) ⊎ (isScan p ≡ true))
+tail-more : (s : List ℕ) (st t : Reach) (e w h r : ℕ) (p : Piece) → Over s st t p
+    → ((t .scanned ≡ true) → (st .scanned ≡ true) ⊎ (isScan p ≡ true))
     → t .width ≡ st .width → t .height ≡ st .height → t .res ≡ st .res → Tail s t e w h r → Tail s st e w h r
 unfolding Each piecesOf Scanned
-tail-more s st t e w h r p g q a sc tw th tr k =
+tail-more s st t e w h r p y sc tw th tr k =
+    let a = y .at in
     let l = length-append (octetsOf p) (piecesOf (k .after)) in
     let z = k .ends in
     record {
       after = p ∷ k .after;
-      good = (g, k .good);
-      octets = q ∙ ap (λ (x : List ℕ). octetsOf p ++ x) (k .octets) ∙ sym (append-assoc (octetsOf p) (piecesOf (k .after)) (0xFF ∷ 0xD9 ∷ drop e s));
+      good = (y .good, k .good);
+      octets = y .stands ∙ ap (λ (x : List ℕ). octetsOf p ++ x) (k .octets) ∙ sym (append-assoc (octetsOf p) (piecesOf (k .after)) (0xFF ∷ 0xD9 ∷ drop e s));
       scanned =
-          ⊎-elim (λ (y : t .scanned ≡ true). ⊎-map (λ (x : st .scanned ≡ true). x) (λ (x : isScan p ≡ true). inl x) (sc y)) (λ (y : Scanned (k .after)). inr (inr y)) (k .scanned);
+          ⊎-elim (λ (u : t .scanned ≡ true). ⊎-map (λ (x : st .scanned ≡ true). x) (λ (x : isScan p ≡ true). inl x) (sc u)) (λ (u : Scanned (k .after)). inr (inr u)) (k .scanned);
       width = sym tw ∙ k .width;
       height = sym th ∙ k .height;
       res = sym tr ∙ k .res;
@@ -121,41 +202,20 @@ module _ (s : List ℕ) (o : Octets s) (main e w h r : ℕ) where
       → ((t .framed ≡ true) → (t .res ≢ 0) → Tail s t e w h r) → Tail s st e w h r
   unfolding octetsOf Good isScan
   tail-onward st t f d (by-alone c n m k q) go =
-      let x = marker-back s (st .at) c n m in
-      let a : t .at ≡ n = reach-of (λ (z : Reach). z .at) q in
-      let z = x .0 in
-      tail-more s st t e w h r alone tt
-      (x .2 ∙ ap (λ (c : ℕ). 0xFF ∷ c ∷ drop n s) (alone-code c k) ∙ ap (λ (j : ℕ). 0xFF ∷ 0x01 ∷ drop j s) (sym a))
-      (omega arith) (λ y. inl (reach-of (λ (z : Reach). z .scanned) (sym q) ∙ y)) (reach-of (λ (z : Reach). z .width) q) (reach-of (λ (z : Reach). z .height) q)
+      tail-more s st t e w h r alone (alone-over s st t c n m k (reach-of (λ (z : Reach). z .at) q))
+      (λ y. inl (reach-of (λ (z : Reach). z .scanned) (sym q) ∙ y)) (reach-of (λ (z : Reach). z .width) q) (reach-of (λ (z : Reach). z .height) q)
       (reach-of (λ (z : Reach). z .res) q)
       (go (reach-of (λ (z : Reach). z .framed) q ∙ f) (λ y. d (sym (reach-of (λ (z : Reach). z .res) q) ∙ y)))
   tail-onward st t f d (by-frame c n next m k nf nr g nh nw q) go = absurd (false≢true (sym nf ∙ f))
   tail-onward st t f d (by-scan c n next p m k fr g fo q) go =
       let x = stood s o (st .at) c n 2 next (omega arith) m g in
-      let y = scan-data s next p fo in
-      let b = scan-back s next p fo in
-      let a : t .at ≡ p = reach-of (λ (z : Reach). z .at) q in
-      let body : List ℕ = x .body in
-      let coded : List ℕ = take (p - next) (drop next s) in
-      let l1 = length-append (lengthed 0xDA body) coded in
-      let l2 = length-lengthed 0xDA body in
-      let l3 : length coded ≡ p - next = length-take-le (p - next) (drop next s) (let u = length-drop next s in let v = b .inside in let i = b .after in omega arith) in
-      let i = b .after in
-      let en = x .ends in
-      tail-more s st t e w h r (scan body coded) (x .fits, y .0)
-      (x .stands ∙ ap (λ (c : ℕ). lengthed c body ++ drop next s) (scan-code c k)
-      ∙ ap (λ (u : List ℕ). lengthed 0xDA body ++ u) (y .1) ∙ sym (append-assoc (lengthed 0xDA body) coded (drop p s))
-      ∙ ap (λ (j : ℕ). (lengthed 0xDA body ++ coded) ++ drop j s) (sym a))
-      (omega arith) (λ u. inr refl) (reach-of (λ (z : Reach). z .width) q) (reach-of (λ (z : Reach). z .height) q) (reach-of (λ (z : Reach). z .res) q)
+      tail-more s st t e w h r (scan (x .body) (take (p - next) (drop next s))) (scan-over s st t c next x p k fo (reach-of (λ (z : Reach). z .at) q))
+      (λ u. inr refl) (reach-of (λ (z : Reach). z .width) q) (reach-of (λ (z : Reach). z .height) q) (reach-of (λ (z : Reach). z .res) q)
       (go (reach-of (λ (z : Reach). z .framed) q) (λ u. d (sym (reach-of (λ (z : Reach). z .res) q) ∙ u)))
   tail-onward st t f d (by-plain c n next m k g pl q) go =
       let x = stood s o (st .at) c n 2 next (omega arith) m g in
-      let a : t .at ≡ next = reach-of (λ (z : Reach). z .at) q in
-      let l2 = length-lengthed c (x .body) in
-      let en = x .ends in
-      tail-more s st t e w h r (segment c (x .body)) (k, x .fits)
-      (x .stands ∙ ap (λ (j : ℕ). lengthed c (x .body) ++ drop j s) (sym a))
-      (omega arith) (λ y. inl (reach-of (λ (z : Reach). z .scanned) (sym q) ∙ y)) (reach-of (λ (z : Reach). z .width) q) (reach-of (λ (z : Reach). z .height) q)
+      tail-more s st t e w h r (segment c (x .body)) (segment-over s st t c next x k (reach-of (λ (z : Reach). z .at) q))
+      (λ y. inl (reach-of (λ (z : Reach). z .scanned) (sym q) ∙ y)) (reach-of (λ (z : Reach). z .width) q) (reach-of (λ (z : Reach). z .height) q)
       (reach-of (λ (z : Reach). z .res) q)
       (go (reach-of (λ (z : Reach). z .framed) q ∙ f) (λ y. d (sym (reach-of (λ (z : Reach). z .res) q) ∙ y)))
   tail-onward st t f d (by-tag c n next v m k g gv ok q) go = absurd (d (tag-gives s st c n v gv))

@@ -12,12 +12,16 @@ use Rattle.octets.specs.Octets.{Octets}
 use Rattle.octets.proofs.Agree.{Agree}
 use Rattle.jpeg_rules.specs.declared.Fault.{Fault}
 use Rattle.jpeg_rules.specs.declared.Fault.the-variants.{Short}
+use Rattle.jpeg_rules.specs.declared.Walk.{Walk}
 use Rattle.jpeg_rules.specs.declared.Walk.the-variants.{Ends, Refused}
 use Rattle.jpeg_rules.specs.Grammar.{Layer}
 use Rattle.jpeg_rules.specs.Walk.{walkOf}
 use Rattle.jpeg_rules.specs.Look.{walkLook, walkBeyond}
+use Rattle.jpeg_rules.specs.Faults.{BadLayer}
 use Rattle.jpeg_rules.proofs.There.{layer-walk}
 use Rattle.jpeg_rules.proofs.Back.{walk-layer}
+use Rattle.jpeg_rules.proofs.Refuses.{layer-bad}
+use Rattle.jpeg_rules.proofs.Refused.{layer-blames}
 use Rattle.jpeg_rules.proofs.Within.{placeOf}
 use Rattle.jpeg_rules.proofs.Hangs.{NearWalk, walk-hangs}
 
@@ -37,15 +41,42 @@ cut-length s start e h = length-take-le (e - start) (drop start s) (let l = leng
 
 -- ---- the walk ends at e exactly if the octets up to e are a layer, with its width, height and resolution
 
+layer-ends : (s : List ℕ) (start main e w h r : ℕ) → LayerAt s start main e w h r → walkOf s start main ≡ Ends e w h r
+layer-ends s start main e w h r k =
+    let a = k .after in
+    let l = cut-length s start e (k .inside) in
+    let z : start + length (take (e - start) (drop start s)) ≡ e = omega arith in
+    layer-walk s start main (take (e - start) (drop start s)) (drop e s) w h r (k .layer) (cut-at s start e a) ∙ ap (λ (n : ℕ). Ends n w h r) z
+
 pub walk-exactly : (s : List ℕ) → Octets s → (start main e w h r : ℕ) → walkOf s start main ≡ Ends e w h r ↔ LayerAt s start main e w h r
 walk-exactly s o start main e w h r = (
   λ q. let k = walk-layer s o start main e w h r q in let a = k .after in record { layer = k .layer; after = omega arith; inside = k .inside },
-  λ k.
-      let a = k .after in
-      let l = cut-length s start e (k .inside) in
-      let z : start + length (take (e - start) (drop start s)) ≡ e = omega arith in
-      layer-walk s start main (take (e - start) (drop start s)) (drop e s) w h r (k .layer) (cut-at s start e a) ∙ ap (λ (n : ℕ). Ends n w h r) z,
+  layer-ends s start main e w h r,
 )
+
+-- ---- and it is refused exactly if the octets from its start on are at fault so
+
+pub walk-refused-exactly : (s : List ℕ) → Octets s → (start main : ℕ) (f : Fault) → walkOf s start main ≡ Refused f ↔ BadLayer main start (drop start s) f
+walk-refused-exactly s o start main f = (layer-blames s o main f start, layer-bad s main start refl)
+
+-- a layer stands at a place or the octets are at fault there; never both, and with one fault only
+pub data LayerOrFault (s : List ℕ) (start main : ℕ) : Type 0 where
+  a-layer : {e w h r : ℕ} → LayerAt s start main e w h r → LayerOrFault s start main
+  a-fault : {f : Fault} → BadLayer main start (drop start s) f → LayerOrFault s start main
+
+pub layer-or-fault : (s : List ℕ) → Octets s → (start main : ℕ) → LayerOrFault s start main
+layer-or-fault s o start main = by (walkOf s start main) refl
+  where
+    by : (x : Walk) → walkOf s start main ≡ x → LayerOrFault s start main
+    by (Ends e w h r) q = a-layer (walk-exactly s o start main e w h r .0 q)
+    by (Refused f) q = a-fault (walk-refused-exactly s o start main f .0 q)
+
+pub layer-no-fault : (s : List ℕ) (start main e w h r : ℕ) (f : Fault) → LayerAt s start main e w h r → BadLayer main start (drop start s) f → ⊥
+layer-no-fault s start main e w h r f k b =
+    let z : Ends e w h r ≡ Refused f = sym (layer-ends s start main e w h r k) ∙ layer-bad s main start refl b in clash cc
+
+pub layer-fault-once : (s : List ℕ) (start main : ℕ) (f g : Fault) → BadLayer main start (drop start s) f → BadLayer main start (drop start s) g → f ≡ g
+layer-fault-once s start main f g b c = let z : Refused f ≡ Refused g = sym (layer-bad s main start refl b) ∙ layer-bad s main start refl c in cc
 
 -- ---- no layer is a proper prefix of another, and its octets determine its values
 

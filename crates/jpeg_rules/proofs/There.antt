@@ -1,6 +1,6 @@
 -- Where a layer of the grammar stands, the walk ends after it, with its size and resolution.
 -- Assumes nothing.
-use Prim.Native.Nat.{ℕ, _+_, _≤_}
+use Prim.Native.Nat.{ℕ, _+_, _≤_, _∣_}
 use native.Mathlib.Omega.{arith}
 use mathlib.Core.Path.{_≡_, refl, sym, ap, _∙_}
 use mathlib.Core.Logic.{_⊎_, inl, inr, _≢_, ⊎-elim}
@@ -12,7 +12,8 @@ use borrow.Author.Tests.{eq-eqb, ne-eqb, le-ltb}
 use Rattle.octets.specs.Octets.{be16At, octets16, begins}
 use Rattle.octets.proofs.Laws.{length-octets16}
 use Rattle.sheet_rules.specs.Judge.{listed, divides}
-use Rattle.laws.proofs.Says.{says-eq, says-le, says-and, says-true, says-else}
+use Rattle.sheet_rules.specs.Sentences.{Listed}
+use Rattle.laws.proofs.Says.{Says, says-eq, says-le, says-and, says-true, says-as, says-else}
 use Rattle.sheet_rules.proofs.New.{says-listed, says-divides}
 use Rattle.sheet_rules.proofs.Backward.{listed-nonzero}
 use Rattle.jpeg_rules.specs.declared.Class.the-variants.{Frame, Wrong, Segment}
@@ -33,6 +34,9 @@ pub length-lengthed : (c : ℕ) (body : List ℕ) → length (lengthed c body) �
 unfolding lengthed
 length-lengthed c body =
     let a = length-append (octets16 (length body + 2)) body in let b = length-octets16 (length body + 2) in omega arith
+
+pub says-resolves : (main r : ℕ) → Says (resolves main r) (Listed r × (r ∣ main))
+says-resolves main r = says-as (says-and (says-listed r) (says-divides r main)) (λ k. (k .0, k .1 .1)) (λ k. (k .0, (listed-nonzero r (k .0), k .1)))
 
 -- pieces before a marker begin with one
 headed : (P : List ℕ → Type 0) (ps : List Piece) → Each Good ps → (c : ℕ) (r : List ℕ) → stopsOf 0xFF c ≡ true
@@ -147,7 +151,7 @@ module _ (s : List ℕ) (main : ℕ) where
       (says-else (says-eq (st .res) 0))
 
   pub resolves-nonzero : (v : ℕ) → resolves main v ≡ true → v ≢ 0
-  resolves-nonzero v e = listed-nonzero v (says-and (says-listed v) (says-divides v main) .told e .0)
+  resolves-nonzero v e = listed-nonzero v (says-resolves main v .told e .0)
 
   pub tagged-long : (c : ℕ) (body : List ℕ) → tagged c body ≡ true → 10 ≤ length body
   unfolding tagged
@@ -302,8 +306,7 @@ module _ (s : List ℕ) (start main : ℕ) (l rest : List ℕ) (width height res
   res-nonzero = listed-nonzero res (y .listed)
 
   res-resolves : resolves main (resolution (y .before)) ≡ true
-  res-resolves =
-      ap (resolves main) (sym (y .tag)) ∙ says-and (says-listed res) (says-divides res main) .shown (y .listed, (res-nonzero, y .divides))
+  res-resolves = ap (resolves main) (sym (y .tag)) ∙ says-resolves main res .shown (y .listed, y .divides)
 
   w : Walk
   w = Ends (start + length l) width height res

@@ -48,7 +48,7 @@ module _ (s : List ℕ) (main : ℕ) (st : Reach) where
 
   -- a marker with a length: the body, and what stands after it
   module _ (c : ℕ) (body r : List ℕ) (e : drop (st .at) s ≡ lengthed c body ++ r) where
-    opened : drop (st .at) s ≡ 0xFF ∷ c ∷ octets16 (length body + 2) ++ (body ++ r)
+    pub opened : drop (st .at) s ≡ 0xFF ∷ c ∷ octets16 (length body + 2) ++ (body ++ r)
     unfolding lengthed
     opened = e ∙ ap (λ (l : List ℕ). 0xFF ∷ c ∷ l) (append-assoc (octets16 (length body + 2)) body r)
 
@@ -58,7 +58,7 @@ module _ (s : List ℕ) (main : ℕ) (st : Reach) where
     size-is : be16At s (st .at + 2) ≡ length body + 2
     size-is = be16-there s (body ++ r) (st .at + 2) (length body + 2) length-at
 
-    seg-is : (least : ℕ) → least ≤ length body + 2 → segOf s (st .at + 2) least ≡ Body (st .at + 2 + (length body + 2))
+    pub seg-is : (least : ℕ) → least ≤ length body + 2 → segOf s (st .at + 2) least ≡ Body (st .at + 2 + (length body + 2))
     seg-is least h = seg-there s (st .at + 2) least body r length-at h .0
 
     pub body-at : drop (st .at + 2 + 2) s ≡ body ++ r
@@ -129,7 +129,7 @@ module _ (s : List ℕ) (main : ℕ) (st : Reach) where
 
     -- ---- a segment
 
-    segment-opened : (t : Tag) → tagOf s st c (st .at + 2) ≡ t → classOf c ≡ Segment
+    pub segment-opened : (t : Tag) → tagOf s st c (st .at + 2) ≡ t → classOf c ≡ Segment
         → turnOf s main st ≡ onTag t (Go (moved st (st .at + 2 + (length body + 2)) (st .res)))
         (λ (v : ℕ). cond (resolves main v) (Go (moved st (st .at + 2 + (length body + 2)) v)) (refused (BadRes (st .at + 2 + 10))))
     unfolding markOf segmentOf

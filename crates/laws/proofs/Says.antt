@@ -57,6 +57,11 @@ pub says-else : {a : Bool} {P : Type 0} → Says a P → P ⊎ (P → ⊥)
 says-else {a = true} p = inl (p .told refl)
 says-else {a = false} p = inr (λ k. false≢true (p .shown k))
 
+-- a test whose fact does not hold is false
+pub says-fails : {a : Bool} {P : Type 0} → Says a P → (P → ⊥) → a ≡ false
+says-fails {a = true} p n = absurd (n (p .told refl))
+says-fails {a = false} p n = refl
+
 -- alternatives regrouped
 pub says-group : {a : Bool} {P Q R : Type 0} → Says a ((P ⊎ Q) ⊎ R) → Says a (P ⊎ Q ⊎ R)
 says-group {P} {Q} {R} s = says-as s to back
