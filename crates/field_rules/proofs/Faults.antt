@@ -10,7 +10,7 @@ use mathlib.Core.List.{List, [], _∷_, _++_, append-assoc}
 use lib.ListN.{length, length-append}
 use Rattle.answers.specs.declared.Answer.{Answer}
 use Rattle.laws.proofs.Cases.{clash}
-use Rattle.laws.proofs.Says.{Says}
+use Rattle.laws.proofs.Says.{Says, says-fails}
 use Rattle.field_rules.specs.Field.{Width, widths, Field, mark, val, again, bound, put, Sized}
 use Rattle.field_rules.specs.Stands.{Stands, at-end, marked, valued, held}
 use Rattle.field_rules.specs.Fault.{Broken, cut, other, wrong, late, Faulted, BadMarked, mark-cut, mark-other, BadNumbers, numbers-cut, numbers-wrong}
@@ -168,10 +168,6 @@ pub mark-broken : {m known l : List ℕ} {refusal : ℕ → Answer} {p : ℕ} {x
 mark-broken (mark-cut c) = cut c
 mark-broken (mark-other y rest z d) = other y rest z d
 
-fails : (b : Bool) {P : Type 0} → Says b P → (P → ⊥) → b ≡ false
-fails true s n = absurd (n (s .told refl))
-fails false s n = refl
-
 pub broken-numbers : {ws : List Width} {known l : List ℕ} {good : List ℕ → List ℕ → Bool} {refusal : ℕ → Answer} {p : ℕ} {x : Answer} (Good : List ℕ → Type 0)
     → ((vs : List ℕ) → Sized ws vs → Says (good known vs) (Good vs)) → Broken (val ws good refusal) known p l x → BadNumbers ws Good refusal p l x
 broken-numbers Good says (cut c) = numbers-cut c
@@ -180,7 +176,7 @@ broken-numbers Good says (wrong vs rest z g) = numbers-wrong vs rest z (λ k. fa
 pub numbers-broken : {ws : List Width} {known l : List ℕ} {good : List ℕ → List ℕ → Bool} {refusal : ℕ → Answer} {p : ℕ} {x : Answer} (Good : List ℕ → Type 0)
     → ((vs : List ℕ) → Sized ws vs → Says (good known vs) (Good vs)) → BadNumbers ws Good refusal p l x → Broken (val ws good refusal) known p l x
 numbers-broken Good says (numbers-cut c) = cut c
-numbers-broken {known = known} {good = good} Good says (numbers-wrong vs rest z n) = wrong vs rest z (fails (good known vs) (says vs z) n)
+numbers-broken Good says (numbers-wrong vs rest z n) = wrong vs rest z (says-fails (says vs z) n)
 
 pub broken-again : {back : ℕ} {good : List ℕ → Bool} {refusal : ℕ → Answer} {known l : List ℕ} {p : ℕ} {x : Answer} → Broken (again back good refusal) known p l x
     → (good known ≡ false) × (x ≡ refusal (p - back))

@@ -89,3 +89,21 @@ says-among (y ∷ ys) x = says-as (says-or (says-eq x y) (says-among ys x)) to (
     to : (x ≡ y) ⊎ List·Memᴰ x ys → List·Memᴰ x (y ∷ ys)
     to (inl e) = List·Memᴰ·head e
     to (inr m) = List·Memᴰ·tail m
+
+-- one of a list of numbers, the last of which ends it
+pub says-one : (x k : ℕ) → Says (among (k ∷ []) x) (x ≡ k)
+unfolding among
+says-one x k = says-as (says-or (says-eq x k) says-false) to inl
+  where
+    to : (x ≡ k) ⊎ ⊥ → x ≡ k
+    to (inl e) = e
+    to (inr e) = absurd e
+
+pub says-list : (x k : ℕ) (ks : List ℕ) {P : Type 0} → Says (among ks x) P → Says (among (k ∷ ks) x) ((x ≡ k) ⊎ P)
+unfolding among
+says-list x k ks p = says-or (says-eq x k) p
+
+-- if one, then the other
+pub says-if : {a b : Bool} {P Q : Type 0} → Says a P → Says b Q → Says (not a || b) (P → Q)
+says-if {a = true} {b} p q = record { told = λ e k. q .told e; shown = λ k. q .shown (k (p .told refl)) }
+says-if {a = false} {b} p q = record { told = λ e k. absurd (false≢true (p .shown k)); shown = λ k. refl }

@@ -6,7 +6,7 @@
 --   BadFields        the fields
 --   BadImage         an image layer that the type names: by the layer's own sentences
 --   BadLayers        the coded layers: the mask cut short, or an image layer
---   BadStripe        the stripe
+--   BadStripeRest    the stripe
 use Prim.Native.Nat.{ℕ, _+_, _≤_, _<_}
 use mathlib.Core.Path.{_≡_}
 use mathlib.Core.Logic.{_⊎_, _≢_}

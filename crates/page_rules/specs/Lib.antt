@@ -1,4 +1,3 @@
-pub mod Kinds
 pub mod Grammar
 pub mod Reading
-pub mod Look
+pub mod Faults

@@ -1,0 +1,3 @@
+pub mod Rules
+pub mod Tables
+pub mod Layers
