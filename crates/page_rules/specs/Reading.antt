@@ -1,6 +1,7 @@
 -- Reading a page (01, "The page, Mode 1" and "Numbers that a call returns"): the first fault in page order, or the records of its sheet.
 --
 --   dueAt            what may stand behind k stripes: before the first an optional segment or a stripe, then only a stripe, and no 65th
+--   dueWith          .. with a stripe's body of so many octets
 --   stripeReadIn     a stripe from its body on, by the mode
 --   itemOf           one turn: an optional segment or a stripe
 --   pageOf s         the whole page: its records, or the refusal
@@ -36,14 +37,17 @@ use Rattle.page_rules.specs.Grammar.{bodyIn}
 abbrev pub identOk : ℕ → ℕ → Bool
 identOk k n = eqb n 0x01 || eqb k 0 && within 0x03 0xFE n
 
--- an optional segment is passed over
-abbrev pub dueAt : Mode → ℕ → Due
-dueAt mode k =
+-- a stripe has a body of its own, an optional segment is passed over
+abbrev pub dueWith : ℕ → ℕ → Due
+dueWith size k =
     record {
       may = identOk k;
       full = λ (n : ℕ). eqb n 0x01 && eqb k 64;
-      body = λ (n : ℕ). cond (eqb n 0x01) (sized (bodyIn mode)) passed;
+      body = λ (n : ℕ). cond (eqb n 0x01) (sized size) passed;
     }
+
+abbrev pub dueAt : Mode → ℕ → Due
+dueAt mode k = dueWith (bodyIn mode) k
 
 abbrev pub stripeReadIn : Mode → Head → ℕ → ℕ → List ℕ → ℕ → Res Item
 stripeReadIn One = M1.stripeRead
