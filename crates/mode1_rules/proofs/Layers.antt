@@ -20,7 +20,7 @@ use Rattle.jpeg_rules.specs.declared.Walk.the-variants.{Ends, Refused}
 use Rattle.jpeg_rules.specs.Walk.{walkOf}
 use Rattle.jpeg_rules.proofs.There.{layer-walk}
 use Rattle.jpeg_rules.proofs.Back.{walk-layer}
-use Rattle.jpeg_rules.proofs..antt.{layer-bad}
+use Rattle.jpeg_rules.proofs.Refuses.{layer-bad}
 use Rattle.jpeg_rules.proofs.Theorems.{walk-refused-exactly}
 use Rattle.start_rules.specs.declared.Head.{Head}
 use Rattle.mode1_rules.specs.declared.Fields.{Fields}
