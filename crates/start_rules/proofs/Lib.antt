@@ -1,1 +1,4 @@
 pub mod Rules
+pub mod Start
+pub mod Faults
+pub mod Exactly

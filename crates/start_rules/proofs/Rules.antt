@@ -2,10 +2,9 @@
 -- Assumes nothing.
 use Prim.Native.Nat.{ℕ, _<_}
 use native.Mathlib.Omega.{arith}
-use mathlib.Core.Path.{_≡_}
-use mathlib.Core.Logic.{_⊎_, inl, inr, ⊎-elim}
-use mathlib.Core.List.{List, [], _∷_}
-use Rattle.laws.proofs.Says.{Says, says-eq, says-or, says-as, says-false, says-one, says-list}
+use mathlib.Core.Logic.{inl, inr}
+use mathlib.Core.List.{[], _∷_}
+use Rattle.laws.proofs.Says.{Says, says-one, says-list}
 use Rattle.segment_rules.specs.declared.Mode.{Mode}
 use Rattle.segment_rules.specs.declared.Mode.the-variants.{One}
 use Rattle.sheet_rules.specs.Sentences.{Listed}
