@@ -56,13 +56,15 @@ module _ (s : List ℕ) (n : ℕ) where
             };
       })
 
-  pub seg-bad : (least : ℕ) (f : Fault) → segOf s n least ≡ Refused f → ((p : ℕ) → f ≡ Short p → ⊥)
-      → (f ≡ BadLength n) × Hangs (n + 2) (λ (t : List ℕ). segOf t n least) s n
+  -- a length at fault, which is decided by its own two octets
+  abbrev SegBad : ℕ → Fault → Type 0
+  SegBad least f = ((p : ℕ) → f ≡ Short p → ⊥) → (f ≡ BadLength n) × Hangs (n + 2) (λ (t : List ℕ). segOf t n least) s n
+
+  pub seg-bad : (least : ℕ) (f : Fault) → segOf s n least ≡ Refused f → SegBad least f
   unfolding segOf
   seg-bad least f =
-      cond-with (λ x. x ≡ Refused f → ((p : ℕ) → f ≡ Short p → ⊥) → (f ≡ BadLength n) × Hangs (n + 2) (λ (t : List ℕ). segOf t n least) s n) (ltb (length s) (n + 2))
-      (λ t e u. absurd (u n cc)) λ f1.
-      cond-with (λ x. x ≡ Refused f → ((p : ℕ) → f ≡ Short p → ⊥) → (f ≡ BadLength n) × Hangs (n + 2) (λ (t : List ℕ). segOf t n least) s n) (ltb (be16At s n) least)
+      cond-with (λ x. x ≡ Refused f → SegBad least f) (ltb (length s) (n + 2)) (λ t e u. absurd (u n cc)) λ f1.
+      cond-with (λ x. x ≡ Refused f → SegBad least f) (ltb (be16At s n) least)
       (λ f2 e u. (
         cc,
         record {
@@ -72,8 +74,7 @@ module _ (s : List ℕ) (n : ℕ) where
               let q : be16At t n ≡ be16At s n = sym (be16-agree (n + 2) s t a n (omega arith)) in simp (f1, f2, q, le-ltb (length t) (n + 2) (a .right));
         },
       )) λ f2.
-      cond-with (λ x. x ≡ Refused f → ((p : ℕ) → f ≡ Short p → ⊥) → (f ≡ BadLength n) × Hangs (n + 2) (λ (t : List ℕ). segOf t n least) s n) (ltb (length s) (n + be16At s n))
-      (λ t e u. absurd (u (n + 2) cc)) (λ t e. clash cc)
+      cond-with (λ x. x ≡ Refused f → SegBad least f) (ltb (length s) (n + be16At s n)) (λ t e u. absurd (u (n + 2) cc)) (λ t e. clash cc)
 
 pub marker-hangs : (s : List ℕ) (at : ℕ) → (markerOf s at ≡ Cut → ⊥) → Hangs (at + 2) (λ (t : List ℕ). markerOf t at) s (at + 2)
 unfolding markerOf

@@ -164,7 +164,7 @@ module _ (s : List ℕ) (n : ℕ) where
       let a : length s - n ≡ length (octets16 (length body + 2)) + length (body ++ r) = sym (length-drop n s) ∙ ap length e ∙ length-append (octets16 (length body + 2)) (body ++ r) in
       let b = length-append body r in
       let g : n + (length body + 2) ≤ length s = omega arith in
-      (simp (w, le-ltb (length s) (n + 2) (omega arith), le-ltb (length body + 2) least h, le-ltb (length s) (n + (length body + 2)) g), d, f, g)
+      (simp (w, le-ltb (length s) (n + 2) (omega arith), le-ltb (length body + 2) least h, le-ltb (length s) (n + (length body + 2)) g) refl, d, f, g)
 
   pub record Segmented (least next : ℕ) : Type 0 where
     pub body : List ℕ

@@ -44,13 +44,13 @@ length-bad s least n e (small v r b c) =
     let l2 = length-octets16 v in
     let d = length-drop n s in
     let q = ap length e ∙ length-append (octets16 v) r in
-    simp (w, le-ltb (length s) (n + 2) (omega arith), lt-ltb v least c)
+    simp (w, le-ltb (length s) (n + 2) (omega arith), lt-ltb v least c) refl
 length-bad s least n e (cut-body v r b lo c) =
     let w = be16-there s r n v e in
     let l2 = length-octets16 v in
     let d = length-drop n s in
     let q = ap length e ∙ length-append (octets16 v) r in
-    simp (w, le-ltb (length s) (n + 2) (omega arith), le-ltb v least lo, lt-ltb (length s) (n + v) (omega arith))
+    simp (w, le-ltb (length s) (n + 2) (omega arith), le-ltb v least lo, lt-ltb (length s) (n + v) (omega arith)) refl
 
 -- ---- a marker
 
@@ -112,7 +112,8 @@ module _ (s : List ℕ) (main : ℕ) (st : Reach) (o : Bool) where
         ne-eqb (heightOf body) 0 nz,
         width-is c body r e (lo .1),
         eq-eqb (widthOf body) 0 z,
-      ))
+      )
+      refl)
   turn-bad e (bad-resolution c body r g t n) =
       let u = says-and (says-eq (st .res) 0) (says-true (tagged c body)) .told t in
       let long = tagged-long s main c body (u .1) in
@@ -224,7 +225,7 @@ module _ (s : List ℕ) (main : ℕ) where
   layer-bad at e (no-start x y r d) =
       let t = two-there s at x y r e in
       let n = says-fails (says-and (says-eq (getD s at 0) 0xFF) (says-eq (getD s (at + 1) 0) 0xD8)) (λ q. d (sym (t .1) ∙ q .0, sym (t .2) ∙ q .1)) in
-      simp (le-ltb (length s) (at + 2) (t .0), n)
+      simp (le-ltb (length s) (at + 2) (t .0), n) refl
   layer-bad at e (started l b) =
       let t = two-there s at 0xFF 0xD8 l e in
       let h = t .0 in

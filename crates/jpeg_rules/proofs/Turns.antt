@@ -169,7 +169,7 @@ module _ (s : List ℕ) (main : ℕ) (st : Reach) where
         let a = number-is 1 (st .at + 2 + 3) (let z : st .at + 2 + 2 + 1 ≡ st .at + 2 + 3 = omega arith in z) (omega arith) in
         let b = number-is 3 (st .at + 2 + 5) (let z : st .at + 2 + 2 + 3 ≡ st .at + 2 + 5 = omega arith in z) (omega arith) in
         turn-class c (octets16 (length body + 2) ++ (body ++ r)) Frame opened k
-        ∙ simp (f, ne-eqb (st .res) 0 d, seg-is 8 l, a, b, ne-eqb (be16At body 1) 0 h, ne-eqb (be16At body 3) 0 w)
+        ∙ simp (f, ne-eqb (st .res) 0 d, seg-is 8 l, a, b, ne-eqb (be16At body 1) 0 h, ne-eqb (be16At body 3) 0 w) refl
 
 -- ---- a scan, with its data and the marker after it
 

@@ -107,12 +107,13 @@ pub data BadLength (least n : ℕ) : List ℕ → Fault → Type 0 where
   small : (v : ℕ) (r : List ℕ) → v < 65536 → v < least → BadLength least n (octets16 v ++ r) (Fault.BadLength n)
   cut-body : (v : ℕ) (r : List ℕ) → v < 65536 → least ≤ v → length r + 2 < v → BadLength least n (octets16 v ++ r) (Fault.Short (n + 2))
 
--- the marker is due at p
+-- the marker is due at p: its length stands at p + 2, its body at p + 4. Its own rule comes before its length, the length before a body that passes
+-- the end, and that before what stands in the body
 pub data BadMarker (main : ℕ) (k : Known) (p : ℕ) : List ℕ → Fault → Type 0 where
   -- a marker is exactly one FF and a code
   cut : {l : List ℕ} → length l < 2 → BadMarker main k p l (Fault.Short p)
   no-marker : (x y : ℕ) (r : List ℕ) → x ≢ 0xFF → BadMarker main k p (x ∷ y ∷ r) (Fault.BadLayer p)
-  -- a code that is a fault outside a scan, or anywhere
+  -- D0 to D7 and a second D8, 00, FF and 02 to BF
   wrong-code : (c : ℕ) (r : List ℕ) → classOf c ≡ Wrong → BadMarker main k p (0xFF ∷ c ∷ r) (Fault.BadLayer p)
   -- exactly one frame; a missing frame, scan or resolution is faulted at the marker where it was due
   second-frame : (c : ℕ) (r : List ℕ) → classOf c ≡ Frame → k .framed ≡ true → BadMarker main k p (0xFF ∷ c ∷ r) (Fault.BadLayer p)
@@ -121,12 +122,12 @@ pub data BadMarker (main : ℕ) (k : Known) (p : ℕ) : List ℕ → Fault → T
   no-scan : (c : ℕ) (r : List ℕ) → classOf c ≡ End → k .scanned ≡ false → BadMarker main k p (0xFF ∷ c ∷ r) (Fault.BadLayer p)
   -- the length, or a body that passes the end
   bad-length : {f : Fault} (c least : ℕ) (r : List ℕ) → Least k c least → BadLength least (p + 2) r f → BadMarker main k p (0xFF ∷ c ∷ r) f
-  -- a frame's height stands before its width; neither is 0
+  -- a frame's height, at p + 5, and then its width, at p + 7, are not 0
   no-height : (c : ℕ) (body r : List ℕ) → FrameDue k c → FrameLong body → heightOf body ≡ 0
       → BadMarker main k p (lengthed c body ++ r) (Fault.BadLayer (p + 5))
   no-width : (c : ℕ) (body r : List ℕ) → FrameDue k c → FrameLong body → heightOf body ≢ 0 → widthOf body ≡ 0
       → BadMarker main k p (lengthed c body ++ r) (Fault.BadLayer (p + 7))
-  -- a layer's resolution that is not listed or no divisor
+  -- a resolution, at p + 12, that is not listed or no divisor
   bad-resolution : (c : ℕ) (body r : List ℕ) → Good (segment c body) → gives k c body ≡ true → (Resolves main (resOf body) → ⊥)
       → BadMarker main k p (lengthed c body ++ r) (Fault.BadRes (p + 12))
   -- scan data with no next marker, at its first octet
