@@ -9,9 +9,10 @@ use mathlib.Core.Bool.{Bool, true, false, false≢true}
 use mathlib.Core.List.{List, [], _∷_, _++_, append-assoc}
 use lib.ListN.{length, length-append}
 use Rattle.answers.specs.declared.Answer.{Answer}
+use Rattle.answers.specs.declared.Answer.the-variants.{Short}
 use Rattle.laws.proofs.Cases.{clash}
 use Rattle.laws.proofs.Says.{Says, says-fails}
-use Rattle.field_rules.specs.Field.{Width, widths, Field, mark, val, again, bound, put, Sized}
+use Rattle.field_rules.specs.Field.{Width, widths, Field, mark, val, again, bound, put, Sized, any}
 use Rattle.field_rules.specs.Stands.{Stands, at-end, marked, valued, held}
 use Rattle.field_rules.specs.Fault.{Broken, cut, other, wrong, late, Faulted, BadMarked, mark-cut, mark-other, BadNumbers, numbers-cut, numbers-wrong}
 use Rattle.field_rules.proofs.Laws.{length-put, end-apart, mark-apart, val-apart, again-apart, sized-one, sized-more}
@@ -136,13 +137,38 @@ fault-val P {ws} {good} {refusal} {before = before} {at = at} {x = x} f here the
     let k = length-put ws vs z in
     subst P (sym (append-assoc (put ws vs) o rest)) (there vs (o ++ rest) z g (others at early later bad known (before ++ vs) (put ws vs) o rest (at + widths ws) t st1 (omega arith) b1))) b
 
--- a field of one number, and of four
+-- a field of one number, of two, three and four
 pub fault-one : (P : List ℕ → Type 0) {w : Width} {good : List ℕ → List ℕ → Bool} {refusal : ℕ → Answer} {table : List Field} {before l : List ℕ} {at : ℕ} {x : Answer}
     → Faulted (val (w ∷ []) good refusal ∷ table) before at l x → (Broken (val (w ∷ []) good refusal) before at l x → P l)
     → ((v : ℕ) (more : List ℕ) → v < bound w → good before (v ∷ []) ≡ true → Faulted table (before ++ (v ∷ [])) (at + widths (w ∷ [])) more x → P (put (w ∷ []) (v ∷ []) ++ more)) → P l
 fault-one P {w} {good} {table = table} {before = before} {at = at} {x = x} f here there =
     fault-val P f here λ vs more z.
     sized-one (λ (us : List ℕ). good before us ≡ true → Faulted table (before ++ us) (at + widths (w ∷ [])) more x → P (put (w ∷ []) us ++ more)) w vs z λ v b. there v more b
+
+pub fault-two : (P : List ℕ → Type 0) {a b : Width} {good : List ℕ → List ℕ → Bool} {refusal : ℕ → Answer} {table : List Field} {before l : List ℕ} {at : ℕ} {x : Answer}
+    → Faulted (val (a ∷ b ∷ []) good refusal ∷ table) before at l x → (Broken (val (a ∷ b ∷ []) good refusal) before at l x → P l)
+    → ((y z : ℕ) (more : List ℕ) → y < bound a → z < bound b → good before (y ∷ z ∷ []) ≡ true
+    → Faulted table (before ++ (y ∷ z ∷ [])) (at + widths (a ∷ b ∷ [])) more x → P (put (a ∷ b ∷ []) (y ∷ z ∷ []) ++ more)) → P l
+fault-two P {a} {b} {good} {table = table} {before = before} {at = at} {x = x} f here there =
+    fault-val P f here λ vs more z0.
+    sized-more (Q more) a (b ∷ []) vs z0 λ y us by z1.
+    sized-one (λ (us : List ℕ). Q more (y ∷ us)) b us z1 λ z bz. there y z more by bz
+  where
+    Q : List ℕ → List ℕ → Type 0
+    Q more us = good before us ≡ true → Faulted table (before ++ us) (at + widths (a ∷ b ∷ [])) more x → P (put (a ∷ b ∷ []) us ++ more)
+
+pub fault-three : (P : List ℕ → Type 0) {a b c : Width} {good : List ℕ → List ℕ → Bool} {refusal : ℕ → Answer} {table : List Field} {before l : List ℕ} {at : ℕ} {x : Answer}
+    → Faulted (val (a ∷ b ∷ c ∷ []) good refusal ∷ table) before at l x → (Broken (val (a ∷ b ∷ c ∷ []) good refusal) before at l x → P l)
+    → ((y z w : ℕ) (more : List ℕ) → y < bound a → z < bound b → w < bound c → good before (y ∷ z ∷ w ∷ []) ≡ true
+    → Faulted table (before ++ (y ∷ z ∷ w ∷ [])) (at + widths (a ∷ b ∷ c ∷ [])) more x → P (put (a ∷ b ∷ c ∷ []) (y ∷ z ∷ w ∷ []) ++ more)) → P l
+fault-three P {a} {b} {c} {good} {table = table} {before = before} {at = at} {x = x} f here there =
+    fault-val P f here λ vs more z0.
+    sized-more (Q more) a (b ∷ c ∷ []) vs z0 λ y us by z1.
+    sized-more (λ (us : List ℕ). Q more (y ∷ us)) b (c ∷ []) us z1 λ z ws bz z2.
+    sized-one (λ (us : List ℕ). Q more (y ∷ z ∷ us)) c ws z2 λ w bw. there y z w more by bz bw
+  where
+    Q : List ℕ → List ℕ → Type 0
+    Q more us = good before us ≡ true → Faulted table (before ++ us) (at + widths (a ∷ b ∷ c ∷ [])) more x → P (put (a ∷ b ∷ c ∷ []) us ++ more)
 
 pub fault-four : (P : List ℕ → Type 0) {a b c d : Width} {good : List ℕ → List ℕ → Bool} {refusal : ℕ → Answer} {table : List Field} {before l : List ℕ} {at : ℕ} {x : Answer}
     → Faulted (val (a ∷ b ∷ c ∷ d ∷ []) good refusal ∷ table) before at l x → (Broken (val (a ∷ b ∷ c ∷ d ∷ []) good refusal) before at l x → P l)
@@ -182,3 +208,8 @@ pub broken-again : {back : ℕ} {good : List ℕ → Bool} {refusal : ℕ → An
     → (good known ≡ false) × (x ≡ refusal (p - back))
 broken-again (cut c) = absurd (omega arith)
 broken-again (late g) = (g, refl)
+
+-- a field without a rule can only be cut short
+pub broken-any : {ws : List Width} {known l : List ℕ} {refusal : ℕ → Answer} {p : ℕ} {x : Answer} → Broken (val ws any refusal) known p l x → (length l < widths ws) × (x ≡ Short p)
+broken-any (cut c) = (c, refl)
+broken-any (wrong vs rest z g) = absurd (false≢true (sym g))

@@ -1,3 +1,5 @@
 pub mod Rules
 pub mod Tables
 pub mod Layers
+pub mod FieldFaults
+pub mod Stripe
