@@ -3,3 +3,7 @@ pub mod Tables
 pub mod Layers
 pub mod FieldFaults
 pub mod Stripe
+pub mod Named
+pub mod Parts
+pub mod Accepted
+pub mod Coded

@@ -4,7 +4,7 @@ use Prim.Native.Nat.{ℕ, zero, suc, _+_, _≤_, _<_}
 use native.Mathlib.Omega.{arith}
 use native.Mathlib.Nat.{add-zero}
 use mathlib.Core.Path.{_≡_, refl, sym, ap, ap₂, subst, _∙_}
-use mathlib.Core.Logic.{_↔_, _≢_}
+use mathlib.Core.Logic.{_≢_}
 use mathlib.Core.List.{List, [], _∷_, _++_, append-assoc, append-nil}
 use lib.ListN.{length, drop, length-append, length-drop, replicate, length-replicate}
 use lib.Dec.{eqb}
@@ -179,6 +179,11 @@ exact-body hd s at p g =
     body-exact (Optional (hd .rules .version)) (Stripe hd) (itemOf hd) (BadItem hd) (λ k left t e h low few. item-exact hd k left t e h low few) (item-opens hd)
     (length s) 0 65535 [] s at (omega arith) g (omega arith) (omega arith)
 
+-- a body that was read behind a start ends within the page
+pub body-inside : (hd : Head) (s : List ℕ) → Octets s → (at : ℕ) (rs : List Record) (m : ℕ) {f : List ℕ} → Start f hd → at ≡ 0 + length f → at ≤ length s
+    → bodyFrom (itemOf hd) (length s) 0 65535 [] s at ≡ ok rs m → m ≤ length s
+body-inside hd s o at rs m {f} z e h q = let p = start-some f hd z in exact-body hd s at (omega arith) h .back o rs m q .inside
+
 exact-page : (s : List ℕ) → Exact (pageOf s) (Both Start (Inner (length s)) 0) (BadThen Start BadStart BadInner 0) s 0
 unfolding pageOf
 exact-page s =
@@ -339,8 +344,8 @@ from-bad s x (trailing f m r hd rs n y st b d) =
     (bad-later m (endMark ++ (replicate n 0 ++ (y ∷ r))) rs (subst (λ (j : ℕ). Behind hd j m rs) z (from-body hd (length f) m rs b))
     (bad-later endMark (replicate n 0 ++ (y ∷ r)) [] ends (subst (NoZeros (0 + length f + length m + 2) (replicate n 0 ++ (y ∷ r))) (ap Trailing v) (no-zero n y r d))))
 
-pub page-refused-exactly : (s : List ℕ) → Octets s → (x : Answer) → pageOf s ≡ no x ↔ BadPage s x
-page-refused-exactly s o x = (λ e. to-bad s x (exact-page s .refused o x e), λ b. exact-page s .refuses x (from-bad s x b))
+pub page-blamed : (s : List ℕ) → Octets s → (x : Answer) → pageOf s ≡ no x → BadPage s x
+page-blamed s o x e = to-bad s x (exact-page s .refused o x e)
 
 pub page-bad : (s : List ℕ) (x : Answer) → BadPage s x → pageOf s ≡ no x
 page-bad s x b = exact-page s .refuses x (from-bad s x b)
