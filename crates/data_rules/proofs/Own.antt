@@ -16,17 +16,21 @@ use Rattle.sheet_rules.specs.declared.Record.{Record}
 use Rattle.sheet_rules.specs.Record.{recordSize, records, nth}
 use Rattle.sheet_rules.specs.Sentences.{Among, Coded, Uncoded}
 use Rattle.sheet_rules.proofs.Among.{nth-among}
-use Rattle.page_rules.specs.declared.Head.{Head}
-use Rattle.page_rules.specs.Kinds.{maskRecord}
-use Rattle.page_rules.specs.Grammar.{Stripe, Stripes, last, next, Page}
+use Rattle.segment_rules.specs.declared.Mode.{Mode}
+use Rattle.segment_rules.specs.declared.Mode.the-variants.{One}
+use Rattle.start_rules.specs.declared.Head.{Head}
+use Rattle.body_rules.specs.Body.{last, next}
+use Rattle.body_rules.proofs.Accepted.{stripes-onward}
+use Rattle.mode1_rules.specs.Kinds.{maskRecord}
+use Rattle.mode1_rules.proofs.Parts.{image-place, stripe-each, back-octets, mask-octets, fore-octets}
+use Rattle.page_rules.specs.Grammar.{StripeIn, Stripe, Stripes, Page}
 use Rattle.page_rules.specs.Reading.{readOf, readInto}
-use Rattle.page_rules.proofs.Parts.{image-place, stripe-each, back-octets, mask-octets, fore-octets, stripes-onward, closing, page-stripes, page-within}
-use Rattle.page_rules.proofs.Named.{page-named}
+use Rattle.page_rules.proofs.Parts.{at-body, closing, page-stripes, page-within, page-named}
 use Rattle.page_rules.proofs.Into.{Front, into-front}
 use Rattle.data_rules.specs.Data.{dataOf, partOf}
 use Rattle.data_rules.specs.Sentences.{LayerAt, handed}
 use Rattle.sheet_rules.specs.Sentences.{Accepted}
-use Rattle.data_rules.specs.Own.{layerIn, layersIn}
+use Rattle.data_rules.specs.Own.{layerOf, layerIn, layersIn}
 use Rattle.data_rules.proofs.Exactly.{data-exactly}
 use Rattle.data_rules.proofs.Handed.{part-handed}
 use Rattle.data_rules.proofs.Layer.{layer-once}
@@ -36,19 +40,26 @@ use Rattle.data_rules.proofs.Layer.{layer-once}
 abbrev Own : List ℕ → Record → (ℕ → List ℕ) → Type 0
 Own s r o = (r .layer ≤ 3) × (take (r .len) (drop (r .start) s) ≡ o (r .layer))
 
-stripe-own : {hd : Head} {k left at : ℕ} {o : List ℕ} {height : ℕ} {rs : List Record} (z : Stripe hd k left at o height rs) (s tail : List ℕ) → drop at s ≡ o ++ tail
-    → (r : Record) → Among r rs → (r .stripe ≡ k) × Own s r (layerIn z)
-unfolding layerIn maskRecord
-stripe-own {hd} {k} z s tail e =
+rest-own : (m : Mode) (hd : Head) (k left at : ℕ) (o : List ℕ) (height : ℕ) (rs : List Record) (z : StripeIn m hd k left at o height rs) (s tail : List ℕ) → drop at s ≡ o ++ tail
+    → (r : Record) → Among r rs → (r .stripe ≡ k) × Own s r (layerOf m hd k left at o height rs z)
+unfolding layerOf maskRecord
+rest-own One hd k left at o height rs z s tail e =
     let f = z .fields in
     let one = image-place hd k 1 (f .back) (f .backX) (f .backY) (z .backIs) in
     let three = image-place hd k 3 (f .fore) (f .foreX) (f .foreY) (z .foreIs) in
     let l1 = one .1 in
     let l3 = three .1 in
-    stripe-each z (λ (x : Record). (x .stripe ≡ k) × Own s x (layerIn z))
-    (one .0, (omega arith, back-octets z s tail e ∙ ap (layerIn z) (sym l1)))
+    let layer : ℕ → List ℕ = layerOf One hd k left at o height rs z in
+    stripe-each z (λ (x : Record). (x .stripe ≡ k) × Own s x layer)
+    (one .0, (omega arith, back-octets z s tail e ∙ ap layer (sym l1)))
     (refl, (lit≤ tt, mask-octets z s tail e))
-    (three .0, (omega arith, fore-octets z s tail e ∙ ap (layerIn z) (sym l3)))
+    (three .0, (omega arith, fore-octets z s tail e ∙ ap layer (sym l3)))
+
+stripe-own : {hd : Head} {k left at : ℕ} {o : List ℕ} {height : ℕ} {rs : List Record} (z : Stripe hd k left at o height rs) (s tail : List ℕ) → drop at s ≡ o ++ tail
+    → (r : Record) → Among r rs → (r .stripe ≡ k) × Own s r (layerIn z)
+unfolding layerIn
+stripe-own {hd} {k} {left} {at} {o} {height} {rs} z s tail e =
+    rest-own (hd .rules .mode) hd k left (at + length (z .begin)) (z .rest) height rs (z .behind) s tail (at-body z s tail e)
 
 stripes-own : {hd : Head} {k left at : ℕ} {o : List ℕ} {rs : List Record} (y : Stripes hd k left at o rs) (s tail : List ℕ) → drop at s ≡ o ++ tail → at ≤ length s
     → (r : Record) → Among r rs → (k ≤ r .stripe) × Own s r (layersIn y (r .stripe))

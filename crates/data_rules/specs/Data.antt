@@ -3,7 +3,7 @@
 -- (proofs/Handed.antt) tie these steps to it.
 -- s is the sheet, k the stripe and l the layer that are asked for.
 --
---   sourceOf l                   what holds the coded data of a layer of that number
+--   sourceIn mode l              what holds the coded data of a layer of that number, by the mode; sourceOf l: in Mode 1, which the call is for
 --   sourceNumber x               its number, as the viewer is given it: 0 the page, 1 the pencil file
 --   octetsIn page pencil x       its octets
 --   emptyPart                    the part of no octets
@@ -32,6 +32,8 @@ use Rattle.sheet_rules.specs.declared.Verdict.the-variants.{Good}
 use Rattle.sheet_rules.specs.Record.{recordAt}
 use Rattle.sheet_rules.specs.Judge.{coded, judgeOf, answerOf}
 use Rattle.sheet_rules.specs.StripeTable.{findStripe, findLayer}
+use Rattle.segment_rules.specs.declared.Mode.{Mode}
+use Rattle.segment_rules.specs.declared.Mode.the-variants.{One}
 use Rattle.data_rules.specs.declared.Source.{Source}
 use Rattle.data_rules.specs.declared.Source.the-variants.{Page, Pencil}
 use Rattle.data_rules.specs.declared.Part.{Part}
@@ -40,9 +42,13 @@ use Rattle.data_rules.specs.declared.Found.the-variants.{Lies}
 
 -- ---- the source
 
--- layers 1 to 3 have their coded data in the page, higher ones in the pencil file
+-- in Mode 1 layers 1 to 3 have their coded data in the page, higher ones in the pencil file
+unfoldable pub sourceIn : Mode → ℕ → Source
+sourceIn One l = cond (leb l 3) Page Pencil
+
 unfoldable pub sourceOf : ℕ → Source
-sourceOf l = cond (leb l 3) Page Pencil
+unfolding sourceIn
+sourceOf l = sourceIn One l
 
 unfoldable pub sourceNumber : Source → ℕ
 sourceNumber Page = 0
