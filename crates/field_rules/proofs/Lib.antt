@@ -6,3 +6,4 @@ pub mod Values
 pub mod Tables
 pub mod Parts
 pub mod Faults
+pub mod Looked
