@@ -128,6 +128,23 @@ module _ (s : List ℕ) where
           let f = first (λ p z. w p cc) in
           looked-then r (λ (b : Res A) (t : List ℕ). bind b (λ y m. go y m t)) (no a) l l at e (f .hangs) (looked-no a l l (omega arith) (f .hangs .inside) (f .near a e))
 
+  -- a step whose value is said in other words
+  pub looked-map : {A B : Type 0} (r : List ℕ → Res A) (f : A → B) (l at : ℕ) → (Whole (r s) → Looked l r s at) → Whole (bind (r s) (λ x n. ok (f x) n))
+      → Looked l (λ (t : List ℕ). bind (r t) (λ x n. ok (f x) n)) s at
+  unfolding bind
+  looked-map {A} {B} r f l at first = by (r s) refl
+    where
+      by : (b : Res A) → r s ≡ b → Whole (bind b (λ x n. ok (f x) n)) → Looked l (λ (t : List ℕ). bind (r t) (λ x n. ok (f x) n)) s at
+      by (ok x n) e w =
+          let k = first (λ p z. clash cc) in
+          let i = k .ends x n e in
+          let h = k .hangs .inside in
+          looked-then r (λ (b : Res A) (t : List ℕ). bind b (λ y m. ok (f y) m)) (ok x n) l l at e (k .hangs)
+          (subst (λ (j : ℕ). Looked j (λ (t : List ℕ). ok (f x) n) s j) (sym i) (looked-ok (f x) n (omega arith)))
+      by (no a) e w =
+          let k = first (λ p z. w p cc) in
+          looked-then r (λ (b : Res A) (t : List ℕ). bind b (λ y m. ok (f y) m)) (no a) l l at e (k .hangs) (looked-no a l l (omega arith) (k .hangs .inside) (k .near a e))
+
   -- ---- the steps
 
   pub looked-span : (at n : ℕ) → Whole (spanOf s at n) → Looked (at + n) (λ (t : List ℕ). spanOf t at n) s at
