@@ -3,3 +3,4 @@ pub mod Tables
 pub mod Layers
 pub mod FieldFaults
 pub mod Stripe
+pub mod Look

@@ -2,3 +2,4 @@ pub mod Rules
 pub mod Start
 pub mod Faults
 pub mod Exactly
+pub mod Look
