@@ -1,2 +1,4 @@
 pub mod Items
 pub mod Exactly
+pub mod Look
+pub mod Decided

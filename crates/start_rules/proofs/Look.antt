@@ -3,15 +3,15 @@
 -- Assumes nothing.
 use Prim.Native.Nat.{ℕ, _+_, _-_, _≤_, _<_}
 use native.Mathlib.Omega.{arith}
-use mathlib.Core.Path.{_≡_, refl, subst}
-use mathlib.Core.List.{List, []}
+use mathlib.Core.Path.{_≡_, refl, ap, subst}
+use mathlib.Core.List.{List, [], _∷_}
 use lib.ListN.{length}
 use lib.Dec.{lit≤}
 use Rattle.answers.specs.declared.Answer.the-variants.{BadMark, BadLength, BadVersion, BadMode, BadCoder, BadRes, BadWidth}
 use Rattle.answers.specs.Answers.{placeOf}
-use Rattle.field_rules.specs.Field.{widths, fields, reach}
+use Rattle.field_rules.specs.Field.{Res, ok, bind, widths, fields, reach}
 use Rattle.field_rules.proofs.Hangs.{Whole}
-use Rattle.field_rules.proofs.Looks.{Looks}
+use Rattle.field_rules.proofs.Looks.{Looks, reach-mark}
 use Rattle.field_rules.proofs.Looked.{beyond, Near, near, near-length, _&_, Looked, looked-map, looked-fields}
 use Rattle.start_rules.specs.Reading.{startTable, headFrom, startRead}
 
@@ -45,3 +45,8 @@ pub start-looked : (s : List ℕ) (at : ℕ) → at ≤ length s → Whole (star
 unfolding startRead startLook
 start-looked s at h =
     looked-map s (λ (t : List ℕ). fields startTable [] t at) headFrom (reach startTable [] s at) at (looked-fields s startTable at h (start-near at))
+
+-- it begins with the two octets of a mark
+pub start-far : (s : List ℕ) (at : ℕ) → Whole (startRead s at) → at + 2 ≤ startLook s at
+unfolding startRead startLook startTable bind
+start-far s at w = reach-mark (0xFF ∷ 0xD8 ∷ []) BadMark _ [] s at (λ p z. w p (ap (λ (r : Res (List ℕ)). bind r (λ (vs : List ℕ) (n : ℕ). ok (headFrom vs) n)) z))
