@@ -16,7 +16,7 @@ use Rattle.octets.specs.Octets.{Octets}
 use Rattle.laws.proofs.Cases.{clash}
 use Rattle.answers.specs.declared.Answer.the-variants.{Short, BadLength, BadRes, BadType, BadStripe, BadLayer}
 use Rattle.answers.specs.Answers.{placeOf}
-use Rattle.field_rules.specs.Field.{Res, ok, no, bind, widths, fields, reach}
+use Rattle.field_rules.specs.Field.{ok, bind, widths, fields, reach}
 use Rattle.field_rules.specs.Part.{spanOf}
 use Rattle.field_rules.proofs.Hangs.{Whole}
 use Rattle.field_rules.proofs.Looks.{Looks}
@@ -31,7 +31,7 @@ use Rattle.jpeg_rules.specs.Look.{walkLook, walkBeyond}
 use Rattle.jpeg_rules.proofs.Within.{placeOf as placeOfFault}
 use Rattle.jpeg_rules.proofs.Hangs as J
 use Rattle.start_rules.specs.declared.Head.{Head}
-use Rattle.body_rules.specs.Body.{Item, striped}
+use Rattle.body_rules.specs.Body.{striped}
 use Rattle.mode1_rules.specs.declared.Fields.{Fields}
 use Rattle.mode1_rules.specs.declared.LayerData.{LayerData}
 use Rattle.mode1_rules.specs.declared.LayerData.the-variants.{There, Absent}

@@ -1,11 +1,10 @@
 -- A refusal of a page is decided by the octets up to where reading looked: a page that agrees so far with one that is refused, and not Short,
 -- gets the same refusal.
 -- Assumes nothing.
-use Prim.Native.Nat.{ℕ, suc, _+_, _≤_, _<_}
+use Prim.Native.Nat.{ℕ}
 use native.Mathlib.Omega.{arith}
-use mathlib.Core.Path.{_≡_, refl, sym, ap, subst, _∙_}
-use mathlib.Core.Bool.{Bool}
-use mathlib.Core.List.{List, [], _∷_}
+use mathlib.Core.Path.{_≡_, refl, sym, ap, _∙_}
+use mathlib.Core.List.{List, []}
 use lib.ListN.{length}
 use lib.Dec.{lit≤}
 use Rattle.octets.specs.Octets.{Octets}
@@ -14,12 +13,12 @@ use Rattle.answers.specs.declared.Answer.{Answer}
 use Rattle.answers.specs.declared.Answer.the-variants.{Short, BadMark}
 use Rattle.answers.specs.Answers.{placeOf}
 use Rattle.sheet_rules.specs.declared.Record.{Record}
-use Rattle.field_rules.specs.Field.{Res, ok, no, bind, fields, reach}
+use Rattle.field_rules.specs.Field.{Res, no, bind, fields, reach}
 use Rattle.field_rules.proofs.Hangs.{Whole}
 use Rattle.field_rules.proofs.Looks.{Looks}
 use Rattle.field_rules.proofs.Looked.{beyond, Near, near, _&_, Looked, looked-bind, looked-fields}
 use Rattle.start_rules.specs.declared.Head.{Head}
-use Rattle.start_rules.specs.Reading.{startRead, startTable}
+use Rattle.start_rules.specs.Reading.{startRead}
 use Rattle.start_rules.proofs.Look.{startLook, start-looked, start-far}
 use Rattle.body_rules.specs.Body.{bodyFrom}
 use Rattle.body_rules.proofs.Look.{bodyLook, body-looked}

@@ -120,8 +120,8 @@ zeros-told a [] at e = clash cc
 zeros-told a (x ∷ l) at e =
     ⊎-elim
     (λ (z : eqb x 0 ≡ true).
-    let f : zerosOf (x ∷ l) at ≡ zerosOf l (suc at) = simp z in
-    let q : zerosLook (x ∷ l) at ≡ zerosLook l (suc at) = simp z in
+    let f : zerosOf (x ∷ l) at ≡ zerosOf l (suc at) = simp z refl in
+    let q : zerosLook (x ∷ l) at ≡ zerosLook l (suc at) = simp z refl in
     let k = zeros-told a l (suc at) (sym f ∙ e) in
     let ka = k .ahead in
     let ki = k .inside in
@@ -132,8 +132,8 @@ zeros-told a (x ∷ l) at e =
       same = λ m h g. longer z m q k h g;
     })
     (λ (z : eqb x 0 ≡ false).
-    let f : zerosOf (x ∷ l) at ≡ no (Trailing at) = simp z in
-    let q : zerosLook (x ∷ l) at ≡ at + 1 = simp z in
+    let f : zerosOf (x ∷ l) at ≡ no (Trailing at) = simp z refl in
+    let q : zerosLook (x ∷ l) at ≡ at + 1 = simp z refl in
     let b : Trailing at ≡ a = cc in
     record {
       ahead = omega arith;

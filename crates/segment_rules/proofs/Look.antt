@@ -6,20 +6,19 @@
 -- Assumes nothing.
 use Prim.Native.Nat.{ℕ, _+_, _-_, _≤_, _<_}
 use native.Mathlib.Omega.{arith}
-use mathlib.Core.Path.{_≡_, refl, sym, subst}
-use mathlib.Core.Bool.{Bool}
+use mathlib.Core.Path.{_≡_, refl, subst}
 use mathlib.Core.List.{List, [], _∷_}
 use lib.ListN.{length}
 use lib.Dec.{eqb, lit≤}
 use Rattle.laws.proofs.Cases.{cond-with}
-use Rattle.answers.specs.declared.Answer.the-variants.{BadMark, BadLength, BadStripe}
+use Rattle.answers.specs.declared.Answer.the-variants.{BadMark, BadLength}
 use Rattle.answers.specs.Answers.{placeOf}
 use Rattle.field_rules.specs.Field.{Res, ok, no, bind, widths, fields, reach}
 use Rattle.field_rules.specs.Part.{spanOf}
 use Rattle.field_rules.proofs.Hangs.{Whole}
 use Rattle.field_rules.proofs.Looks.{Looks, reach-mark}
 use Rattle.field_rules.proofs.Refused.{rowsSize, fields-end}
-use Rattle.field_rules.proofs.Looked.{onward, beyond, Near, near, near-length, _&_, Looked, looked-ok, looked-no, looked-from, looked-if, looked-bind, looked-map, looked-span, looked-fields}
+use Rattle.field_rules.proofs.Looked.{onward, beyond, Near, near, near-length, _&_, Looked, looked-ok, looked-no, looked-bind, looked-map, looked-span, looked-fields}
 use Rattle.segment_rules.specs.declared.Version.{Version}
 use Rattle.segment_rules.specs.Segment.{Need, passed, sized, Due, sizeIn, identIn, openTable, behindOf, segmentOf}
 

@@ -1,7 +1,7 @@
 -- Reading the start of page depends on the octets up to where it looked: to the end of the field at fault, and its length is judged at the end of the
 -- ident.
 -- Assumes nothing.
-use Prim.Native.Nat.{ℕ, _+_, _-_, _≤_, _<_}
+use Prim.Native.Nat.{ℕ, _+_, _-_, _≤_}
 use native.Mathlib.Omega.{arith}
 use mathlib.Core.Path.{_≡_, refl, ap, subst}
 use mathlib.Core.List.{List, [], _∷_}
