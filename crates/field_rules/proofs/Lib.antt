@@ -7,3 +7,4 @@ pub mod Tables
 pub mod Parts
 pub mod Faults
 pub mod Named
+pub mod Looked

@@ -9,38 +9,15 @@ use mathlib.Core.List.{List, [], _∷_, _++_}
 use lib.ListN.{length, replicate}
 use lib.Dec.{lit<, lit≤}
 use Rattle.sheet_rules.specs.declared.Record.{Record}
-use Rattle.segment_rules.specs.Rules.{mode1}
 use Rattle.segment_rules.specs.Segment.{beginOf, short}
-use Rattle.start_rules.specs.declared.Head.{Head}
 use Rattle.start_rules.specs.Grammar.{startOf, GoodHead}
 use Rattle.body_rules.specs.Body.{no-more, last, next}
-use Rattle.mode1_rules.specs.declared.Fields.{Fields}
 use Rattle.mode1_rules.specs.declared.LayerData.the-variants.{Absent}
 use Rattle.mode1_rules.specs.Kinds.{stripeBody}
 use Rattle.mode1_rules.specs.Grammar as M1
 use Rattle.mode1_rules.specs.Grammar.{fieldsOf, absent, recordsOf}
 use Rattle.page_rules.specs.Grammar.{Stripe, Stripes, Page}
-
--- four by two at 200: only a mask, by coder 4, of five octets; white and black around it
-abbrev pub head : Head
-head = record { rules = mode1; mask = 4; image = 0; main = 200; width = 4 }
-
-abbrev pub stripe : Fields
-stripe =
-    record {
-      kind = 2;
-      back = record { c0 = 0xFF; c1 = 0x80; c2 = 0x60 };
-      fore = record { c0 = 0x00; c1 = 0x80; c2 = 0x60 };
-      backX = 0;
-      backY = 0;
-      foreX = 0;
-      foreY = 0;
-      height = 2;
-      maskLength = 5;
-    }
-
-abbrev pub coded-mask : List ℕ
-coded-mask = 1 ∷ 2 ∷ 3 ∷ 4 ∷ 5 ∷ []
+use Rattle.page_rules.proofs.Samples.{head, stripe, coded-mask}
 
 -- its segment, and its body with its coded layers
 abbrev pub begins : List ℕ
