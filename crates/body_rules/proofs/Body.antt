@@ -17,7 +17,7 @@ use Rattle.sheet_rules.specs.declared.Record.{Record}
 use Rattle.field_rules.specs.Field.{Res, ok, no}
 use Rattle.field_rules.specs.Part.{Exact, Both, BadThen, bad-first, bad-later, Apart, Due, due-mark, due-else, BadDue, bad-cut, bad-mark, bad-else}
 use Rattle.field_rules.proofs.Parts.{exact-as, exact-then, exact-ok, exact-no, exact-due, apart-more, apart-length, Nothing, nothing}
-use Rattle.body_rules.specs.Body.{endMark, Item, skipped, striped, IsItem, an-optional, a-stripe, Optionals, no-more, one-more, Stripes, last, next, Body, BadBody, cut, no-stripe, bad-item, behind-optional, behind-stripe, onItem, bodyFrom}
+use Rattle.body_rules.specs.Body.{endMark, Item, skipped, striped, IsItem, an-optional, a-stripe, Optionals, no-more, one-more, Stripes, last, next, Body, BadBody, cut, no-stripe, bad-item, behind-optional, behind-stripe, onItem, laid, bodyFrom}
 
 module _ (Optional : List ℕ → Type 0) (Stripe : ℕ → ℕ → ℕ → List ℕ → ℕ → List Record → Type 0) where
   -- ---- the body turn by turn
@@ -199,13 +199,13 @@ module _ (Optional : List ℕ → Type 0) (Stripe : ℕ → ℕ → ℕ → List
 
     after-item : (fuel k left : ℕ) (acc : List Record) (s : List ℕ) (at : ℕ) → length s < suc fuel + at → left ≤ 65535 → k ≤ 64 → Rest fuel s
         → (it : Item) (l : List ℕ) → IsItem Optional Stripe k left at l it → at + length l ≤ length s
-        → Exact (onItem it (bodyFrom turn fuel k left acc s (at + length l)) (λ (height : ℕ) (rs : List Record). bodyFrom turn fuel (suc k) (left - height) (acc ++ rs) s (at + length l)))
+        → Exact (onItem it (bodyFrom turn fuel k left acc s (at + length l)) (λ (height : ℕ) (rs : List Record). bodyFrom turn fuel (suc k) (left - height) (laid k acc rs) s (at + length l)))
         (Second k left acc it (at + length l)) (Worse k left it (at + length l)) s (at + length l)
     after-item fuel k left acc s at f low few rec skipped l z g =
         let a = apart-length l (opens k left at l skipped z) in rec k left acc (at + length l) (omega arith) g low few
     after-item fuel k left acc s at f low few rec (striped height rs) l (a-stripe h fw z) g =
         let a = apart-length l (opens k left at l (striped height rs) (a-stripe height fw z)) in
-        rec (suc k) (left - height) (acc ++ rs) (at + length l) (omega arith) g (omega arith) (omega arith)
+        rec (suc k) (left - height) (laid k acc rs) (at + length l) (omega arith) g (omega arith) (omega arith)
 
     pub body-exact : (fuel k left : ℕ) (acc : List Record) (s : List ℕ) (at : ℕ) → length s < fuel + at → at ≤ length s → left ≤ 65535 → k ≤ 64
         → Exact (bodyFrom turn fuel k left acc s at) (After k left acc at) (Worst k left at) s at

@@ -8,7 +8,7 @@ use Prim.Native.Nat.{ℕ, zero, suc, _+_, _-_, _≤_, _<_}
 use native.Mathlib.Omega.{arith}
 use mathlib.Core.Path.{_≡_, refl, sym, ap, subst, _∙_}
 use mathlib.Core.Bool.{Bool, true, false, cond}
-use mathlib.Core.List.{List, _++_}
+use mathlib.Core.List.{List}
 use lib.ListN.{length}
 use lib.Dec.{eqb, ltb, lit≤}
 use borrow.Author.Tests.{ltb-false}
@@ -21,7 +21,7 @@ use Rattle.sheet_rules.specs.declared.Record.{Record}
 use Rattle.field_rules.specs.Field.{Res, ok, no, bind}
 use Rattle.field_rules.proofs.Hangs.{Whole}
 use Rattle.field_rules.proofs.Looked.{onward, beyond, near, Looked, looked-ok, looked-no, looked-from, looked-as, looked-then, looked-fits, looked-bind}
-use Rattle.body_rules.specs.Body.{endMark, Item, skipped, striped, onItem, bodyFrom}
+use Rattle.body_rules.specs.Body.{endMark, Item, skipped, striped, onItem, laid, bodyFrom}
 
 unfoldable pub bodyLook : (ℕ → ℕ → List ℕ → ℕ → Res Item) → (ℕ → ℕ → List ℕ → ℕ → ℕ) → ℕ → ℕ → ℕ → List ℕ → ℕ → ℕ
 bodyLook turn look zero k left s at = at
@@ -41,7 +41,7 @@ module _ (turn : ℕ → ℕ → List ℕ → ℕ → Res Item) (look : ℕ → 
       → Looked (bodyLook turn look (count s - 1) k left s e) (λ (t : List ℕ). bodyFrom turn (count t - 1) k left acc t e) s e) where
     abbrev readBehind : Item → ℕ → List ℕ → Res (List Record)
     readBehind it e t =
-        onItem it (bodyFrom turn (count t - 1) k left acc t e) (λ (height : ℕ) (rs : List Record). bodyFrom turn (count t - 1) (suc k) (left - height) (acc ++ rs) t e)
+        onItem it (bodyFrom turn (count t - 1) k left acc t e) (λ (height : ℕ) (rs : List Record). bodyFrom turn (count t - 1) (suc k) (left - height) (laid k acc rs) t e)
 
     abbrev lookBehind : Item → ℕ → ℕ
     lookBehind it e =
@@ -49,7 +49,7 @@ module _ (turn : ℕ → ℕ → List ℕ → ℕ → Res Item) (look : ℕ → 
 
     behind-looked : (it : Item) (e : ℕ) → at + 2 ≤ e → e ≤ length s → Whole (readBehind it e s) → Looked (lookBehind it e) (readBehind it e) s e
     behind-looked skipped e h i w = rest k left acc e h i w
-    behind-looked (striped height rs) e h i w = rest (suc k) (left - height) (acc ++ rs) e h i w
+    behind-looked (striped height rs) e h i w = rest (suc k) (left - height) (laid k acc rs) e h i w
 
     -- the end of page, or an item
     abbrev readNext : Bool → List ℕ → Res (List Record)

@@ -3,7 +3,7 @@
 use Prim.Native.Nat.{ℕ, zero, suc, _+_, _-_, _≤_, _<_}
 use native.Mathlib.Omega.{arith}
 use mathlib.Core.Path.{_≡_}
-use mathlib.Core.List.{List, _++_}
+use mathlib.Core.List.{List}
 use lib.ListN.{length}
 use lib.Dec.{eqb, ltb, lit≤}
 use Rattle.octets.specs.Octets.{Octets, standsAt}
@@ -16,7 +16,7 @@ use Rattle.field_rules.specs.Part.{Exact, Apart}
 use Rattle.field_rules.proofs.Parts.{exact-same}
 use Rattle.field_rules.proofs.Named.{Refusal, bind-refused, short, told}
 use Rattle.sheet_rules.specs.declared.Record.{Record}
-use Rattle.body_rules.specs.Body.{endMark, Item, skipped, striped, IsItem, a-stripe, onItem, bodyFrom}
+use Rattle.body_rules.specs.Body.{endMark, Item, skipped, striped, IsItem, a-stripe, onItem, laid, bodyFrom}
 use Rattle.body_rules.proofs.Body.{body-exact}
 
 module _ (Optional : List ℕ → Type 0) (Stripe : ℕ → ℕ → ℕ → List ℕ → ℕ → List Record → Type 0) (turn : ℕ → ℕ → List ℕ → ℕ → Res Item) (Bad : ℕ → ℕ → ℕ → List ℕ → Answer → Type 0)
@@ -26,9 +26,9 @@ module _ (Optional : List ℕ → Type 0) (Stripe : ℕ → ℕ → ℕ → List
     Rest fuel = (k left : ℕ) (acc : List Record) (at : ℕ) → at ≤ length s → left ≤ 65535 → k ≤ 64 → bodyFrom turn fuel k left acc s at ≡ no a → Refusal (length s) a
 
     behind-refused : (fuel k left : ℕ) (acc : List Record) (at : ℕ) → left ≤ 65535 → k ≤ 64 → Rest fuel → (it : Item) (e : ℕ) {l : List ℕ} → IsItem Optional Stripe k left at l it → e ≤ length s
-        → onItem it (bodyFrom turn fuel k left acc s e) (λ (height : ℕ) (rs : List Record). bodyFrom turn fuel (suc k) (left - height) (acc ++ rs) s e) ≡ no a → Refusal (length s) a
+        → onItem it (bodyFrom turn fuel k left acc s e) (λ (height : ℕ) (rs : List Record). bodyFrom turn fuel (suc k) (left - height) (laid k acc rs) s e) ≡ no a → Refusal (length s) a
     behind-refused fuel k left acc at low few rec skipped e z i q = rec k left acc e i low few q
-    behind-refused fuel k left acc at low few rec (striped height rs) e (a-stripe h2 fw z) i q = rec (suc k) (left - height) (acc ++ rs) e i (omega arith) (omega arith) q
+    behind-refused fuel k left acc at low few rec (striped height rs) e (a-stripe h2 fw z) i q = rec (suc k) (left - height) (laid k acc rs) e i (omega arith) (omega arith) q
 
     pub body-refused : (fuel : ℕ) → Rest fuel
     unfolding bodyFrom numberOf placeOf

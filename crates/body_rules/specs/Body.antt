@@ -5,6 +5,7 @@
 --   IsItem              an item of the grammar: an optional segment only before the first stripe, and at most 64 stripes
 --   Optionals, Stripes  any number of the one, 1 to 64 of the other
 --   Body                both, and FF D9
+--   laid                the records, stripe by stripe
 --   bodyFrom            the reading: at most so many turns
 --   BadBody             where a body is refused: optional segments and stripes stand there, and what is due behind them is cut short, is FF D9 without
 --                       a stripe, or is refused by its own rules
@@ -70,6 +71,10 @@ abbrev pub onItem : {A : Type 0} → Item → A → (ℕ → List Record → A) 
 onItem skipped skip go = skip
 onItem (striped height rs) skip go = go height rs
 
+-- the records so far, and those of stripe k behind them
+abbrev pub laid : ℕ → List Record → List Record → List Record
+laid k acc rs = acc ++ rs
+
 -- a turn takes octets, so that the length of the page is enough for their number
 unfoldable pub bodyFrom : (ℕ → ℕ → List ℕ → ℕ → Res Item) → ℕ → ℕ → ℕ → List Record → List ℕ → ℕ → Res (List Record)
 unfolding bind
@@ -79,4 +84,4 @@ bodyFrom turn (suc fuel) k left acc s at =
     (cond (standsAt s at endMark)
     (cond (eqb k 0) (no (BadStripe at)) (ok acc (at + 2)))
     (bind (turn k left s at) (λ (it : Item) (e : ℕ).
-    onItem it (bodyFrom turn fuel k left acc s e) (λ (height : ℕ) (rs : List Record). bodyFrom turn fuel (suc k) (left - height) (acc ++ rs) s e))))
+    onItem it (bodyFrom turn fuel k left acc s e) (λ (height : ℕ) (rs : List Record). bodyFrom turn fuel (suc k) (left - height) (laid k acc rs) s e))))

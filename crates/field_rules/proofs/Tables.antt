@@ -72,9 +72,9 @@ module _ (rows : List Field) (s : List ℕ) where
   pub broken-refused : {row : Field} {known l : List ℕ} {p : ℕ} {x : Answer} → Broken row known p l x → p ≤ length s → drop p s ≡ l → fields (row ∷ rows) known s p ≡ no x
   unfolding fields
   broken-refused {row = mark m refusal} {p = p} (cut c) h e =
-      let n = length-drop p s in let q = ap length e in simp (lt-ltb (length s) (p + length m) (omega arith))
+      let n = length-drop p s in let q = ap length e in simp (lt-ltb (length s) (p + length m) (omega arith)) refl
   broken-refused {row = val ws good refusal} {p = p} (cut c) h e =
-      let n = length-drop p s in let q = ap length e in simp (lt-ltb (length s) (p + widths ws) (omega arith))
+      let n = length-drop p s in let q = ap length e in simp (lt-ltb (length s) (p + widths ws) (omega arith)) refl
   broken-refused {row = again back good refusal} (cut c) h e = absurd (omega arith)
   broken-refused {p = p} (other {m = m} x rest z d) h e =
       let a = length-rest s x rest p h e in

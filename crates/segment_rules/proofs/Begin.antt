@@ -5,24 +5,29 @@ use native.Mathlib.Omega.{arith}
 use mathlib.Core.Path.{_≡_, refl, sym, ap, subst, _∙_}
 use mathlib.Core.Bool.{Bool, true, false, not, false≢true}
 use mathlib.Core.List.{List, [], _∷_, _++_}
-use lib.ListN.{length, getD}
+use lib.ListN.{length, getD, drop}
 use lib.Dec.{lit<}
 use Rattle.octets.specs.Octets.{octets16}
 use Rattle.laws.proofs.Says.{Says, says-eq, says-le, says-and, says-true}
 use Rattle.answers.specs.declared.Answer.{Answer}
 use Rattle.answers.specs.declared.Answer.the-variants.{BadMark, BadLength, BadStripe}
-use Rattle.field_rules.specs.Field.{one, two, val, again, put, Sized, widths}
+use Rattle.field_rules.specs.Field.{one, two, put, Sized, widths}
 use Rattle.field_rules.specs.Stands.{Stands, at-end, marked, valued, held}
 use Rattle.field_rules.specs.Fault.{Faulted, late, BadMarked, BadNumbers, the}
 use Rattle.field_rules.proofs.Laws.{end-apart, mark-apart, again-apart, one-apart, four-apart}
+use Rattle.field_rules.proofs.Refused.{rowsSize}
 use Rattle.field_rules.proofs.Faults.{fault-here, past-mark, past-val, none-at-fault, fault-mark, fault-again, fault-one, fault-four, broken-mark, mark-broken, broken-numbers, numbers-broken, broken-again}
 use Rattle.segment_rules.specs.declared.Version.{Version}
 use Rattle.segment_rules.specs.declared.Version.the-variants.{Base}
-use Rattle.segment_rules.specs.Segment.{Due, Named, beginOf, lengthOk, mrc, identIn, openTable, Ident, ident, BadSegment, bad-marker, bad-length, bad-ident, too-many}
+use Rattle.segment_rules.specs.Segment.{Due, Named, beginOf, lengthOk, mrc, openTable, Ident, ident, BadSegment, bad-marker, bad-length, bad-ident, too-many}
 
 pub length-begin : (n size : ℕ) → length (beginOf n size) ≡ 8
 unfolding beginOf octets16
 length-begin n size = refl
+
+pub open-size : (version : Version) (due : Due) → rowsSize (openTable version due) ≡ 8
+unfolding openTable rowsSize widths
+open-size version due = refl
 
 -- the numbers of a beginning
 abbrev pub numbersOf : ℕ → ℕ → List ℕ
@@ -119,23 +124,24 @@ module _ (version : Version) (due : Due) where
 
     -- behind a length that may be
     past-length : {l : List ℕ} {x : Answer} (size : ℕ) → 6 ≤ size → size < 65536
-        → Faulted (val (one ∷ one ∷ one ∷ one ∷ []) (mrc (due .may)) BadMark ∷ again 4 (λ (vs : List ℕ). not (due .full (identIn vs))) BadStripe ∷ []) (size ∷ []) (at + 2 + 2) l x
+        → Faulted (drop 2 (openTable version due)) (size ∷ []) (at + 2 + 2) l x
         → Faulted (openTable version due) [] at (0xFF ∷ 0xED ∷ octets16 size ++ l) x
     unfolding openTable octets16 put widths Sized
     past-length size lo hi f = past-mark (past-val {ws = two ∷ []} (size ∷ []) (hi, tt) (says-length version size .shown lo) f)
 
     pub ident-faulted : {l : List ℕ} {x : Answer} (size : ℕ) → 6 ≤ size → size < 65536 → BadNumbers (one ∷ one ∷ one ∷ one ∷ []) (Ident due) BadMark (at + 4) l x
         → Faulted (openTable version due) [] at (0xFF ∷ 0xED ∷ octets16 size ++ l) x
+    unfolding openTable
     ident-faulted {l} {x} size lo hi b =
         let z : at + 4 ≡ at + 2 + 2 = omega arith in
-        past-length size lo hi (subst (λ (p : ℕ). Faulted (val (one ∷ one ∷ one ∷ one ∷ []) (mrc (due .may)) BadMark ∷ again 4 (λ (vs : List ℕ). not (due .full (identIn vs))) BadStripe ∷ []) (size ∷ []) p l x) z
+        past-length size lo hi (subst (λ (p : ℕ). Faulted (drop 2 (openTable version due)) (size ∷ []) p l x) z
         (fault-here (numbers-broken (Ident due) (λ vs z. says-ident vs z) b)))
 
     pub full-faulted : (l : List ℕ) (n size : ℕ) → 6 ≤ size → size < 65536 → n < 256 → due .may n ≡ true → due .full n ≡ true
         → Faulted (openTable version due) [] at (beginOf n size ++ l) (BadStripe (at + 4))
-    unfolding beginOf octets16 put widths Sized
+    unfolding openTable beginOf octets16 put widths Sized
     full-faulted l n size lo hi oc g f =
         past-length size lo hi
         (past-val {ws = one ∷ one ∷ one ∷ one ∷ []} (0x4D ∷ 0x52 ∷ 0x43 ∷ n ∷ []) (lit< tt, (lit< tt, (lit< tt, (oc, tt)))) g
-        (subst (Faulted (again 4 (λ (vs : List ℕ). not (due .full (identIn vs))) BadStripe ∷ []) (size ∷ 0x4D ∷ 0x52 ∷ 0x43 ∷ n ∷ []) (at + 2 + 2 + 4) l) (ap BadStripe at-ident)
+        (subst (Faulted (drop 3 (openTable version due)) (size ∷ 0x4D ∷ 0x52 ∷ 0x43 ∷ n ∷ []) (at + 2 + 2 + 4) l) (ap BadStripe at-ident)
         (fault-here (late (ap not f)))))

@@ -17,9 +17,10 @@ use Rattle.field_rules.specs.Field.{Res, ok, no, bind, widths, fields, reach}
 use Rattle.field_rules.specs.Part.{spanOf}
 use Rattle.field_rules.proofs.Hangs.{Whole}
 use Rattle.field_rules.proofs.Looks.{Looks, reach-mark}
-use Rattle.field_rules.proofs.Refused.{rowsSize, fields-end}
+use Rattle.field_rules.proofs.Refused.{fields-end}
 use Rattle.field_rules.proofs.Looked.{onward, beyond, Near, near, near-length, _&_, Looked, looked-ok, looked-no, looked-bind, looked-map, looked-span, looked-fields}
 use Rattle.segment_rules.specs.declared.Version.{Version}
+use Rattle.segment_rules.proofs.Begin.{open-size}
 use Rattle.segment_rules.specs.Segment.{Need, passed, sized, Due, sizeIn, identIn, openTable, behindOf, segmentOf}
 
 abbrev pub behindLook : Need → ℕ → ℕ → ℕ
@@ -41,10 +42,6 @@ open-near version due at =
     & near (at + 2 + 2) 4 (BadMark (at + 2 + 2)) refl (lit≤ tt) (lit≤ tt)
     & record { past = let z : at + 2 + 2 + 4 - 4 < at + 2 + 2 + 4 = omega arith in z; most = let z : at + 2 + 2 + 4 ≤ at + 2 + 2 + 4 - 4 + 8 = omega arith in z }
     & tt
-
-open-size : (version : Version) (due : Due) → rowsSize (openTable version due) ≡ 8
-unfolding openTable rowsSize widths
-open-size version due = refl
 
 -- ---- its body, behind the ident
 

@@ -2,7 +2,7 @@
 -- Assumes nothing.
 use Prim.Native.Nat.{ℕ, _+_, _-_, _≤_}
 use native.Mathlib.Omega.{arith}
-use mathlib.Core.Path.{_≡_, refl}
+use mathlib.Core.Path.{_≡_}
 use mathlib.Core.List.{List, []}
 use lib.ListN.{length}
 use lib.Dec.{eqb, lit≤}
@@ -12,16 +12,13 @@ use Rattle.answers.specs.declared.Answer.the-variants.{BadLength}
 use Rattle.answers.specs.Answers.{numberOf, placeOf}
 use Rattle.field_rules.specs.Field.{no, fields}
 use Rattle.field_rules.specs.Part.{spanOf}
-use Rattle.field_rules.proofs.Refused.{Names, rowsSize, fields-end}
+use Rattle.field_rules.proofs.Refused.{Names, fields-end}
 use Rattle.field_rules.proofs.Named.{Refusal, bind-refused, told, table-refused, span-refused}
 use Rattle.segment_rules.specs.declared.Version.{Version}
+use Rattle.segment_rules.proofs.Begin.{open-size}
 use Rattle.segment_rules.specs.Segment.{Need, passed, sized, Due, sizeIn, identIn, openTable, behindOf, segmentOf}
 
 module _ (version : Version) (due : Due) (s : List ℕ) (a : Answer) where
-  open-size : rowsSize (openTable version due) ≡ 8
-  unfolding openTable rowsSize
-  open-size = refl
-
   open-named : Names (λ b. Refusal (length s) b) (length s) (openTable version due)
   unfolding Names openTable numberOf placeOf
   open-named = (
@@ -52,5 +49,5 @@ module _ (version : Version) (due : Due) (s : List ℕ) (a : Answer) where
       bind-refused (Refusal (length s) a) (fields (openTable version due) [] s at) _ a q (λ e. table-refused s a (openTable version due) open-named at h e) λ vs p q1 q2.
       let fe = fields-end (openTable version due) [] vs s at p h q1 in
       let f0 = fe .0 in
-      let sz = open-size in
+      let sz = open-size version due in
       behind-refused (due .body (identIn vs)) (identIn vs) (sizeIn vs - 6) (at + 2) p (omega arith) (fe .1) q2
