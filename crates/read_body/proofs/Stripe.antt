@@ -1,6 +1,6 @@
 -- A stripe in code, by its mode, is the stripe of the mode's reading. What hangs on the mode is a law by cases on it.
 -- Assumes nothing.
-use Prim.Native.Nat.{ℕ, suc, _+_, _-_, _*_, _≤_, _<_}
+use Prim.Native.Nat.{ℕ, _+_, _-_, _*_, _≤_, _<_}
 use native.Mathlib.Omega.{arith}
 use mathlib.Core.Path.{_≡_, refl, sym, ap, subst, _∙_}
 use mathlib.Core.List.{List}
@@ -9,11 +9,10 @@ use mir.Syntax.{w16, w32}
 use mir.Val.{Fits}
 use borrow.Author.Needs.{needs}
 use Rattle.laws.proofs.Cases.{clash}
-use Rattle.octets.specs.Octets.{putAt}
 use Rattle.answers.specs.declared.Answer.{Answer}
 use Rattle.field_rules.specs.Field.{Res, ok, no}
 use Rattle.sheet_rules.specs.declared.Record.{Record}
-use Rattle.sheet_rules.specs.Record.{recordSize, sheetOf}
+use Rattle.sheet_rules.specs.Record.{recordSize}
 use Rattle.segment_rules.specs.declared.Mode.{Mode}
 use Rattle.segment_rules.specs.declared.Mode.the-variants.{One}
 use Rattle.segment_rules.specs.Rules.{mostLayers}

@@ -45,15 +45,7 @@ fn stripe_body(mode: Mode) -> u16
 }
 
 // Stripe k from its body on, by the mode.
-fn stripe_step(
-    out: &mut [u8],
-    s: &[u8],
-    hd: Head,
-    k: u16,
-    left: u32,
-    at: u32,
-    first: u32,
-) -> Step
+fn stripe_step(out: &mut [u8], s: &[u8], hd: Head, k: u16, left: u32, at: u32, first: u32) -> Step
     requires { ⌜ StripeRoom (hd .rules .mode) (now out) (now s) left at first ⌝ }
     ensures step { λ r. ⌜ r ≡ stepOf (stripeReadIn (hd .rules .mode) hd k left (now (s .entry)) at) ⌝ }
     ensures laid { λ _. ⌜ now (out .exit) ≡ laidOf (now (out .entry)) first (stripeReadIn (hd .rules .mode) hd k left (now (s .entry)) at) ⌝ }

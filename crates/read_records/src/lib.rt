@@ -48,15 +48,7 @@ fn absent_record(hd: Head, k: u16, layer: u8, base: Colour) -> Record
     }
 }
 
-fn image_record(
-    hd: Head,
-    k: u16,
-    layer: u8,
-    base: Colour,
-    x: u32,
-    y: u32,
-    c: LayerData,
-) -> Record
+fn image_record(hd: Head, k: u16, layer: u8, base: Colour, x: u32, y: u32, c: LayerData) -> Record
     requires { ⌜ Placed c x y ⌝ }
     ensures { λ r. ⌜ r ≡ imageRecord hd k layer base x y c ⌝ }
 {

@@ -1,8 +1,8 @@
 -- A stripe that was read: its records, its height, and where it ends.
 -- Assumes nothing.
-use Prim.Native.Nat.{ℕ, _+_, _≤_}
+use Prim.Native.Nat.{ℕ, _≤_}
 use native.Mathlib.Omega.{arith}
-use mathlib.Core.Path.{_≡_, refl, sym, ap, subst, _∙_}
+use mathlib.Core.Path.{_≡_, refl, sym, ap, subst}
 use mathlib.Core.List.{List, []}
 use lib.ListN.{length}
 use Rattle.laws.proofs.Cases.{clash}
@@ -14,12 +14,11 @@ use Rattle.segment_rules.specs.Rules.{mostLayers}
 use Rattle.start_rules.specs.declared.Head.{Head}
 use Rattle.body_rules.specs.Body.{Item, striped}
 use Rattle.mode1_rules.specs.declared.Fields.{Fields}
-use Rattle.mode1_rules.specs.Kinds.{stripeBody, hasBack, hasFore}
+use Rattle.mode1_rules.specs.Kinds.{hasBack, hasFore}
 use Rattle.mode1_rules.specs.Grammar.{recordsOf}
 use Rattle.mode1_rules.specs.Reading.{stripeTable, fieldsFrom, walked, layersOf, stripeRead}
-use Rattle.read_head.specs.Fields.{fieldsAt}
 use Rattle.read_head.proofs.Kept.{fields-kept, fields-past, height-low}
-use Rattle.read_stripe.proofs.Layers.{Parts, layers-after}
+use Rattle.read_stripe.proofs.Layers.{layers-after}
 
 pub record Ended (left : ℕ) (s : List ℕ) (at : ℕ) (it : Item) (e : ℕ) : Type 0 where
   pub height : ℕ

@@ -5,7 +5,6 @@ use native.Mathlib.Omega.{arith}
 use mathlib.Core.Path.{_≡_, refl, sym, ap, ap₂, subst, _∙_}
 use mathlib.Core.Bool.{Bool, true, false}
 use mathlib.Core.List.{List, []}
-use lib.ListN.{length}
 use borrow.Author.Needs.{needs}
 use Rattle.octets.specs.Octets.{putAt}
 use Rattle.answers.specs.declared.Answer.{Answer}
@@ -13,13 +12,13 @@ use Rattle.field_rules.specs.Field.{Res, ok, no, bind, fields}
 use Rattle.sheet_rules.specs.declared.Record.{Record}
 use Rattle.sheet_rules.specs.Record.{recordSize, sheetOf}
 use Rattle.start_rules.specs.declared.Head.{Head}
-use Rattle.body_rules.specs.Body.{Item, striped}
+use Rattle.body_rules.specs.Body.{striped}
 use Rattle.mode1_rules.specs.declared.Fields.{Fields}
 use Rattle.mode1_rules.specs.declared.LayerData.{LayerData}
 use Rattle.mode1_rules.specs.declared.LayerData.the-variants.{There, Absent}
 use Rattle.mode1_rules.specs.Kinds.{stripeBody}
 use Rattle.mode1_rules.specs.Grammar.{recordsOf}
-use Rattle.mode1_rules.specs.Reading.{stripeTable, fieldsFrom, walked, layersOf, stripeRead}
+use Rattle.mode1_rules.specs.Reading.{stripeTable, fieldsFrom, walked, stripeRead}
 use Rattle.read_field.specs.declared.Judged.{Judged}
 use Rattle.read_field.specs.declared.Judged.the-variants.{Fine}
 use Rattle.read_field.specs.Judged.{judgedOf}

@@ -80,4 +80,3 @@ module _ (hd : Head) (k : ℕ) (f : Fields) (s : List ℕ) (at : ℕ) where
       let c = walked-between s (hd .main) (hasBack (f .kind)) (p .q) back (p .m) (omega arith) (p .first) in
       let d = walked-between s (hd .main) (hasFore (f .kind)) (p .m) fore e (c .1) (p .second) in
       omega arith
-
