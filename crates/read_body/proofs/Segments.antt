@@ -1,147 +1,141 @@
--- Reading's body, by what its next segment is.
+-- A turn of the body in code is a turn of reading's body.
 -- Assumes nothing.
-use Prim.Native.Nat.{ℕ, suc, _+_, _-_, _*_, _≤_}
+use Prim.Native.Nat.{ℕ, suc, _+_, _*_, _≤_}
 use native.Mathlib.Omega.{arith}
-use mathlib.Core.Path.{_≡_, refl, sym, ap, subst, _∙_}
-use mathlib.Core.Bool.{true, false, cond}
-use mathlib.Core.Logic.{⊎-elim}
-use mathlib.Core.List.{List, [], _∷_, _++_, append-nil}
-use lib.ListN.{length, getD}
-use lib.Dec.{eqb, ltb}
+use mathlib.Core.Path.{_≡_, refl, sym, ap, ap₂, subst, _∙_}
+use mathlib.Core.Bool.{Bool, true, false, _&&_}
+use mathlib.Core.List.{List, [], _++_, append-nil}
+use lib.ListN.{length}
+use lib.Dec.{eqb, leb}
 use borrow.Author.Needs.{needs}
-use borrow.Author.Tests.{ltb-false}
-use Rattle.laws.proofs.Cases.{cond-with, bool-else}
+use borrow.Author.Tests.{leb-true, leb-false, lt-ltb, le-ltb, eq-eqb, ne-eqb, eqb-false}
+use Rattle.laws.proofs.Cases.{cond-with, clash}
 use Rattle.octets.specs.Octets.{standsAt}
 use Rattle.octets.proofs.Laws.{put-nothing}
 use Rattle.octets.specs.Entries.{joined}
-use Rattle.page_rules.specs.Kinds.{stripeSheet}
 use Rattle.answers.specs.declared.Answer.{Answer}
-use Rattle.answers.specs.declared.Answer.the-variants.{BadStripe}
-use Rattle.field_rules.specs.Field.{Res, ok, no, bind, fields}
-use Rattle.field_rules.proofs.Refused.{fields-end}
+use Rattle.answers.specs.declared.Answer.the-variants.{Short, BadStripe}
+use Rattle.field_rules.specs.Field.{Res, ok, no, bind}
 use Rattle.sheet_rules.specs.declared.Record.{Record}
-use Rattle.page_rules.specs.declared.Head.{Head}
-use Rattle.page_rules.specs.Reading.{segmentTable, spanOf, stripeFrom, bodyFrom}
-use Rattle.page_rules.proofs.Layers.{span-back}
-use Rattle.page_rules.proofs.Refused.{segment-size}
+use Rattle.sheet_rules.specs.Record.{recordSize}
+use Rattle.segment_rules.specs.Segment.{segmentOf}
+use Rattle.start_rules.specs.declared.Head.{Head}
+use Rattle.body_rules.specs.Body.{endMark, Item, skipped, striped, bodyFrom}
+use Rattle.page_rules.specs.Grammar.{bodyIn}
+use Rattle.page_rules.specs.Reading.{dueWith, dueAt, itemOf}
 use Rattle.read_segment.specs.declared.Segment.{Segment}
-use Rattle.read_segment.specs.declared.Segment.the-variants.{End, Stripe, Optional}
-use Rattle.read_segment.specs.Segments.{onSpan, onRead, segmentOf}
+use Rattle.read_segment.specs.declared.Segment.the-variants.{Stripe, Optional}
+use Rattle.read_segment.specs.Segments.{viewOf}
+use Rattle.read_segment.proofs.Views.{view-no, view-stripe, view-optional, Ended, segment-ends}
 use Rattle.read_body.specs.declared.Place.{Place}
 use Rattle.read_body.specs.declared.Body.{Body}
-use Rattle.read_body.specs.declared.Body.the-variants.{Stripes}
+use Rattle.read_body.specs.declared.Body.the-variants.{Records}
 use Rattle.read_body.specs.declared.Turn.{Turn}
 use Rattle.read_body.specs.declared.Turn.the-variants.{Go, Stop}
-use Rattle.read_body.specs.Steps.{Ready, endedOf, StripeTurned, Standing, bodyAt, Passed, BodyRefused, Turned}
+use Rattle.read_body.specs.Steps.{Ready, stripeIn, endedOf, StripeTurned, Standing, bodyAt, behindItem, Passed, BodyRefused, Turned}
 
-module _ (fuel : ℕ) (hd : Head) (k left : ℕ) (acc : List Record) (s : List ℕ) (at : ℕ) where
-  abbrev pub onSegment : Segment → Res (List Record)
-  onSegment End = cond (eqb k 0) (no (BadStripe at)) (ok acc (at + 2))
-  onSegment (Stripe size) = stripeFrom hd k left size s at (λ (height : ℕ) (rs : List Record) (e : ℕ). bodyFrom fuel hd (suc k) (left - height) (acc ++ rs) s e)
-  onSegment (Optional next) = bodyFrom fuel hd k left acc s next
-  onSegment (Segment.Refused a) = no a
+-- ---- body_end
+pub end-none : (p : Place) → p .stripe ≡ 0 → Body.Refused (BadStripe (p .at)) ≡ endedOf p
+unfolding endedOf
+end-none p e = simp (eq-eqb (p .stripe) 0 e)
 
-  by-span : (x : Res ℕ) → bind x (λ (m e : ℕ). bodyFrom fuel hd k left acc s e) ≡ onSegment (onSpan x)
-  unfolding bind onSpan
-  by-span (ok m e) = refl
-  by-span (no a) = refl
+pub end-some : (p : Place) → (p .stripe ≡ 0 → ⊥) → Records (p .records) (p .at + 2) ≡ endedOf p
+unfolding endedOf
+end-some p n = simp (ne-eqb (p .stripe) 0 n)
 
-  by-read : (x : Res (List ℕ))
-      → bind x (λ (vs : List ℕ) (n : ℕ).
-      cond (eqb (getD vs 4 0) 0x01) (onSegment (Stripe (getD vs 0 0))) (bind (spanOf s n (getD vs 0 0 - 6)) (λ (m e : ℕ). bodyFrom fuel hd k left acc s e)))
-      ≡ onSegment (onRead s x)
-  unfolding bind onRead
-  by-read (ok vs n) =
-      ⊎-elim (λ (t : eqb (getD vs 4 0) 0x01 ≡ true). simp t) (λ (t : eqb (getD vs 4 0) 0x01 ≡ false). simp t (by-span (spanOf s n (getD vs 0 0 - 6))))
-      (bool-else (eqb (getD vs 4 0) 0x01))
-  by-read (no a) = refl
-
-  pub body-by : bodyFrom (suc fuel) hd k left acc s at ≡ onSegment (segmentOf k s at)
-  unfolding bodyFrom segmentOf
-  body-by =
-      ⊎-elim (λ (t : ltb (length s) (at + 2) ≡ true). simp t)
-      (λ (t : ltb (length s) (at + 2) ≡ false).
-      ⊎-elim (λ (u : standsAt s at (0xFF ∷ 0xD9 ∷ []) ≡ true). simp (t, u))
-      (λ (u : standsAt s at (0xFF ∷ 0xD9 ∷ []) ≡ false). simp (t, u) (by-read (fields (segmentTable k) [] s at)))
-      (bool-else (standsAt s at (0xFF ∷ 0xD9 ∷ []))))
-      (bool-else (ltb (length s) (at + 2)))
-
--- ---- where a segment ends
-
-abbrev Reaches : List ℕ → ℕ → Segment → Type 0
-Reaches s at End = at + 2 ≤ length s
-Reaches s at (Stripe size) = at + 8 ≤ length s
-Reaches s at (Optional next) = (at + 8 ≤ next) × (next ≤ length s)
-Reaches s at (Segment.Refused a) = Unit {0}
-
-span-reaches : (s : List ℕ) (at n size : ℕ) (x : Res ℕ) → spanOf s n size ≡ x → at + 8 ≤ n → Reaches s at (onSpan x)
-unfolding onSpan
-span-reaches s at n size (ok m e) q h = let b = span-back s n size m e q in let b0 = b .0 in let b1 = b .1 in omega arith
-span-reaches s at n size (no a) q h = tt
-
-read-reaches : (k : ℕ) (s : List ℕ) (at : ℕ) → at ≤ length s → (x : Res (List ℕ)) → fields (segmentTable k) [] s at ≡ x → Reaches s at (onRead s x)
-unfolding onRead
-read-reaches k s at h (ok vs n) e =
-    let f = fields-end (segmentTable k) [] vs s at n h e in
-    let f0 = f .0 in
-    let f1 = f .1 in
-    let z = segment-size k in
-    cond-with (Reaches s at) (eqb (getD vs 4 0) 0x01) (λ t. omega arith) (λ t. span-reaches s at n (getD vs 0 0 - 6) (spanOf s n (getD vs 0 0 - 6)) refl (omega arith))
-read-reaches k s at h (no a) e = tt
-
-pub segment-reaches : (k : ℕ) (s : List ℕ) (at : ℕ) → at ≤ length s → Reaches s at (segmentOf k s at)
-unfolding segmentOf
-segment-reaches k s at h =
-    cond-with (Reaches s at) (ltb (length s) (at + 2)) (λ t. tt) λ t.
-    cond-with (Reaches s at) (standsAt s at (0xFF ∷ 0xD9 ∷ [])) (λ u. ltb-false (length s) (at + 2) t) (λ u. read-reaches k s at h (fields (segmentTable k) [] s at) refl)
+pub ruleset ending = (needs, end-none, end-some)
 
 -- ---- body_turn
-module _ (hd : Head) (p : Place) (s out : List ℕ) (i : Standing out s p) {g : Segment} (e : g ≡ segmentOf (p .stripe) s (p .at)) where
-  body-is : (fuel : ℕ) (acc : List Record) → bodyAt (suc fuel) hd p acc s ≡ onSegment fuel hd (p .stripe) (p .left) acc s (p .at) g
-  body-is fuel acc = body-by fuel hd (p .stripe) (p .left) acc s (p .at) ∙ ap (onSegment fuel hd (p .stripe) (p .left) acc s (p .at)) (sym e)
+second : (a b : Bool) → a ≡ true → a && b ≡ false → b ≡ false
+second true b e f = f
+second false b e f = clash cc
 
-  reach : (x : Segment) → g ≡ x → Reaches s (p .at) x
-  reach x z = rw (sym e ∙ z) at (segment-reaches (p .stripe) s (p .at) (i .inside))
+module _ (hd : Head) (p : Place) (s out : List ℕ) (i : Standing hd out s p) {f : Bool} (e : f ≡ leb (p .at + 2) (length s)) where
+  pub body-short : f ≡ false → BodyRefused hd p s out (Short (p .at)) out
+  unfolding bodyFrom
+  body-short y = record { same = λ fuel acc. simp (lt-ltb (length s) (p .at + 2) (leb-false _ _ (sym e ∙ y))); kept = refl }
 
-  pub body-wrong : (a : Answer) → g ≡ Segment.Refused a → BodyRefused hd p s out a out
-  body-wrong a z = record { same = λ fuel acc. body-is fuel acc ∙ ap (onSegment fuel hd (p .stripe) (p .left) acc s (p .at)) z; kept = refl }
+  module _ (y : f ≡ true) {b : Bool} (t : b ≡ standsAt s (p .at) endMark) where
+    room : p .at + 2 ≤ length s
+    room = leb-true _ _ (sym e ∙ y)
 
-  pub body-skip : (next : ℕ) → g ≡ Optional next → Passed hd p s out (record { at = next; stripe = p .stripe; left = p .left }) out
-  unfolding joined
-  body-skip next z =
-      let r = reach (Optional next) z in
-      let r0 = r .0 in
-      record {
-        records = [];
-        onward = record { laid = sym (put-nothing out (p .stripe * stripeSheet)); counted = omega arith; few = i .few; low = omega arith; on = omega arith; inside = r .1 };
-        same = λ fuel acc.
-            body-is fuel acc ∙ ap (onSegment fuel hd (p .stripe) (p .left) acc s (p .at)) z
-            ∙ ap (λ (l : List Record). bodyFrom fuel hd (p .stripe) (p .left) l s next) (sym (append-nil acc));
-      }
+    pub body-over : b ≡ true → (x : Body) → x ≡ endedOf p → Turned hd p s out (Stop x) out
+    unfolding endedOf bodyFrom
+    body-over z x q =
+        subst (λ (x : Body). Turned hd p s out (Stop x) out) (sym q)
+        (cond-with (λ (x : Body). Turned hd p s out (Stop x) out) (eqb (p .stripe) 0)
+        (λ u. record { same = λ fuel acc. simp (le-ltb (length s) (p .at + 2) room, sym t ∙ z, u); kept = refl })
+        (λ u. record { same = λ fuel acc. simp (le-ltb (length s) (p .at + 2) room, sym t ∙ z, u); counted = refl; inside = room; kept = refl }))
 
-  module _ (size : ℕ) (z : g ≡ Stripe size) where
-    pub body-ready : Ready out s (p .stripe) (p .left) (p .at)
-    body-ready = record { seen = reach (Stripe size) z; small = i .small; few = i .few; low = i .low; room = i .room }
+    module _ (z : b ≡ false) {size : ℕ} (w : size ≡ bodyIn (hd .rules .mode)) {g : Segment} (v : g ≡ viewOf (segmentOf (hd .rules .version) (dueWith size (p .stripe)) s (p .at))) where
+      body-item : (fuel : ℕ) (acc : List Record) → bodyAt (suc fuel) hd p acc s ≡ bind (itemOf hd (p .stripe) (p .left) s (p .at)) (behindItem fuel hd p acc s)
+      unfolding bodyFrom
+      body-item fuel acc = simp (le-ltb (length s) (p .at + 2) room, sym t ∙ z)
 
-    pub body-stripe : (r : Turn) (out′ : List ℕ) → StripeTurned hd p size s out r out′ → Turned hd p s out r out′
-    body-stripe (Go q) out′ t =
-        record { records = t .records; onward = t .onward; same = λ fuel acc. body-is fuel acc ∙ ap (onSegment fuel hd (p .stripe) (p .left) acc s (p .at)) z ∙ t .same fuel acc }
-    body-stripe (Stop (Body.Refused a)) out′ t =
-        record { same = λ fuel acc. body-is fuel acc ∙ ap (onSegment fuel hd (p .stripe) (p .left) acc s (p .at)) z ∙ t .same _; kept = t .kept }
-    body-stripe (Stop (Stripes count next)) out′ t = absurd t
+      abbrev segment : Res ℕ
+      segment = segmentOf (hd .rules .version) (dueAt (hd .rules .mode) (p .stripe)) s (p .at)
 
-  pub body-over : g ≡ End → (b : Body) → b ≡ endedOf p → Turned hd p s out (Stop b) out
-  unfolding endedOf
-  body-over z b y =
-      subst (λ (x : Body). Turned hd p s out (Stop x) out) (sym y)
-      (cond-with (λ (x : Body). Turned hd p s out (Stop x) out) (eqb (p .stripe) 0)
-      (λ t. record { same = λ fuel acc. body-is fuel acc ∙ ap (onSegment fuel hd (p .stripe) (p .left) acc s (p .at)) z ∙ simp t; kept = refl })
-      (λ t.
-      record {
-        same = λ fuel acc. body-is fuel acc ∙ ap (onSegment fuel hd (p .stripe) (p .left) acc s (p .at)) z ∙ simp t;
-        counted = refl;
-        inside = reach End z;
-        kept = refl;
-      }))
+      view : g ≡ viewOf segment
+      view = v ∙ ap (λ (n : ℕ). viewOf (segmentOf (hd .rules .version) (dueWith n (p .stripe)) s (p .at))) w
 
-pub ruleset segments = (needs, body-wrong, body-skip, body-ready, body-stripe, body-over)
+      ends : (n e : ℕ) → segment ≡ ok n e → Ended (dueAt (hd .rules .mode) (p .stripe)) s (p .at) n e
+      ends n e q = segment-ends (hd .rules .version) (dueAt (hd .rules .mode) (p .stripe)) s (p .at) (i .inside) n e q
+
+      by-item : (x : Res Item) (fuel : ℕ) (acc : List Record) → itemOf hd (p .stripe) (p .left) s (p .at) ≡ x → bodyAt (suc fuel) hd p acc s ≡ bind x (behindItem fuel hd p acc s)
+      by-item x fuel acc q = body-item fuel acc ∙ ap (λ (y : Res Item). bind y (behindItem fuel hd p acc s)) q
+
+      pub body-wrong : (a : Answer) → g ≡ Segment.Refused a → BodyRefused hd p s out a out
+      unfolding itemOf bind
+      body-wrong a q = record { same = λ fuel acc. by-item (no a) fuel acc (simp (view-no segment a (sym view ∙ q))); kept = refl }
+
+      pub body-skip : (next : ℕ) → g ≡ Optional next → Passed hd p s out (record { at = next; stripe = p .stripe; left = p .left; records = p .records }) out
+      unfolding itemOf bind joined
+      body-skip next q =
+          view-optional (Passed hd p s out (record { at = next; stripe = p .stripe; left = p .left; records = p .records }) out) next segment (sym view ∙ q) λ n m k.
+          let d = ends n next k in
+          let d1 = d .on in
+          record {
+            records = [];
+            onward =
+                record {
+                  laid = sym (put-nothing out (p .records * recordSize));
+                  counted = omega arith;
+                  most = i .roomy .most;
+                  few = i .few;
+                  low = omega arith;
+                  on = omega arith;
+                  inside = d .inside;
+                };
+            same = λ fuel acc.
+                by-item (ok skipped next) fuel acc (simp (k, m)) ∙ ap (λ (l : List Record). bodyFrom (itemOf hd) fuel (p .stripe) (p .left) l s next) (sym (append-nil acc));
+          }
+
+      module _ (body : ℕ) (q : g ≡ Stripe body) where
+        pub body-ready : Ready hd out s p body
+        body-ready =
+            view-stripe (Ready hd out s p body) body segment (sym view ∙ q) λ n m k.
+            let d = ends n body k in
+            let d1 = d .on in
+            let c = i .few in
+            let full : eqb (p .stripe) 64 ≡ false = second (eqb n 0x01) (eqb (p .stripe) 64) m (d .room) in
+            let u = eqb-false (p .stripe) 64 full in
+            record { on = omega arith; inside = d .inside; small = i .small; few = omega (arith, u); low = i .low; roomy = i .roomy }
+
+        stripe-item : itemOf hd (p .stripe) (p .left) s (p .at) ≡ stripeIn hd p s body
+        unfolding itemOf bind
+        stripe-item = view-stripe (itemOf hd (p .stripe) (p .left) s (p .at) ≡ stripeIn hd p s body) body segment (sym view ∙ q) λ n m k. simp (k, m)
+
+        pub body-stripe : (r : Turn) (out′ : List ℕ) → StripeTurned hd p body s out r out′ → Turned hd p s out r out′
+        unfolding bind
+        body-stripe (Go r) out′ x =
+            record {
+              records = x .records;
+              onward = x .onward;
+              same = λ fuel acc.
+                  by-item (ok (striped (x .height) (x .records)) (r .at)) fuel acc (stripe-item ∙ x .same)
+                  ∙ sym (ap₂ (λ (k l : ℕ). bodyFrom (itemOf hd) fuel k l (acc ++ x .records) s (r .at)) (x .next) (x .lower));
+            }
+        body-stripe (Stop (Body.Refused a)) out′ x = record { same = λ fuel acc. by-item (no a) fuel acc (stripe-item ∙ x .same); kept = x .kept }
+        body-stripe (Stop (Records count next)) out′ x = absurd x
+
+pub ruleset segments = (needs, body-short, body-over, body-wrong, body-skip, body-ready, body-stripe)

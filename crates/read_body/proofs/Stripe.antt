@@ -1,210 +1,175 @@
--- The stripe step in code is the step of reading.
+-- A stripe in code, by its mode, is the stripe of the mode's reading. What hangs on the mode is a law by cases on it.
 -- Assumes nothing.
-use Prim.Native.Nat.{ℕ, _+_, _*_, _≤_}
+use Prim.Native.Nat.{ℕ, _+_, _-_, _*_, _≤_, _<_}
 use native.Mathlib.Omega.{arith}
-use mathlib.Core.Path.{_≡_, refl, sym, ap, ap₂, subst₂, _∙_}
-use mathlib.Core.List.{List, []}
-use lib.ListN.{length, getD}
+use mathlib.Core.Path.{_≡_, refl, sym, ap, subst, _∙_}
+use mathlib.Core.List.{List}
+use lib.ListN.{length}
+use mir.Syntax.{w16, w32}
+use mir.Val.{Fits}
 use borrow.Author.Needs.{needs}
-use borrow.Author.Tests.{eq-eqb, ne-eqb}
 use Rattle.laws.proofs.Cases.{clash}
-use Rattle.octets.specs.Octets.{Octets, be32At, putAt}
 use Rattle.answers.specs.declared.Answer.{Answer}
-use Rattle.answers.specs.declared.Answer.the-variants.{BadStripe, BadLength}
-use Rattle.field_rules.specs.Field.{Res, ok, no, bind, fields}
-use Rattle.field_rules.proofs.Refused.{rowsSize, fields-end}
+use Rattle.field_rules.specs.Field.{Res, ok, no}
 use Rattle.sheet_rules.specs.declared.Record.{Record}
-use Rattle.sheet_rules.specs.Record.{sheetOf}
-use Rattle.page_rules.specs.declared.Head.{Head}
-use Rattle.page_rules.specs.declared.LayerData.{LayerData}
-use Rattle.page_rules.specs.Kinds.{Fields, hasBack, hasFore, stripeSheet}
-use Rattle.page_rules.specs.Grammar.{recordsOf}
-use Rattle.page_rules.specs.Reading.{stripeTable, fieldsFrom, spanOf, walked, layersOf, stripeFrom}
-use Rattle.page_rules.proofs.Layers.{span-back}
-use Rattle.read_layers.specs.declared.Layers.{Layers}
-use Rattle.read_layers.specs.declared.Layers.the-variants.{Read}
-use Rattle.read_layers.specs.Layers.{onLayer, foreOf, layersIn}
-use Rattle.read_layers.proofs.Laws.{walked-between}
-use Rattle.read_field.specs.declared.Judged.{Judged}
-use Rattle.read_field.specs.declared.Judged.the-variants.{Fine}
-use Rattle.read_field.specs.Judged.{judgedOf}
-use Rattle.read_body.specs.declared.Step.{Step}
-use Rattle.read_body.specs.Steps.{Laying, layersAt, stepOf, laidOf, Ready, StripeRefused, Striped}
-use Rattle.read_body.proofs.Kept.{uncut, fields-uncut, records-kept, stripe-good}
+use Rattle.sheet_rules.specs.Record.{recordSize}
+use Rattle.segment_rules.specs.declared.Mode.{Mode}
+use Rattle.segment_rules.specs.declared.Mode.the-variants.{One}
+use Rattle.segment_rules.specs.Rules.{mostLayers}
+use Rattle.start_rules.specs.declared.Head.{Head}
+use Rattle.body_rules.specs.Body.{Item, skipped, striped}
+use Rattle.mode1_rules.specs.Reading.{stripeRead}
+use Rattle.page_rules.specs.Grammar.{bodyIn}
+use Rattle.page_rules.specs.Reading.{stripeReadIn}
+use Rattle.read_stripe.specs.declared.Step.{Step}
+use Rattle.read_stripe.specs.declared.Step.the-variants.{Next}
+use Rattle.read_stripe.specs.Steps as one
+use Rattle.read_stripe.specs.Steps.{stepOf, laidOf}
+use Rattle.read_stripe.proofs.Ends.{stripe-ends}
+use Rattle.read_body.specs.declared.Place.{Place}
+use Rattle.read_body.specs.Steps.{StripeRoom, Ready, stripeIn, StripePassed, StripeRefused}
 
--- ---- the layers
+-- ---- stripe_body and stripe_step
 
-record Parts (s : List ℕ) (main t mask at : ℕ) (back fore : LayerData) (e : ℕ) : Type 0 where
-  n : ℕ
-  q : ℕ
-  m : ℕ
-  span : spanOf s at mask ≡ ok n q
-  first : walked s main (hasBack t) q ≡ ok back m
-  second : walked s main (hasFore t) m ≡ ok fore e
+pub body-by : (mode : Mode) → 31 ≡ bodyIn mode
+body-by One = refl
 
-on-read : {A : Type 0} (P : Type 0) (x : Res A) (go : A → ℕ → Layers) (back fore : LayerData) (e : ℕ) → onLayer x go ≡ Read back fore e
-    → ((a : A) (n : ℕ) → x ≡ ok a n → go a n ≡ Read back fore e → P) → P
-on-read P (ok a n) go back fore e z k = k a n refl z
-on-read P (no a) go back fore e z k = clash cc
+module _ (mode : Mode) (hd : Head) (k left : ℕ) (out s : List ℕ) (at first : ℕ) where
+  pub room-by : StripeRoom mode out s left at first → one.Ready out s left at first
+  room-by r = by mode r
+    where
+      by : (m : Mode) → StripeRoom m out s left at first → one.Ready out s left at first
+      by One r = record { holds = r .holds; inside = r .inside; small = r .small; low = r .low }
 
-layers-parts : (s : List ℕ) (main t mask at : ℕ) (back fore : LayerData) (e : ℕ) → layersIn s main t mask at ≡ Read back fore e → Parts s main t mask at back fore e
-unfolding layersIn foreOf
-layers-parts s main t mask at back fore e z =
-    on-read _ (spanOf s at mask) _ back fore e z λ n q sp z1.
-    on-read _ (walked s main (hasBack t) q) _ back fore e z1 λ b m w z2.
-    on-read _ (walked s main (hasFore t) m) _ back fore e z2 λ f r v z3.
-    let p1 : b ≡ back = cc in
-    let p2 : f ≡ fore = cc in
-    let p3 : r ≡ e = cc in
-    record { n = n; q = q; m = m; span = sp; first = w ∙ ap (λ (x : LayerData). ok x m) p1; second = v ∙ ap₂ ok p2 p3 }
+  pub step-by : (r : Step) → r ≡ stepOf (stripeRead hd k left s at) → r ≡ stepOf (stripeReadIn mode hd k left s at)
+  step-by r e = by mode
+    where
+      by : (m : Mode) → r ≡ stepOf (stripeReadIn m hd k left s at)
+      by One = e
 
-on-broken : {A B : Type 0} (x : Res A) (go : A → ℕ → Layers) (og : A → ℕ → Res B) (a : Answer) → onLayer x go ≡ Layers.Refused a
-    → ((y : A) (n : ℕ) → go y n ≡ Layers.Refused a → og y n ≡ no a) → bind x og ≡ no a
-unfolding bind
-on-broken (ok y n) go og a z k = k y n z
-on-broken (no b) go og a z k = let p : b ≡ a = cc in ap no p
+  pub laid-by : (out′ : List ℕ) → out′ ≡ laidOf out first (stripeRead hd k left s at) → out′ ≡ laidOf out first (stripeReadIn mode hd k left s at)
+  laid-by out′ e = by mode
+    where
+      by : (m : Mode) → out′ ≡ laidOf out first (stripeReadIn m hd k left s at)
+      by One = e
 
-module _ (hd : Head) (k : ℕ) (f : Fields) (s : List ℕ) (at : ℕ) where
-  layers-refused : (a : Answer) → layersIn s (hd .main) (f .type) (f .maskLength) at ≡ Layers.Refused a → layersOf hd k f s at ≡ no a
-  unfolding layersIn foreOf layersOf
-  layers-refused a z =
-      on-broken (spanOf s at (f .maskLength)) _ _ a z λ n q z1.
-      on-broken (walked s (hd .main) (hasBack (f .type)) q) _ _ a z1 λ b m z2.
-      on-broken (walked s (hd .main) (hasFore (f .type)) m) _ _ a z2 λ c r z3. clash cc
+pub ruleset by-mode = (needs, body-by, room-by, step-by, laid-by)
 
-  layers-done : (back fore : LayerData) (e : ℕ) → Parts s (hd .main) (f .type) (f .maskLength) at back fore e → layersOf hd k f s at ≡ ok (recordsOf hd k f at back fore) e
-  unfolding layersOf bind
-  layers-done back fore e p = simp (p .span) (simp (p .first) (simp (p .second)))
+-- ---- a stripe that was read, whatever its mode
 
-  layers-after : (back fore : LayerData) (e : ℕ) → at ≤ length s → Parts s (hd .main) (f .type) (f .maskLength) at back fore e → (at ≤ e) × (e ≤ length s)
-  layers-after back fore e h p =
-      let b = span-back s at (f .maskLength) (p .n) (p .q) (p .span) in
-      let b0 = b .0 in
-      let b1 = b .1 in
-      let c = walked-between s (hd .main) (hasBack (f .type)) (p .q) back (p .m) (omega arith) (p .first) in
-      let d = walked-between s (hd .main) (hasFore (f .type)) (p .m) fore e (c .1) (p .second) in
-      omega arith
+record Ended (mode : Mode) (left : ℕ) (s : List ℕ) (at : ℕ) (it : Item) (e : ℕ) : Type 0 where
+  height : ℕ
+  records : List Record
+  is : it ≡ striped height records
+  most : length records ≤ mostLayers mode
+  low : height ≤ left
+  on : at ≤ e
+  inside : e ≤ length s
 
--- ---- what a verdict on fields tells of their reading
+ends-by : (mode : Mode) (hd : Head) (k left : ℕ) (s : List ℕ) (at : ℕ) (it : Item) (e : ℕ) → at ≤ length s → stripeReadIn mode hd k left s at ≡ ok it e → Ended mode left s at it e
+ends-by One hd k left s at it e h q =
+    let z = stripe-ends hd k left s at h it e q in
+    record { height = z .height; records = z .records; is = z .is; most = z .most; low = z .low; on = z .on; inside = z .inside }
 
-pub judged-no : {A : Type 0} (x : Res A) (a : Answer) → judgedOf x ≡ Judged.Refused a → x ≡ no a
-unfolding judgedOf
-judged-no (ok v n) a e = clash cc
-judged-no (no b) a e = let p : b ≡ a = cc in ap no p
+-- one stripe more stays within the room
+holds-by : (mode : Mode) (stripe records size : ℕ) → stripe < 64 → records ≤ stripe * mostLayers mode → 64 * mostLayers mode * recordSize ≤ size
+    → (records + mostLayers mode) * recordSize ≤ size
+holds-by One stripe records size f m r = omega arith
 
-pub judged-ok : {A : Type 0} (P : Type 0) (x : Res A) → judgedOf x ≡ Fine → ((v : A) (n : ℕ) → x ≡ ok v n → P) → P
-unfolding judgedOf
-judged-ok P (ok v n) e k = k v n refl
-judged-ok P (no b) e k = clash cc
+more-by : (mode : Mode) (stripe records count : ℕ) → stripe < 64 → records ≤ stripe * mostLayers mode → count ≤ mostLayers mode
+    → (records + count ≤ (stripe + 1) * mostLayers mode) × (records + count < 65536)
+more-by One stripe records count f m c = (omega arith, omega arith)
 
-rows-size : (hd : Head) (left : ℕ) → rowsSize (stripeTable hd left) ≡ 31
-unfolding stripeTable rowsSize
-rows-size hd left = refl
+-- ---- stripe_turn
 
--- ---- stripe_step
+step-no : (x : Res Item) (a : Answer) → stepOf x ≡ Step.Refused a → x ≡ no a
+unfolding stepOf
+step-no (ok skipped e) a q = clash cc
+step-no (ok (striped h rs) e) a q = clash cc
+step-no (no b) a q = let p : b ≡ a = cc in ap no p
 
-module _ (hd : Head) (k left size : ℕ) (s : List ℕ) (at : ℕ) (out : List ℕ) where
-  pub stripe-many : k ≡ 64 → StripeRefused hd k left size s at out (BadStripe (at + 4)) out
-  unfolding stripeFrom
-  stripe-many e = record { same = λ go. simp (eq-eqb k 64 e); kept = refl }
+step-kept : (x : Res Item) (out : List ℕ) (first : ℕ) (a : Answer) → x ≡ no a → laidOf out first x ≡ out
+unfolding laidOf
+step-kept x out first a q = simp q
 
-  module _ (n : k ≡ 64 → ⊥) where
-    pub stripe-long : (size ≡ 37 → ⊥) → StripeRefused hd k left size s at out (BadLength (at + 2)) out
-    unfolding stripeFrom
-    stripe-long d = record { same = λ go. simp (ne-eqb k 64 n, ne-eqb size 37 d); kept = refl }
+record Stepped (x : Res Item) (next height count : ℕ) : Type 0 where
+  it : Item
+  same : x ≡ ok it next
+  told : (records : List Record) (h : ℕ) → it ≡ striped h records → (h ≡ height) × (length records ≡ count)
 
-    module _ (l : size ≡ 37) {j : Judged} (e : j ≡ judgedOf (fields (stripeTable hd left) [] s (at + 8))) where
-      pub stripe-refused : {a : Answer} → j ≡ Judged.Refused a → StripeRefused hd k left size s at out a out
-      unfolding stripeFrom bind
-      stripe-refused z =
+step-ok : (x : Res Item) (next height count : ℕ) → stepOf x ≡ Next next height count → Stepped x next height count
+unfolding stepOf
+step-ok (ok skipped e) next height count q = let p : e ≡ next = cc in record { it = skipped; same = ap (ok skipped) p; told = λ rs h z. clash cc }
+step-ok (ok (striped g ss) e) next height count q =
+    let p : e ≡ next = cc in
+    let p1 : g ≡ height = cc in
+    let p2 : length ss ≡ count = cc in
+    record {
+      it = striped g ss;
+      same = ap (ok (striped g ss)) p;
+      told = λ rs h z. let a : ss ≡ rs = cc in let b : g ≡ h = cc in (sym b ∙ p1, ap length (sym a) ∙ p2);
+    }
+step-ok (no b) next height count q = clash cc
+
+module _ (hd : Head) (p : Place) (body : ℕ) (out s : List ℕ) (r : Ready hd out s p body) where
+  pub turn-room : StripeRoom (hd .rules .mode) out s (p .left) body (p .records)
+  turn-room = record { holds = holds-by (hd .rules .mode) (p .stripe) (p .records) (length out) (r .few) (r .roomy .most) (r .roomy .room); inside = r .inside; small = r .small; low = r .low }
+
+  module _ (t : Step) (e : t ≡ stepOf (stripeIn hd p s body)) (out′ : List ℕ) (f : out′ ≡ laidOf out (p .records) (stripeIn hd p s body)) where
+    pub turn-refused : (a : Answer) → t ≡ Step.Refused a → StripeRefused hd p body s out a out′
+    turn-refused a z =
+        let q = step-no (stripeIn hd p s body) a (sym e ∙ z) in
+        record { same = q; kept = f ∙ step-kept (stripeIn hd p s body) out (p .records) a q }
+
+    module _ (next height count : ℕ) (z : t ≡ Next next height count) where
+      at-step : Stepped (stripeIn hd p s body) next height count
+      at-step = step-ok (stripeIn hd p s body) next height count (sym e ∙ z)
+
+      ended : Ended (hd .rules .mode) (p .left) s body (at-step .it) next
+      ended = ends-by (hd .rules .mode) hd (p .stripe) (p .left) s body (at-step .it) next (r .inside) (at-step .same)
+
+      told : (ended .height ≡ height) × (length (ended .records) ≡ count)
+      told = at-step .told (ended .records) (ended .height) (ended .is)
+
+      read : stripeIn hd p s body ≡ ok (striped (ended .height) (ended .records)) next
+      read = at-step .same ∙ ap (λ (x : Item). ok x next) (ended .is)
+
+      more : (p .records + count ≤ (p .stripe + 1) * mostLayers (hd .rules .mode)) × (p .records + count < 65536)
+      more = more-by (hd .rules .mode) (p .stripe) (p .records) count (r .few) (r .roomy .most) (subst (λ (n : ℕ). n ≤ mostLayers (hd .rules .mode)) (told .1) (ended .most))
+
+      pub turn-low : height ≤ p .left
+      turn-low = let a = told .0 in let b = ended .low in omega arith
+
+      pub turn-fits : Fits w16 (p .stripe + 1)
+      turn-fits = let a = r .few in record { fits = omega arith }
+
+      pub turn-counts : Fits w32 (p .records + count)
+      turn-counts = let a = more .1 in record { fits = omega arith }
+
+      pub turn-passed : StripePassed hd p body s out (record { at = next; stripe = p .stripe + 1; left = p .left - height; records = p .records + count }) out′
+      unfolding laidOf
+      turn-passed =
+          let a = told .0 in
+          let b = told .1 in
+          let c = r .few in
+          let d = r .on in
+          let g = ended .on in
           record {
-            same = λ go. simp (ne-eqb k 64 n, eq-eqb size 37 l, judged-no (fields (stripeTable hd left) [] s (at + 8)) _ (sym e ∙ z));
-            kept = refl;
+            height = ended .height;
+            records = ended .records;
+            same = read;
+            next = omega arith;
+            lower = omega arith;
+            onward =
+                record {
+                  laid = f ∙ ap (laidOf out (p .records)) read;
+                  counted = omega arith;
+                  most = more .0;
+                  few = omega arith;
+                  low = omega arith;
+                  on = omega arith;
+                  inside = ended .inside;
+                };
           }
 
-      -- with the numbers of the fields
-      module _ (o : Octets s) (r : Ready out s k left at) (vs : List ℕ) (m : ℕ) (z : fields (stripeTable hd left) [] s (at + 8) ≡ ok vs m) where
-        abbrev f : Fields
-        f = fieldsFrom vs
-
-        place : m ≡ at + 8 + 31
-        place = let q = fields-end (stripeTable hd left) [] vs s (at + 8) m (r .seen) z .0 in let w = rows-size hd left in omega arith
-
-        inside : at + 8 + 31 ≤ length s
-        inside = let q = fields-end (stripeTable hd left) [] vs s (at + 8) m (r .seen) z .1 in let p = place in omega arith
-
-        uncut-is : f ≡ uncut s (at + 8)
-        uncut-is = fields-uncut hd left s o (at + 8) (r .seen) vs m z
-
-        type-is : f .type ≡ getD s (at + 8) 0
-        type-is = ap (λ (x : Fields). x .type) uncut-is
-
-        mask-is : f .maskLength ≡ be32At s (at + 8 + 27)
-        mask-is = ap (λ (x : Fields). x .maskLength) uncut-is
-
-        height-is : f .height ≡ be32At s (at + 8 + 23)
-        height-is = ap (λ (x : Fields). x .height) uncut-is
-
-        from-fields : (go : ℕ → List Record → ℕ → Res (List Record))
-            → stripeFrom hd k left size s at go ≡ bind (layersOf hd k f s (at + 8 + 31)) (λ (rs : List Record) (e : ℕ). go (f .height) rs e)
-        unfolding stripeFrom bind
-        from-fields go = simp (ne-eqb k 64 n, eq-eqb size 37 l, z) (ap (λ (p : ℕ). bind (layersOf hd k f s p) (λ (rs : List Record) (e : ℕ). go (f .height) rs e)) place)
-
-        abbrev whole : Layers
-        whole = layersAt hd s (at + 8)
-
-        told : layersIn s (hd .main) (f .type) (f .maskLength) (at + 8 + 31) ≡ whole
-        told = ap₂ (λ (t w : ℕ). layersIn s (hd .main) t w (at + 8 + 31)) type-is mask-is
-
-        by-layers : (x : Layers) → whole ≡ x → Striped hd k left size s at out (stepOf s (at + 8) x) (laidOf out s hd k (at + 8) x)
-        unfolding stepOf laidOf bind
-        by-layers (Layers.Refused a) y =
-            record {
-              same = λ go. from-fields go ∙ ap (λ (x : Res (List Record)). bind x (λ (rs : List Record) (e : ℕ). go (f .height) rs e)) (layers-refused hd k f s (at + 8 + 31) a (told ∙ y));
-              kept = refl;
-            }
-        by-layers (Read back fore e) y =
-            let p = layers-parts s (hd .main) (f .type) (f .maskLength) (at + 8 + 31) back fore e (told ∙ y) in
-            let q = layers-after hd k f s (at + 8 + 31) back fore e inside p in
-            let q0 = q .0 in
-            let few = r .few in
-            let g = stripe-good hd left s o (at + 8) (r .seen) vs m z .height .1 in
-            let h = height-is in
-            record {
-              records = recordsOf hd k f (at + 8 + 31) back fore;
-              three = refl;
-              same = λ go.
-                  from-fields go ∙ ap (λ (x : Res (List Record)). bind x (λ (rs : List Record) (e : ℕ). go (f .height) rs e)) (layers-done hd k f s (at + 8 + 31) back fore e p)
-                  ∙ ap (λ (h : ℕ). go h (recordsOf hd k f (at + 8 + 31) back fore) e) height-is;
-              laid =
-                  ap (λ (rs : List Record). putAt out (k * stripeSheet) (sheetOf rs))
-                  (sym
-                  (records-kept hd left s o (at + 8) (r .seen) vs m z k (at + 8 + 31) (p .q) (p .m) e back fore (r .low)
-                  (ap (λ (t : ℕ). walked s (hd .main) (hasBack t) (p .q)) (sym type-is) ∙ p .first)
-                  (ap (λ (t : ℕ). walked s (hd .main) (hasFore t) (p .m)) (sym type-is) ∙ p .second)));
-              counted = omega arith;
-              low = omega arith;
-              on = omega arith;
-              inside = q .1;
-            }
-
-      pub stripe-layered : Octets s → Ready out s k left at → j ≡ Fine → {q : Step} {out′ : List ℕ}
-          → q ≡ stepOf s (at + 8) (layersAt hd s (at + 8))
-          → out′ ≡ laidOf out s hd k (at + 8) (layersAt hd s (at + 8))
-          → Striped hd k left size s at out q out′
-      stripe-layered o r z {q} {out′} g h =
-          judged-ok (Striped hd k left size s at out q out′) (fields (stripeTable hd left) [] s (at + 8)) (sym e ∙ z) λ vs m w.
-          subst₂ (λ (x : Step) (l : List ℕ). Striped hd k left size s at out x l) (sym g) (sym h) (by-layers o r vs m w (whole o r vs m w) refl)
-
-      pub stripe-laying : Ready out s k left at → j ≡ Fine → Laying out s k (at + 8)
-      stripe-laying r z =
-          judged-ok (Laying out s k (at + 8)) (fields (stripeTable hd left) [] s (at + 8)) (sym e ∙ z) λ vs m w.
-          let few = r .few in
-          let room = r .room in
-          let q = fields-end (stripeTable hd left) [] vs s (at + 8) m (r .seen) w in
-          let q0 = q .0 in
-          let q1 = q .1 in
-          let size = rows-size hd left in
-          record { holds = omega arith; whole = omega arith; small = r .small }
-
-pub ruleset stripe-laws = (needs, stripe-many, stripe-long, stripe-refused, stripe-laying)
+pub ruleset turning = (needs, turn-room, turn-refused, turn-low, turn-fits, turn-counts, turn-passed)

@@ -1,129 +1,117 @@
 -- The body of a page read step by step: what each step is promised to come to, in the words of `page_rules`.
 --
---   Laying out s k at        a scratch with room for stripe k, whose fields stand at a place of a page and are whole
---   layersAt hd s at         the layers of a stripe whose fields stand at a place
---   stepOf, laidOf           what they come to, and the scratch afterwards
---   Ready out s k left at    a stripe's ident has been read: what is known before its length is judged
---   Striped ..               a stripe is read with its records, which are laid, or refused, and the scratch is as it was
---   endedOf p                what the body comes to at its first FF D9
---   Standing out s p         reading stands at a place of a page, and the scratch is there
+--   StripeRoom mode out s left at first   a stripe's body stands at a place of a page, and the scratch has room for its records from a number on
+--   Ready hd out s p body    a stripe is due, its body at a place behind that of its segment
+--   Onward ..                reading goes on from another place with these records more, which are laid
 --   StripeTurned ..          a stripe is passed, or the body is refused in it
+--   endedOf p                what the body comes to at its first FF D9
+--   Standing hd out s p      reading stands at a place of a page, and the scratch has room for 64 stripes
+--   bodyAt, behindItem       the body from a place on, and behind an item that was read
 --   Turned ..                a segment is passed, or the body ends or is refused
---   Opened out s             the start of page is fine, and the scratch is there
+--   Opened hd out s from     the start of page is fine and ends there, and the scratch has room
 --   Bodied ..                the body is read with its records, which are laid in front, or refused
 use Prim.Native.Nat.{ℕ, suc, _+_, _-_, _*_, _≤_, _<_}
 use mathlib.Core.Bool.{cond}
 use mathlib.Core.Path.{_≡_}
 use mathlib.Core.List.{List, [], _++_}
-use lib.ListN.{length, getD}
+use lib.ListN.{length}
 use lib.Dec.{eqb}
-use Rattle.octets.specs.Octets.{be32At, putAt}
-use Rattle.page_rules.specs.Kinds.{longestPage, pageSheet, stripeSheet}
+use Rattle.octets.specs.Octets.{putAt}
 use Rattle.answers.specs.declared.Answer.{Answer}
 use Rattle.answers.specs.declared.Answer.the-variants.{BadStripe}
 use Rattle.field_rules.specs.Field.{Res, ok, no}
 use Rattle.sheet_rules.specs.declared.Record.{Record}
-use Rattle.sheet_rules.specs.Record.{sheetOf}
-use Rattle.page_rules.specs.declared.Head.{Head}
-use Rattle.page_rules.specs.Grammar.{recordsOf}
-use Rattle.page_rules.specs.Reading.{stripeFrom, bodyFrom}
-use Rattle.read_layers.specs.Layers.{layersIn}
-use Rattle.read_layers.specs.declared.Layers.{Layers}
-use Rattle.read_layers.specs.declared.Layers.the-variants.{Read}
-use Rattle.read_records.specs.Places.{fieldsAt}
+use Rattle.sheet_rules.specs.Record.{recordSize, sheetOf}
+use Rattle.segment_rules.specs.declared.Mode.{Mode}
+use Rattle.segment_rules.specs.Rules.{mostLayers, longestPage}
+use Rattle.start_rules.specs.declared.Head.{Head}
+use Rattle.body_rules.specs.Body.{Item, striped, onItem, bodyFrom}
+use Rattle.page_rules.specs.Reading.{stripeReadIn, itemOf}
 use Rattle.read_body.specs.declared.Place.{Place}
 use Rattle.read_body.specs.declared.Body.{Body}
-use Rattle.read_body.specs.declared.Body.the-variants.{Stripes}
+use Rattle.read_body.specs.declared.Body.the-variants.{Records}
 use Rattle.read_body.specs.declared.Turn.{Turn}
 use Rattle.read_body.specs.declared.Turn.the-variants.{Go, Stop}
-use Rattle.read_body.specs.declared.Step.{Step}
-use Rattle.read_body.specs.declared.Step.the-variants.{Next}
 
-pub record Laying (out s : List ℕ) (k at : ℕ) : Type 0 where
-  pub holds : k * stripeSheet + stripeSheet ≤ length out
-  pub whole : at + 31 ≤ length s
+-- ---- a stripe
+
+pub record StripeRoom (mode : Mode) (out s : List ℕ) (left at first : ℕ) : Type 0 where
+  pub holds : (first + mostLayers mode) * recordSize ≤ length out
+  pub inside : at ≤ length s
   pub small : length s ≤ longestPage
-
-abbrev pub layersAt : Head → List ℕ → ℕ → Layers
-layersAt hd s at = layersIn s (hd .main) (getD s at 0) (be32At s (at + 27)) (at + 31)
-
-unfoldable pub stepOf : List ℕ → ℕ → Layers → Step
-stepOf s at (Read back fore e) = Next e (be32At s (at + 23))
-stepOf s at (Layers.Refused a) = Step.Refused a
-
-unfoldable pub laidOf : List ℕ → List ℕ → Head → ℕ → ℕ → Layers → List ℕ
-laidOf out s hd k at (Read back fore e) = putAt out (k * stripeSheet) (sheetOf (recordsOf hd k (fieldsAt s at) (at + 31) back fore))
-laidOf out s hd k at (Layers.Refused a) = out
-
-pub record Ready (out s : List ℕ) (k left at : ℕ) : Type 0 where
-  pub seen : at + 8 ≤ length s
-  pub small : length s ≤ longestPage
-  pub few : k ≤ 64
   pub low : left ≤ 65535
-  pub room : length out ≡ pageSheet
 
--- however reading goes on after a stripe, it goes on with this height, these records and this place
-pub record StripeRead (hd : Head) (k left size : ℕ) (s : List ℕ) (at : ℕ) (out : List ℕ) (e height : ℕ) (out′ : List ℕ) : Type 0 where
-  pub records : List Record
-  pub three : length records ≡ 3
-  pub same : (go : ℕ → List Record → ℕ → Res (List Record)) → stripeFrom hd k left size s at go ≡ go height records e
-  pub laid : out′ ≡ putAt out (k * stripeSheet) (sheetOf records)
-  pub counted : k < 64
-  pub low : height ≤ left
-  pub on : at + 8 ≤ e
-  pub inside : e ≤ length s
+-- the scratch has room for 64 stripes, and holds at most so many records of the stripes before
+pub record Roomy (hd : Head) (out : List ℕ) (p : Place) : Type 0 where
+  pub most : p .records ≤ p .stripe * mostLayers (hd .rules .mode)
+  pub room : 64 * mostLayers (hd .rules .mode) * recordSize ≤ length out
 
-pub record StripeRefused (hd : Head) (k left size : ℕ) (s : List ℕ) (at : ℕ) (out : List ℕ) (a : Answer) (out′ : List ℕ) : Type 0 where
-  pub same : (go : ℕ → List Record → ℕ → Res (List Record)) → stripeFrom hd k left size s at go ≡ no a
-  pub kept : out′ ≡ out
+pub record Ready (hd : Head) (out s : List ℕ) (p : Place) (body : ℕ) : Type 0 where
+  pub on : p .at < body
+  pub inside : body ≤ length s
+  pub small : length s ≤ longestPage
+  pub few : p .stripe < 64
+  pub low : p .left ≤ 65535
+  pub roomy : Roomy hd out p
 
-abbrev pub Striped : Head → ℕ → ℕ → ℕ → List ℕ → ℕ → List ℕ → Step → List ℕ → Type 0
-Striped hd k left size s at out (Next e height) out′ = StripeRead hd k left size s at out e height out′
-Striped hd k left size s at out (Step.Refused a) out′ = StripeRefused hd k left size s at out a out′
-
-unfoldable pub endedOf : Place → Body
-endedOf p = cond (eqb (p .stripe) 0) (Body.Refused (BadStripe (p .at))) (Stripes (p .stripe) (p .at + 2))
-
--- reading goes on from another place with these records more, which are laid
-pub record Onward (s : List ℕ) (p : Place) (out : List ℕ) (q : Place) (out′ : List ℕ) (records : List Record) : Type 0 where
-  pub laid : out′ ≡ putAt out (p .stripe * stripeSheet) (sheetOf records)
-  pub counted : p .stripe * 3 + length records ≡ q .stripe * 3
+pub record Onward (hd : Head) (s : List ℕ) (p : Place) (out : List ℕ) (q : Place) (out′ : List ℕ) (records : List Record) : Type 0 where
+  pub laid : out′ ≡ putAt out (p .records * recordSize) (sheetOf records)
+  pub counted : p .records + length records ≡ q .records
+  pub most : q .records ≤ q .stripe * mostLayers (hd .rules .mode)
   pub few : q .stripe ≤ 64
   pub low : q .left ≤ p .left
   pub on : p .at < q .at
   pub inside : q .at ≤ length s
 
-pub record StripePassed (hd : Head) (p : Place) (size : ℕ) (s out : List ℕ) (q : Place) (out′ : List ℕ) : Type 0 where
+abbrev pub stripeIn : Head → Place → List ℕ → ℕ → Res Item
+stripeIn hd p s body = stripeReadIn (hd .rules .mode) hd (p .stripe) (p .left) s body
+
+pub record StripePassed (hd : Head) (p : Place) (body : ℕ) (s out : List ℕ) (q : Place) (out′ : List ℕ) : Type 0 where
+  pub height : ℕ
   pub records : List Record
-  pub onward : Onward s p out q out′ records
-  pub same : (fuel : ℕ) (acc : List Record)
-      → stripeFrom hd (p .stripe) (p .left) size s (p .at) (λ (height : ℕ) (rs : List Record) (e : ℕ). bodyFrom fuel hd (suc (p .stripe)) (p .left - height) (acc ++ rs) s e)
-      ≡ bodyFrom fuel hd (q .stripe) (q .left) (acc ++ records) s (q .at)
+  pub same : stripeIn hd p s body ≡ ok (striped height records) (q .at)
+  pub next : q .stripe ≡ suc (p .stripe)
+  pub lower : q .left ≡ p .left - height
+  pub onward : Onward hd s p out q out′ records
+
+pub record StripeRefused (hd : Head) (p : Place) (body : ℕ) (s out : List ℕ) (a : Answer) (out′ : List ℕ) : Type 0 where
+  pub same : stripeIn hd p s body ≡ no a
+  pub kept : out′ ≡ out
 
 abbrev pub StripeTurned : Head → Place → ℕ → List ℕ → List ℕ → Turn → List ℕ → Type 0
-StripeTurned hd p size s out (Go q) out′ = StripePassed hd p size s out q out′
-StripeTurned hd p size s out (Stop (Body.Refused a)) out′ = StripeRefused hd (p .stripe) (p .left) size s (p .at) out a out′
-StripeTurned hd p size s out (Stop (Stripes count next)) out′ = ⊥
+StripeTurned hd p body s out (Go q) out′ = StripePassed hd p body s out q out′
+StripeTurned hd p body s out (Stop (Body.Refused a)) out′ = StripeRefused hd p body s out a out′
+StripeTurned hd p body s out (Stop (Records count next)) out′ = ⊥
 
-pub record Standing (out s : List ℕ) (p : Place) : Type 0 where
+-- ---- a turn
+
+unfoldable pub endedOf : Place → Body
+endedOf p = cond (eqb (p .stripe) 0) (Body.Refused (BadStripe (p .at))) (Records (p .records) (p .at + 2))
+
+pub record Standing (hd : Head) (out s : List ℕ) (p : Place) : Type 0 where
   pub inside : p .at ≤ length s
   pub small : length s ≤ longestPage
   pub few : p .stripe ≤ 64
   pub low : p .left ≤ 65535
-  pub room : length out ≡ pageSheet
+  pub roomy : Roomy hd out p
 
--- the body from a place on, with so many segments to come at most
+-- with so many segments to come at most
 abbrev pub bodyAt : ℕ → Head → Place → List Record → List ℕ → Res (List Record)
-bodyAt fuel hd p acc s = bodyFrom fuel hd (p .stripe) (p .left) acc s (p .at)
+bodyAt fuel hd p acc s = bodyFrom (itemOf hd) fuel (p .stripe) (p .left) acc s (p .at)
+
+abbrev pub behindItem : ℕ → Head → Place → List Record → List ℕ → Item → ℕ → Res (List Record)
+behindItem fuel hd p acc s it e =
+    onItem it (bodyFrom (itemOf hd) fuel (p .stripe) (p .left) acc s e)
+    (λ (height : ℕ) (rs : List Record). bodyFrom (itemOf hd) fuel (suc (p .stripe)) (p .left - height) (acc ++ rs) s e)
 
 pub record Passed (hd : Head) (p : Place) (s out : List ℕ) (q : Place) (out′ : List ℕ) : Type 0 where
   pub records : List Record
-  pub onward : Onward s p out q out′ records
+  pub onward : Onward hd s p out q out′ records
   pub same : (fuel : ℕ) (acc : List Record) → bodyAt (suc fuel) hd p acc s ≡ bodyAt fuel hd q (acc ++ records) s
 
 pub record Over (hd : Head) (p : Place) (s out : List ℕ) (count next : ℕ) (out′ : List ℕ) : Type 0 where
   pub same : (fuel : ℕ) (acc : List Record) → bodyAt (suc fuel) hd p acc s ≡ ok acc next
-  pub counted : count ≡ p .stripe
+  pub counted : count ≡ p .records
   pub inside : next ≤ length s
   pub kept : out′ ≡ out
 
@@ -133,22 +121,28 @@ pub record BodyRefused (hd : Head) (p : Place) (s out : List ℕ) (a : Answer) (
 
 abbrev pub Turned : Head → Place → List ℕ → List ℕ → Turn → List ℕ → Type 0
 Turned hd p s out (Go q) out′ = Passed hd p s out q out′
-Turned hd p s out (Stop (Stripes count next)) out′ = Over hd p s out count next out′
+Turned hd p s out (Stop (Records count next)) out′ = Over hd p s out count next out′
 Turned hd p s out (Stop (Body.Refused a)) out′ = BodyRefused hd p s out a out′
 
-pub record Opened (out s : List ℕ) : Type 0 where
-  pub long : 22 ≤ length s
-  pub small : length s ≤ longestPage
-  pub room : length out ≡ pageSheet
+-- ---- the body
 
-pub record BodyRead (hd : Head) (s out : List ℕ) (count next : ℕ) (out′ : List ℕ) : Type 0 where
+pub record Opened (hd : Head) (out s : List ℕ) (from : ℕ) : Type 0 where
+  pub begun : 0 < from
+  pub inside : from ≤ length s
+  pub small : length s ≤ longestPage
+  pub room : 64 * mostLayers (hd .rules .mode) * recordSize ≤ length out
+
+abbrev pub wholeBody : Head → List ℕ → ℕ → Res (List Record)
+wholeBody hd s from = bodyFrom (itemOf hd) (length s) 0 65535 [] s from
+
+pub record BodyRead (hd : Head) (s : List ℕ) (from : ℕ) (out : List ℕ) (count next : ℕ) (out′ : List ℕ) : Type 0 where
   pub records : List Record
-  pub same : bodyFrom (length s) hd 0 65535 [] s 22 ≡ ok records next
+  pub same : wholeBody hd s from ≡ ok records next
   pub laid : out′ ≡ putAt out 0 (sheetOf records)
-  pub counted : count * 3 ≡ length records
-  pub few : count ≤ 64
+  pub counted : count ≡ length records
+  pub fits : count * recordSize ≤ length out
   pub inside : next ≤ length s
 
-abbrev pub Bodied : Head → List ℕ → List ℕ → Body → List ℕ → Type 0
-Bodied hd s out (Stripes count next) out′ = BodyRead hd s out count next out′
-Bodied hd s out (Body.Refused a) out′ = bodyFrom (length s) hd 0 65535 [] s 22 ≡ no a
+abbrev pub Bodied : Head → List ℕ → ℕ → List ℕ → Body → List ℕ → Type 0
+Bodied hd s from out (Records count next) out′ = BodyRead hd s from out count next out′
+Bodied hd s from out (Body.Refused a) out′ = wholeBody hd s from ≡ no a

@@ -1,24 +1,31 @@
-// The body of a page, segment by segment: optional segments, stripes and the end. The records of each stripe are laid where all of it is read.
+// The body of a page, segment by segment: optional segments, stripes and the end (`bodyFrom` of `body_rules`). What a stripe is, its mode says: nothing here
+// knows how many records it has or how long it is.
 ghost use mathlib.Core.Path.{_≡_};
 ghost use Prim.Native.Nat.{_≤_};
-ghost use Rattle.page_rules.specs.Kinds.{longestPage};
-ghost use Rattle.read_body.specs.Steps.{Laying, layersAt, stepOf, laidOf, Ready, Striped, endedOf, StripeTurned, Standing, Turned, Opened, Bodied};
+ghost use Rattle.segment_rules.specs.Rules.{longestPage};
+ghost use Rattle.page_rules.specs.Grammar.{bodyIn};
+ghost use Rattle.page_rules.specs.Reading.{stripeReadIn};
+ghost use Rattle.read_stripe.specs.Steps.{stepOf, laidOf};
+ghost use Rattle.read_body.specs.Steps.{StripeRoom, Ready, endedOf, StripeTurned, Standing, Turned, Opened, Bodied};
 use answers::Answer;
-use page_rules::Head;
-use read_field::Judged;
-use read_layers::Layers;
+use mode1_rules::STRIPE_BODY;
 use read_segment::Segment;
+use read_stripe::Step;
+use segment_rules::EOI;
+use segment_rules::Mode;
+use start_rules::Head;
 
-// Where reading the body stands: the place, the number of the stripe that may come, and how much of the page's height is left.
+// Where reading the body stands: the place, the number of the stripe that may come, how much of the page's height is left, and how many records are laid.
 pub struct Place {
     pub at: u32,
     pub stripe: u16,
     pub left: u32,
+    pub records: u32,
 }
 
-// What the body comes to: how many stripes it has, and the place after its first FF D9; or why it is refused.
+// What the body comes to: how many records it has, and the place after its first FF D9; or why it is refused.
 pub enum Body {
-    Stripes { count: u16, next: u32 },
+    Records { count: u32, next: u32 },
     Refused(Answer),
 }
 
@@ -28,44 +35,45 @@ pub enum Turn {
     Stop(Body),
 }
 
-// What a stripe comes to: the place after it and its height, or why it is refused.
-pub enum Step {
-    Next { next: u32, height: u32 },
-    Refused(Answer),
-}
-
-// The layers of stripe k, whose fields stand at `at` and are fine; its records are laid where all of it is read.
-fn stripe_layers(out: &mut [u8], s: &[u8], hd: Head, k: u16, at: u32) -> Step
-    requires { ⌜ Laying (now out) (now s) k at ⌝ }
-    ensures step { λ r. ⌜ r ≡ stepOf (now (s .entry)) at (layersAt hd (now (s .entry)) at) ⌝ }
-    ensures laid { λ _. ⌜ now (out .exit) ≡ laidOf (now (out .entry)) (now (s .entry)) hd k at (layersAt hd (now (s .entry)) at) ⌝ }
+// The octets of a stripe's own body.
+fn stripe_body(mode: Mode) -> u16
+    ensures { λ r. ⌜ r ≡ bodyIn mode ⌝ }
 {
-    let t = read_field::octet(s, at);
-    let mask = read_field::four(s, at + 27);
-    let height = read_field::four(s, at + 23);
-    match read_layers::read_layers(s, hd.main, t, mask, at + 31) {
-        Layers::Refused(a) => Step::Refused(a),
-        Layers::Read { back, fore, next } => {
-            read_records::put_stripe(out, s, hd, k, at, back, fore);
-            Step::Next { next, height }
-        }
+    match mode {
+        Mode::One => STRIPE_BODY,
     }
 }
 
-// A stripe whose ident has been read: the 65th is faulted there, then comes the length, then the fields, then the layers.
-fn stripe_step(out: &mut [u8], s: &[u8], hd: Head, k: u16, left: u32, at: u32, size: u16) -> Step
-    requires { ⌜ Ready (now out) (now s) k left at ⌝ }
-    ensures { λ r. ⌜ Striped hd k left size (now (s .entry)) at (now (out .entry)) r (now (out .exit)) ⌝ }
+// Stripe k from its body on, by the mode.
+fn stripe_step(out: &mut [u8], s: &[u8], hd: Head, k: u16, left: u32, at: u32, first: u32) -> Step
+    requires { ⌜ StripeRoom (hd .rules .mode) (now out) (now s) left at first ⌝ }
+    ensures step { λ r. ⌜ r ≡ stepOf (stripeReadIn (hd .rules .mode) hd k left (now (s .entry)) at) ⌝ }
+    ensures laid { λ _. ⌜ now (out .exit) ≡ laidOf (now (out .entry)) first (stripeReadIn (hd .rules .mode) hd k left (now (s .entry)) at) ⌝ }
 {
-    if k == 64 {
-        return Step::Refused(Answer::BadStripe(at + 4));
+    let rules = hd.rules;
+    let mode = rules.mode;
+    match mode {
+        Mode::One => read_stripe::read_stripe(out, s, hd, k, left, at, first),
     }
-    if size != 37 {
-        return Step::Refused(Answer::BadLength(at + 2));
-    }
-    match read_head::judge_stripe(s, hd, left, at + 8) {
-        Judged::Refused(a) => Step::Refused(a),
-        Judged::Fine => stripe_layers(out, s, hd, k, at + 8),
+}
+
+// A stripe whose body stands at `body`.
+fn stripe_turn(out: &mut [u8], s: &[u8], hd: Head, p: Place, body: u32) -> Turn
+    requires { ⌜ Ready hd (now out) (now s) p body ⌝ }
+    ensures { λ r. ⌜ StripeTurned hd p body (now (s .entry)) (now (out .entry)) r (now (out .exit)) ⌝ }
+{
+    match stripe_step(out, s, hd, p.stripe, p.left, body, p.records) {
+        Step::Refused(a) => Turn::Stop(Body::Refused(a)),
+        Step::Next {
+            next,
+            height,
+            records,
+        } => Turn::Go(Place {
+            at: next,
+            stripe: p.stripe + 1,
+            left: p.left - height,
+            records: p.records + records,
+        }),
     }
 }
 
@@ -77,52 +85,49 @@ fn body_end(p: Place) -> Body
     if p.stripe == 0 {
         return Body::Refused(Answer::BadStripe(p.at));
     }
-    Body::Stripes {
-        count: p.stripe,
+    Body::Records {
+        count: p.records,
         next: p.at + 2,
     }
 }
 
-fn stripe_turn(out: &mut [u8], s: &[u8], hd: Head, p: Place, size: u16) -> Turn
-    requires { ⌜ Ready (now out) (now s) (p .stripe) (p .left) (p .at) ⌝ }
-    ensures { λ r. ⌜ StripeTurned hd p size (now (s .entry)) (now (out .entry)) r (now (out .exit)) ⌝ }
-{
-    match stripe_step(out, s, hd, p.stripe, p.left, p.at, size) {
-        Step::Refused(a) => Turn::Stop(Body::Refused(a)),
-        Step::Next { next, height } => Turn::Go(Place {
-            at: next,
-            stripe: p.stripe + 1,
-            left: p.left - height,
-        }),
-    }
-}
-
-// A segment of the body: the end, a stripe or an optional segment.
+// What stands at the place: the end, a stripe or an optional segment.
 fn body_turn(out: &mut [u8], s: &[u8], hd: Head, p: Place) -> Turn
-    requires { ⌜ Standing (now out) (now s) p ⌝ }
+    requires { ⌜ Standing hd (now out) (now s) p ⌝ }
     ensures { λ r. ⌜ Turned hd p (now (s .entry)) (now (out .entry)) r (now (out .exit)) ⌝ }
 {
-    match read_segment::segment_at(s, p.stripe as u32, p.at) {
-        Segment::End => Turn::Stop(body_end(p)),
-        Segment::Refused(a) => Turn::Stop(Body::Refused(a)),
-        Segment::Optional { next } => Turn::Go(Place {
-            at: next,
-            stripe: p.stripe,
-            left: p.left,
-        }),
-        Segment::Stripe { size } => stripe_turn(out, s, hd, p, size),
+    if read_field::fits(s, p.at, 2) {
+        if octets::stands_at(s, p.at as usize, &EOI) {
+            return Turn::Stop(body_end(p));
+        }
+        let rules = hd.rules;
+        let version = rules.version;
+        let mode = rules.mode;
+        match read_segment::segment_at(s, version, p.stripe, stripe_body(mode), p.at) {
+            Segment::Refused(a) => Turn::Stop(Body::Refused(a)),
+            Segment::Optional { next } => Turn::Go(Place {
+                at: next,
+                stripe: p.stripe,
+                left: p.left,
+                records: p.records,
+            }),
+            Segment::Stripe { body } => stripe_turn(out, s, hd, p, body),
+        }
+    } else {
+        Turn::Stop(Body::Refused(Answer::Short(p.at)))
     }
 }
 
-// Each turn passes eight octets at least, so that the loop ends.
-pub fn read_body(out: &mut [u8], s: &[u8], hd: Head) -> Body
-    requires { ⌜ Opened (now out) (now s) ⌝ }
-    ensures { λ r. ⌜ Bodied hd (now (s .entry)) (now (out .entry)) r (now (out .exit)) ⌝ }
+// From behind the start of page on. Each turn passes eight octets at least, so that the loop ends.
+pub fn read_body(out: &mut [u8], s: &[u8], hd: Head, from: u32) -> Body
+    requires { ⌜ Opened hd (now out) (now s) from ⌝ }
+    ensures { λ r. ⌜ Bodied hd (now (s .entry)) from (now (out .entry)) r (now (out .exit)) ⌝ }
 {
     let mut p = Place {
-        at: 22,
+        at: from,
         stripe: 0,
         left: 65535,
+        records: 0,
     };
     loop {
         match body_turn(out, s, hd, p) {

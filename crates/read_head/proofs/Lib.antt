@@ -1,1 +1,2 @@
 pub mod Stripe
+pub mod Kept

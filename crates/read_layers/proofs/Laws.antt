@@ -23,10 +23,12 @@ use Rattle.jpeg_rules.specs.declared.Walk.the-variants.{Ends}
 use Rattle.jpeg_rules.specs.Walk.{walkOf}
 use Rattle.jpeg_rules.proofs.Within.{walk-within, placeOf as placeOfFault}
 use Rattle.jpeg_walk.proofs.Ahead.{Reaches, walk-inside}
-use Rattle.page_rules.specs.declared.LayerData.{LayerData}
-use Rattle.page_rules.specs.declared.LayerData.the-variants.{There, Absent}
-use Rattle.page_rules.specs.Kinds.{hasBack, hasFore, longestPage}
-use Rattle.page_rules.specs.Reading.{spanOf, faultOf, onWalk, walked}
+use Rattle.field_rules.specs.Part.{spanOf}
+use Rattle.segment_rules.specs.Rules.{longestPage}
+use Rattle.mode1_rules.specs.declared.LayerData.{LayerData}
+use Rattle.mode1_rules.specs.declared.LayerData.the-variants.{There, Absent}
+use Rattle.mode1_rules.specs.Kinds.{hasBack, hasFore}
+use Rattle.mode1_rules.specs.Reading.{faultOf, onWalk, walked}
 use Rattle.read_layers.specs.declared.Layer.{Layer}
 use Rattle.read_layers.specs.declared.Layer.the-variants.{Known}
 use Rattle.read_layers.specs.declared.Layers.{Layers}

@@ -8,9 +8,11 @@ use Prim.Native.Nat.{ℕ, _≤_}
 use mathlib.Core.List.{List}
 use lib.ListN.{length}
 use Rattle.field_rules.specs.Field.{Res, ok, no}
-use Rattle.page_rules.specs.declared.LayerData.{LayerData}
-use Rattle.page_rules.specs.Kinds.{hasBack, hasFore, longestPage}
-use Rattle.page_rules.specs.Reading.{spanOf, walked}
+use Rattle.field_rules.specs.Part.{spanOf}
+use Rattle.segment_rules.specs.Rules.{longestPage}
+use Rattle.mode1_rules.specs.declared.LayerData.{LayerData}
+use Rattle.mode1_rules.specs.Kinds.{hasBack, hasFore}
+use Rattle.mode1_rules.specs.Reading.{walked}
 use Rattle.read_layers.specs.declared.Layer.{Layer}
 use Rattle.read_layers.specs.declared.Layer.the-variants.{Known}
 use Rattle.read_layers.specs.declared.Layers.{Layers}

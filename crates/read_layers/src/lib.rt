@@ -2,13 +2,13 @@
 ghost use mathlib.Core.Path.{_≡_};
 ghost use Prim.Native.Nat.{_+_, _≤_};
 ghost use Rattle.answers.specs.Answers.{placeOf};
-ghost use Rattle.page_rules.specs.Reading.{faultOf, walked};
-ghost use Rattle.page_rules.specs.Kinds.{longestPage};
+ghost use Rattle.segment_rules.specs.Rules.{longestPage};
+ghost use Rattle.mode1_rules.specs.Reading.{faultOf, walked};
 ghost use Rattle.read_layers.specs.Layers.{Inside, layerOf, foreOf, layersIn};
 use answers::Answer;
 use jpeg_rules::Fault;
 use jpeg_rules::Walk;
-use page_rules::LayerData;
+use mode1_rules::LayerData;
 
 // An image layer, or none where the type names none, and the place after it; or why it is refused.
 pub enum Layer {

@@ -10,32 +10,32 @@ use lib.Dec.{ltb}
 use borrow.Author.Needs.{needs}
 use borrow.Author.Tests.{lt-ltb, le-ltb}
 use Rattle.laws.proofs.Cases.{clash}
-use Rattle.octets.specs.Octets.{Octets, putAt}
+use Rattle.octets.specs.Octets.{putAt}
 use Rattle.octets.proofs.Laws.{put-back, put-length}
 use Rattle.octets.proofs.Entries.{joined-length}
-use Rattle.page_rules.specs.Kinds.{longestPage, pageSheet, stripeSheet}
-use Rattle.sheet_rules.proofs.Cut.{record-entry}
 use Rattle.answers.specs.declared.Answer.{Answer}
 use Rattle.answers.specs.declared.Answer.the-variants.{Done, NoRoom, TooLong}
 use Rattle.field_rules.specs.Field.{Res, ok, no, bind, fields}
-use Rattle.field_rules.proofs.Refused.{rowsSize, fields-end}
+use Rattle.sheet_rules.proofs.Cut.{record-entry}
 use Rattle.sheet_rules.specs.declared.Record.{Record}
-use Rattle.sheet_rules.specs.Record.{sheetOf, recordSize}
-use Rattle.page_rules.specs.declared.Head.{Head}
-use Rattle.page_rules.specs.Reading.{startTable, zerosOf, endTable, pageOf, roomOf, readOf, intoOf, readInto, Reads}
+use Rattle.sheet_rules.specs.Record.{recordSize, sheetOf}
+use Rattle.segment_rules.specs.Rules.{longestPage}
+use Rattle.start_rules.specs.declared.Head.{Head}
+use Rattle.start_rules.specs.Reading.{startTable, startRead}
+use Rattle.page_rules.specs.Reading.{zerosOf, endTable, pageOf, roomOf, readOf, intoOf, readInto, Reads}
 use Rattle.read_field.specs.declared.Judged.the-variants.{Fine}
 use Rattle.read_field.specs.declared.Judged.{Judged}
 use Rattle.read_field.specs.Judged.{judgedOf}
-use Rattle.read_segment.specs.Ends.{closeOf}
+use Rattle.read_field.proofs.Views.{judged-no, judged-ok}
+use Rattle.read_end.specs.Ends.{closeOf}
 use Rattle.read_start.specs.Start.{headAt}
+use Rattle.read_start.proofs.Kept.{start-end, head-kept}
 use Rattle.read_body.specs.declared.Body.{Body}
-use Rattle.read_body.specs.declared.Body.the-variants.{Stripes}
+use Rattle.read_body.specs.declared.Body.the-variants.{Records}
+use Rattle.read_body.specs.Steps.{Opened, BodyRead, Bodied}
 use Rattle.read_page.specs.declared.Verdict.{Verdict}
 use Rattle.read_page.specs.declared.Verdict.the-variants.{Sheet}
-use Rattle.read_page.specs.Steps.{Lent, restOf, PageRead, Judges, Emits}
-use Rattle.read_body.specs.Steps.{Opened, BodyRead, Bodied}
-use Rattle.read_body.proofs.Kept.{head-kept}
-use Rattle.read_body.proofs.Stripe.{judged-no, judged-ok}
+use Rattle.read_page.specs.Steps.{Lent, Begun, restOf, PageRead, Judges, Emits}
 
 -- ---- judge_rest
 
@@ -68,13 +68,17 @@ module _ {A : Type 0} (s : List ℕ) (m : ℕ) (rs : A) where
   unfolding closeOf
   end-fine P q k = end-ok P (fields endTable [] s m) q k
 
-module _ (hd : Head) (s out out′ : List ℕ) (h : hd ≡ headAt s) (b : Body) (t : Bodied hd s out b out′) where
+pub rest-opened : (out s : List ℕ) (hd : Head) → Begun out s → hd ≡ headAt s → Opened hd out s 22
+rest-opened out s hd b h =
+    let r = b .lent .room in subst (λ (x : Head). Opened x out s 22) (sym h) (record { begun = omega arith; inside = b .long; small = b .lent .small; room = omega arith })
+
+module _ (hd : Head) (s out out′ : List ℕ) (h : hd ≡ headAt s) (b : Body) (t : Bodied hd s 22 out b out′) where
   pub rest-stopped : (a : Answer) → b ≡ Body.Refused a → restOf (headAt s) s ≡ no a
   unfolding restOf bind
   rest-stopped a e = let q = rw e at t in subst (λ (x : Head). restOf x s ≡ no a) h (simp q)
 
-  module _ (count next : ℕ) (e : b ≡ Stripes count next) (j : Judged) (y : j ≡ closeOf s next) where
-    read : BodyRead hd s out count next out′
+  module _ (count next : ℕ) (e : b ≡ Records count next) (j : Judged) (y : j ≡ closeOf s next) where
+    read : BodyRead hd s 22 out count next out′
     read = rw e at t
 
     pub rest-refused : (a : Answer) → j ≡ Judged.Refused a → restOf (headAt s) s ≡ no a
@@ -86,54 +90,42 @@ module _ (hd : Head) (s out out′ : List ℕ) (h : hd ≡ headAt s) (b : Body) 
     rest-fine z =
         end-fine s next (read .records) (PageRead (restOf (headAt s) s) out count out′) (sym y ∙ z) λ n q.
         subst (λ (x : Head). PageRead (restOf x s) out count out′) h
-        (record { records = read .records; end = n; same = simp (read .same) q; laid = read .laid; counted = read .counted; few = read .few })
+        (record { records = read .records; end = n; same = simp (read .same) q; laid = read .laid; counted = read .counted; fits = read .fits })
 
-pub ruleset resting = (needs, rest-stopped, rest-refused, rest-fine)
+pub ruleset resting = (needs, rest-opened, rest-stopped, rest-refused, rest-fine)
 
 -- ---- judge_page
 
-start-size : rowsSize startTable ≡ 22
-unfolding startTable rowsSize
-start-size = refl
-
 module _ (s : List ℕ) {j : Judged} (e : j ≡ judgedOf (fields startTable [] s 0)) where
   pub page-refused : (a : Answer) → j ≡ Judged.Refused a → pageOf s ≡ no a
-  unfolding pageOf bind
+  unfolding pageOf startRead bind
   page-refused a z = simp (judged-no (fields startTable [] s 0) a (sym e ∙ z))
 
-  pub page-opened : (out : List ℕ) → Lent out s → j ≡ Fine → Opened out s
-  page-opened out l z =
-      judged-ok (Opened out s) (fields startTable [] s 0) (sym e ∙ z) λ vs n q.
-      let f = fields-end startTable [] vs s 0 n (omega arith) q in
-      let f0 = f .0 in
-      let f1 = f .1 in
-      let w = start-size in
-      record { long = omega arith; small = l .small; room = l .room }
+  pub page-begun : (out : List ℕ) → Lent out s → j ≡ Fine → Begun out s
+  page-begun out l z = judged-ok (Begun out s) (fields startTable [] s 0) (sym e ∙ z) λ vs n q. record { long = start-end s vs n q .1; lent = l }
 
-  page-rest : Octets s → j ≡ Fine → pageOf s ≡ restOf (headAt s) s
-  unfolding pageOf restOf bind
-  page-rest o z =
+  page-rest : j ≡ Fine → pageOf s ≡ restOf (headAt s) s
+  unfolding pageOf startRead restOf bind
+  page-rest z =
       judged-ok (pageOf s ≡ restOf (headAt s) s) (fields startTable [] s 0) (sym e ∙ z) λ vs n q.
-      let f0 = fields-end startTable [] vs s 0 n (omega arith) q .0 in
-      let w = start-size in
-      let p : n ≡ 22 = omega arith in
-      simp q (rw (p, head-kept s o vs n q) refl)
+      let p = start-end s vs n q .0 in
+      simp q (rw (p, head-kept s vs n q) refl)
 
-  pub page-whole : Octets s → (out out′ : List ℕ) (r : Verdict) → j ≡ Fine → Judges (restOf (headAt s) s) out r out′ → Judges (pageOf s) out r out′
-  page-whole o out out′ r z t = subst (λ (x : Res (List Record)). Judges x out r out′) (sym (page-rest o z)) t
+  pub page-whole : (out out′ : List ℕ) (r : Verdict) → j ≡ Fine → Judges (restOf (headAt s) s) out r out′ → Judges (pageOf s) out r out′
+  page-whole out out′ r z t = subst (λ (x : Res (List Record)). Judges x out r out′) (sym (page-rest z)) t
 
-pub ruleset opening = (needs, page-refused, page-opened)
+pub ruleset opening = (needs, page-refused, page-begun, page-whole)
 
 -- ---- emit
-module _ (laid : List ℕ) (stripes : ℕ) (d : List ℕ) (size : ℕ) (e : size ≡ stripes * stripeSheet) where
-  pub emit-none : length d < size → Emits laid stripes d NoRoom d
-  emit-none l = record { answers = simp (lt-ltb (length d) (stripes * stripeSheet) (omega arith)); holds = simp (lt-ltb (length d) (stripes * stripeSheet) (omega arith)) }
+module _ (laid : List ℕ) (count : ℕ) (d : List ℕ) (size : ℕ) (e : size ≡ count * recordSize) where
+  pub emit-none : length d < size → Emits laid count d NoRoom d
+  emit-none l = record { answers = simp (lt-ltb (length d) (count * recordSize) (omega arith)); holds = simp (lt-ltb (length d) (count * recordSize) (omega arith)) }
 
-  pub emit-all : size ≤ length d → (d′ : List ℕ) → d′ ≡ putAt d 0 (take size (drop 0 laid)) → Emits laid stripes d (Done (stripes * 3)) d′
+  pub emit-all : size ≤ length d → (d′ : List ℕ) → d′ ≡ putAt d 0 (take size (drop 0 laid)) → Emits laid count d (Done count) d′
   emit-all l d′ h =
       record {
-        answers = simp (le-ltb (length d) (stripes * stripeSheet) (omega arith));
-        holds = h ∙ rw e (simp (le-ltb (length d) (stripes * stripeSheet) (omega arith)));
+        answers = simp (le-ltb (length d) (count * recordSize) (omega arith));
+        holds = h ∙ rw e (simp (le-ltb (length d) (count * recordSize) (omega arith)));
       }
 
 pub ruleset emitting = (needs, emit-none, emit-all)
@@ -149,41 +141,37 @@ module _ (s d : List ℕ) where
     unfolding readOf readInto roomOf intoOf
     read-bad a e = let q = rw e at t in record { answers = simp (le-ltb longestPage (length s) l, q); holds = simp (le-ltb longestPage (length s) l, q) }
 
-    module _ (r : length out ≡ pageSheet) (stripes : ℕ) (e : v ≡ Sheet stripes) where
-      j : PageRead (pageOf s) out stripes out′
+    module _ (count : ℕ) (e : v ≡ Sheet count) where
+      j : PageRead (pageOf s) out count out′
       j = rw e at t
 
-      size-is : length (j .records) * recordSize ≡ stripes * stripeSheet
-      size-is = let c = j .counted in omega arith
+      octets-are : length (sheetOf (j .records)) ≡ count * recordSize
+      octets-are = joined-length record-entry (j .records) ∙ ap (λ (n : ℕ). n * recordSize) (sym (j .counted))
 
-      octets-are : length (sheetOf (j .records)) ≡ stripes * stripeSheet
-      octets-are = joined-length record-entry (j .records) ∙ size-is
-
-      laid-is : take (stripes * stripeSheet) out′ ≡ sheetOf (j .records)
+      laid-is : take (count * recordSize) out′ ≡ sheetOf (j .records)
       laid-is =
-          ap (take (stripes * stripeSheet)) (j .laid) ∙ ap (λ (k : ℕ). take k (putAt out 0 (sheetOf (j .records)))) (sym octets-are)
+          ap (take (count * recordSize)) (j .laid) ∙ ap (λ (k : ℕ). take k (putAt out 0 (sheetOf (j .records)))) (sym octets-are)
           ∙ put-back out 0 (sheetOf (j .records)) (omega arith)
 
-      pub read-laid : stripes * stripeSheet ≤ length out′
+      pub read-laid : count * recordSize ≤ length out′
       read-laid =
-          let f = j .few in
+          let f = j .fits in
           let o = octets-are in
           let n = ap length (j .laid) ∙ put-length out 0 (sheetOf (j .records)) (omega arith) in
           omega arith
 
-      pub read-emits : (a : Answer) (d′ : List ℕ) → Emits out′ stripes d a d′ → Reads s d a d′
+      pub read-emits : (a : Answer) (d′ : List ℕ) → Emits out′ count d a d′ → Reads s d a d′
       unfolding readOf readInto roomOf intoOf
       read-emits a d′ m =
           record {
             answers =
                 m .answers
-                ∙ sym
-                (simp (le-ltb longestPage (length s) l, j .same) (ap₂ (λ (x y : ℕ). cond (ltb (length d) x) NoRoom (Done y)) size-is (sym (j .counted))));
+                ∙ sym (simp (le-ltb longestPage (length s) l, j .same) (ap (λ (n : ℕ). cond (ltb (length d) (n * recordSize)) NoRoom (Done n)) (sym (j .counted))));
             holds =
                 m .holds
                 ∙ sym
                 (simp (le-ltb longestPage (length s) l, j .same)
-                (ap₂ (λ (x : ℕ) (o : List ℕ). cond (ltb (length d) x) d (putAt d 0 o)) size-is (sym laid-is)));
+                (ap₂ (λ (n : ℕ) (o : List ℕ). cond (ltb (length d) (n * recordSize)) d (putAt d 0 o)) (sym (j .counted)) (sym laid-is)));
           }
 
 pub ruleset reading = (needs, read-long, read-bad, read-laid, read-emits)

@@ -1,2 +1,2 @@
 pub mod Segments
-pub mod End
+pub mod Views

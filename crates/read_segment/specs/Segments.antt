@@ -1,26 +1,35 @@
--- A segment after the start of page, as the caller of its reader sees it.
+-- A segment behind the start of page, as the caller of its reader sees it.
 --
---   optionalAt k s at      an ident that an optional segment has, before stripe k
---   identOf k s at size    what the ident at a place makes of a segment of such a length
---   lengthOf k s at        the same, from its length on
---   segmentOf k s at       the end, or a segment by the table `segmentTable`
+--   viewOf r               what the reading of a segment comes to: a stripe and the place of its body, or an optional segment and the place after it
+--   optionalAt k s at      an ident that an optional segment has, behind k stripes
+--   onSpan r               a body that is passed over
+--   stripeAt k body at size   a stripe whose ident stands at a place: the 65th, and its length
+--   identOf k body s at size  what the ident at a place makes of a segment of such a length
+--   lengthOf v k body s at    the same, from its length on
 use Prim.Native.Nat.{ℕ, _+_, _-_, _≤_}
-use mathlib.Core.Bool.{Bool, _&&_, cond}
+use mathlib.Core.Bool.{Bool, _&&_, not, cond}
 use mathlib.Core.List.{List, [], _∷_}
-use lib.ListN.{length, getD}
-use lib.Dec.{leb, ltb, eqb}
+use lib.ListN.{getD}
+use lib.Dec.{leb, eqb}
 use Rattle.octets.specs.Octets.{standsAt}
-use Rattle.page_rules.specs.Kinds.{longestPage}
-use Rattle.answers.specs.declared.Answer.the-variants.{Short, BadMark, BadLength}
-use Rattle.field_rules.specs.Field.{Res, ok, no, one, two, Field, val, fields}
-use Rattle.page_rules.specs.Reading.{is, identOk, mrc, segmentTable, spanOf}
+use Rattle.answers.specs.declared.Answer.the-variants.{BadMark, BadLength, BadStripe}
+use Rattle.field_rules.specs.Field.{Res, ok, no, bind, one, two, Field, val, again, fields, is}
+use Rattle.segment_rules.specs.declared.Version.{Version}
+use Rattle.segment_rules.specs.Rules.{longestPage}
+use Rattle.segment_rules.specs.Segment.{Due, lengthOk, mrc, sizeIn, identIn, behindOf}
+use Rattle.page_rules.specs.Reading.{dueWith}
 use Rattle.read_segment.specs.declared.Segment.{Segment}
-use Rattle.read_segment.specs.declared.Segment.the-variants.{End, Stripe, Optional, Refused}
+use Rattle.read_segment.specs.declared.Segment.the-variants.{Stripe, Optional, Refused}
 
 -- an ident is due here, after a length that is long enough
 pub record Behind (at size : ℕ) : Type 0 where
+  pub far : 2 ≤ at
   pub near : at ≤ longestPage + 4
   pub long : 6 ≤ size
+
+unfoldable pub viewOf : Res ℕ → Segment
+viewOf (ok n e) = cond (eqb n 0x01) (Stripe e) (Optional e)
+viewOf (no a) = Refused a
 
 unfoldable pub optionalAt : ℕ → List ℕ → ℕ → Bool
 optionalAt k s at = standsAt s at (0x4D ∷ 0x52 ∷ 0x43 ∷ []) && (eqb k 0 && (leb 3 (getD s (at + 3) 0) && leb (getD s (at + 3) 0) 0xFE))
@@ -29,28 +38,24 @@ unfoldable pub onSpan : Res ℕ → Segment
 onSpan (ok m e) = Optional e
 onSpan (no a) = Refused a
 
--- the numbers are the length and the four octets of the ident
-unfoldable pub onRead : List ℕ → Res (List ℕ) → Segment
-unfolding onSpan
-onRead s (ok vs n) = cond (eqb (getD vs 4 0) 0x01) (Stripe (getD vs 0 0)) (onSpan (spanOf s n (getD vs 0 0 - 6)))
-onRead s (no a) = Refused a
+unfoldable pub stripeAt : ℕ → ℕ → ℕ → ℕ → Segment
+stripeAt k body at size = cond (eqb k 64) (Refused (BadStripe at)) (cond (eqb (size - 6) body) (Stripe (at + 4)) (Refused (BadLength (at - 2))))
 
--- the table of `segmentTable`, from the length and from the ident on
-abbrev pub identField : ℕ → Field
-identField k = val (one ∷ one ∷ one ∷ one ∷ []) (mrc (identOk k)) BadMark
+-- ---- the rows of `openTable` from the ident and from the length on, and the body
 
-abbrev pub lengthField : Field
-lengthField = val (two ∷ []) (is (leb 6)) BadLength
+abbrev pub identRows : Due → List Field
+identRows due = val (one ∷ one ∷ one ∷ one ∷ []) (mrc (due .may)) BadMark ∷ again 4 (λ (vs : List ℕ). not (due .full (identIn vs))) BadStripe ∷ []
 
-unfoldable pub identOf : ℕ → List ℕ → ℕ → ℕ → Segment
-unfolding onRead
-identOf k s at size = onRead s (fields (identField k ∷ []) (size ∷ []) s at)
+abbrev pub lengthRows : Version → Due → List Field
+lengthRows version due = val (two ∷ []) (is (lengthOk version)) BadLength ∷ identRows due
 
-unfoldable pub lengthOf : ℕ → List ℕ → ℕ → Segment
-unfolding onRead
-lengthOf k s at = onRead s (fields (lengthField ∷ identField k ∷ []) [] s at)
+abbrev pub behind : Due → ℕ → List ℕ → List ℕ → ℕ → Res ℕ
+behind due lengthAt s vs n = behindOf (due .body (identIn vs)) (identIn vs) (sizeIn vs - 6) lengthAt s n
 
-unfoldable pub segmentOf : ℕ → List ℕ → ℕ → Segment
-unfolding onRead
-segmentOf k s at =
-    cond (ltb (length s) (at + 2)) (Refused (Short at)) (cond (standsAt s at (0xFF ∷ 0xD9 ∷ [])) End (onRead s (fields (segmentTable k) [] s at)))
+unfoldable pub identOf : ℕ → ℕ → List ℕ → ℕ → ℕ → Segment
+unfolding bind viewOf
+identOf k body s at size = viewOf (bind (fields (identRows (dueWith body k)) (size ∷ []) s at) (behind (dueWith body k) (at - 2) s))
+
+unfoldable pub lengthOf : Version → ℕ → ℕ → List ℕ → ℕ → Segment
+unfolding bind viewOf
+lengthOf version k body s at = viewOf (bind (fields (lengthRows version (dueWith body k)) [] s at) (behind (dueWith body k) at s))

@@ -11,20 +11,22 @@ use Rattle.octets.specs.Octets.{be16At, be32At, standsAt}
 use Rattle.answers.specs.declared.Answer.the-variants.{BadMark, BadLength, BadVersion, BadMode, BadCoder, BadRes, BadWidth}
 use Rattle.field_rules.specs.Field.{fields, numbers, widths}
 use Rattle.sheet_rules.specs.Judge.{listed}
-use Rattle.page_rules.specs.declared.Head.{Head}
-use Rattle.page_rules.specs.Kinds.{maskCoder, imageCoder}
-use Rattle.page_rules.specs.Reading.{startTable}
+use Rattle.segment_rules.specs.declared.Mode.the-variants.{One}
+use Rattle.segment_rules.specs.Rules.{mode1}
+use Rattle.start_rules.specs.declared.Head.{Head}
+use Rattle.start_rules.specs.Coders.{maskCoder, imageCoder}
+use Rattle.start_rules.specs.Reading.{startTable}
 use Rattle.read_field.specs.declared.Judged.{Judged}
 use Rattle.read_field.specs.declared.Judged.the-variants.{Fine}
 use Rattle.read_field.specs.Judged.{heldOf, fieldOf, judgedOf}
 use Rattle.read_start.specs.Start.{headAt}
 use Rattle.read_field.proofs.Lines.{line-begin, line-end, line-mark, line-val, line-again}
 
-pub mask-coders : (c : ℕ) → eqb c 0 || (eqb c 1 || (eqb c 2 || (eqb c 4 || eqb c 8))) ≡ maskCoder c
+pub mask-coders : (c : ℕ) → eqb c 0 || (eqb c 1 || (eqb c 2 || (eqb c 4 || eqb c 8))) ≡ maskCoder One c
 unfolding maskCoder
 mask-coders c = ap (λ (b : Bool). eqb c 0 || (eqb c 1 || (eqb c 2 || (eqb c 4 || b)))) (sym (or-false (eqb c 8)))
 
-pub image-coders : (c : ℕ) → eqb c 0 || eqb c 1 ≡ imageCoder c
+pub image-coders : (c : ℕ) → eqb c 0 || eqb c 1 ≡ imageCoder One c
 unfolding imageCoder
 image-coders c = ap (λ (b : Bool). eqb c 0 || b) (sym (or-false (eqb c 1)))
 
@@ -32,8 +34,8 @@ pub start-made : (s : List ℕ) {r1 r2 r3 r4 r5 r6 r7 r8 r9 r10 r11 r12 : Judged
     → r12 ≡ fieldOf s r11 20 2 b12 (BadMark 20) → b12 ≡ standsAt s 20 (0xFF ∷ 0xD9 ∷ [])
     → r11 ≡ fieldOf s r10 16 4 (leb 1 width && leb width 32768) (BadWidth 16) → width ≡ be32At s 16
     → r10 ≡ fieldOf s r9 14 2 b10 (BadRes 14) → b10 ≡ listed main → main ≡ be16At s 14
-    → r9 ≡ fieldOf s r8 13 1 b9 (BadCoder 13) → b9 ≡ imageCoder image → image ≡ getD s 13 0
-    → r8 ≡ fieldOf s r7 12 1 b8 (BadCoder 12) → b8 ≡ maskCoder mask → mask ≡ getD s 12 0
+    → r9 ≡ fieldOf s r8 13 1 b9 (BadCoder 13) → b9 ≡ imageCoder One image → image ≡ getD s 13 0
+    → r8 ≡ fieldOf s r7 12 1 b8 (BadCoder 12) → b8 ≡ maskCoder One mask → mask ≡ getD s 12 0
     → r7 ≡ fieldOf s r6 11 1 (eqb mode 1) (BadMode 11) → mode ≡ getD s 11 0
     → r6 ≡ fieldOf s r5 10 1 (eqb version 0) (BadVersion 10) → version ≡ getD s 10 0
     → r5 ≡ heldOf r4 (eqb size 16) (BadLength 4)
@@ -60,7 +62,7 @@ start-made s e12 t12 e11 v11 e10 t10 v10 e9 t9 v9 e8 t8 v8 e7 v7 e6 v6 e5 e4 t4 
     line-end l12
 
 pub head-made : (s : List ℕ) (mask image main width : ℕ) → mask ≡ getD s 12 0 → image ≡ getD s 13 0 → main ≡ be16At s 14 → width ≡ be32At s 16
-    → _≡_ {A = Head} (record { mask = mask; image = image; main = main; width = width % 65536 }) (headAt s)
+    → _≡_ {A = Head} (record { rules = mode1; mask = mask; image = image; main = main; width = width % 65536 }) (headAt s)
 head-made s mask image main width e f g h = simp (e, f, g, h)
 
 pub ruleset start-laws = (mask-coders, image-coders, start-made)

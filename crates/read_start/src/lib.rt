@@ -1,27 +1,34 @@
-// The start of page (9.2.1), and the termination (9.2.3): the table `startTable` of `page_rules` in code, line by line.
+// The start of page (9.2.1), and the termination (9.2.3): the table `startTable` of `start_rules` in code, line by line.
 ghost use mathlib.Core.Path.{_≡_};
 ghost use mathlib.Core.List.{[]};
 ghost use Rattle.field_rules.specs.Field.{fields};
-ghost use Rattle.page_rules.specs.Kinds.{maskCoder, imageCoder};
-ghost use Rattle.page_rules.specs.Reading.{startTable};
+ghost use Rattle.segment_rules.specs.declared.Mode.the-variants.{One};
+ghost use Rattle.start_rules.specs.Coders.{maskCoder, imageCoder};
+ghost use Rattle.start_rules.specs.Reading.{startTable};
 ghost use Rattle.read_field.specs.Judged.{judgedOf};
 ghost use Rattle.read_start.specs.Start.{headAt};
 use answers::Answer;
-use page_rules::APP13;
-use page_rules::EOI;
-use page_rules::Head;
-use page_rules::SOI;
-use page_rules::START;
 use read_field::Judged;
+use segment_rules::APP13;
+use segment_rules::EOI;
+use segment_rules::Mode;
+use segment_rules::Rules;
+use segment_rules::SOI;
+use segment_rules::START;
+use segment_rules::Version;
+use start_rules::Head;
+
+// The octets of the start of page and of the termination: the body stands behind them.
+pub const START_SIZE: u32 = 22;
 
 fn mask_coder(c: u8) -> bool
-    ensures { λ r. ⌜ r ≡ maskCoder c ⌝ }
+    ensures { λ r. ⌜ r ≡ maskCoder One c ⌝ }
 {
     (c == 0) | ((c == 1) | ((c == 2) | ((c == 4) | (c == 8))))
 }
 
 fn image_coder(c: u8) -> bool
-    ensures { λ r. ⌜ r ≡ imageCoder c ⌝ }
+    ensures { λ r. ⌜ r ≡ imageCoder One c ⌝ }
 {
     (c == 0) | (c == 1)
 }
@@ -121,6 +128,10 @@ pub fn head_at(s: &[u8]) -> Head
     ensures { λ r. ⌜ r ≡ headAt (now (s .entry)) ⌝ }
 {
     Head {
+        rules: Rules {
+            version: Version::Base,
+            mode: Mode::One,
+        },
         mask: read_field::octet(s, 12),
         image: read_field::octet(s, 13),
         main: read_field::two(s, 14),

@@ -1,4 +1,4 @@
-use Rattle.read_body.proofs.Turns.{ending}
+use Rattle.read_body.proofs.Segments.{ending}
 use borrow.Author.Needs.{needs}
 use Rattle.read_body.proofs.body_end.Statement.{statement}
 use Rattle.read_body.proofs.body_end.Tie as tie

@@ -5,10 +5,10 @@ use Rattle.read_body.proofs.read_body.Statement.{statement}
 use Rattle.read_body.proofs.read_body.Tie as tie
 
 abbrev Inv-loop : tie.InvT-loop
-Inv-loop out₀ s hd p₀ out p = Going hd s out₀ p out
+Inv-loop out₀ s hd from p₀ out p = Going hd s from out₀ p out
 
 abbrev μ-loop : tie.MeasureT-loop
-μ-loop out₀ s hd p₀ out p = length s - p .at
+μ-loop out₀ s hd from p₀ out p = length s - p .at
 
 loop-holds : tie.Need-loop-holds Inv-loop μ-loop
 loop-holds c = search looping

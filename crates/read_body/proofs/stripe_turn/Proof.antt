@@ -1,10 +1,10 @@
-use Rattle.read_body.proofs.Turns.{turning}
+use Rattle.read_body.proofs.Stripe.{turning}
 use borrow.Author.Needs.{needs}
 use Rattle.read_body.proofs.stripe_turn.Statement.{statement}
 use Rattle.read_body.proofs.stripe_turn.Tie as tie
 
 stripe-step-requires : tie.Need-stripe-step-requires
-stripe-step-requires c κs = search needs
+stripe-step-requires c κs = search turning
 
 enum-known-a : tie.Need-enum-known-a
 enum-known-a c = search needs
@@ -12,11 +12,14 @@ enum-known-a c = search needs
 enum-known-next : tie.Need-enum-known-next
 enum-known-next c = search needs
 
-add-t14 : tie.Need-add-t14
-add-t14 c = search needs
+add-t15 : tie.Need-add-t15
+add-t15 c = search needs
 
-sub-t15 : tie.Need-sub-t15
-sub-t15 c = search turning
+sub-t16 : tie.Need-sub-t16
+sub-t16 c = search turning
+
+add-t17 : tie.Need-add-t17
+add-t17 c = search turning
 
 same-length : tie.Need-same-length
 same-length c = search needs
@@ -37,8 +40,9 @@ stripe-turn-spec =
     stripe-step-requires
     enum-known-a
     enum-known-next
-    add-t14
-    sub-t15
+    add-t15
+    sub-t16
+    add-t17
     same-length
     returns
     same-length-2

@@ -1,6 +1,6 @@
 use Rattle.read_layers.proofs.Laws.{fault-fits, fault-told}
 use Rattle.answers.specs.Answers.{placeOf}
-use Rattle.page_rules.specs.Reading.{faultOf}
+use Rattle.mode1_rules.specs.Reading.{faultOf}
 use borrow.Author.Needs.{needs}
 use Rattle.read_layers.proofs.fault_answer.Statement.{statement}
 use Rattle.read_layers.proofs.fault_answer.Tie as tie

@@ -12,9 +12,6 @@ returns c = search emitting
 copy-range-requires : tie.Need-copy-range-requires
 copy-range-requires c κs = search needs
 
-mul-t11 : tie.Need-mul-t11
-mul-t11 c = search needs
-
 same-length : tie.Need-same-length
 same-length c = search needs
 
@@ -22,4 +19,4 @@ returns-2 : tie.Need-returns-2
 returns-2 c = search emitting
 
 pub emit-spec : {M : Type 1} → statement M
-emit-spec = tie.close (tie.spec mul-size returns copy-range-requires mul-t11 same-length returns-2)
+emit-spec = tie.close (tie.spec mul-size returns copy-range-requires same-length returns-2)

@@ -1,5 +1,4 @@
-use denote.Ref.{now}
-use Rattle.read_page.proofs.Whole.{page-whole, opening}
+use Rattle.read_page.proofs.Whole.{opening}
 use borrow.Author.Needs.{needs}
 use Rattle.read_page.proofs.judge_page.Statement.{statement}
 use Rattle.read_page.proofs.judge_page.Tie as tie
@@ -23,8 +22,7 @@ same-length : tie.Need-same-length
 same-length c = search needs
 
 returns-2 : tie.Need-returns-2
-returns-2 c =
-    page-whole _ (c .before .before .before .before .before .before .judge-start .ensures) (λ i. c .before .before .before .before .before .before .before .shared-slice-known .given i .fits) (now (c .before .before .before .before .before .before .before .before .before .args .out)) (c .before .before .judge-rest .last .0) (c .before .before .judge-rest .result) (c .before .before .before .before .enum-told .given .1) (c .before .before .judge-rest .ensures)
+returns-2 c = search opening
 
 pub judge-page-spec : {M : Type 1} → statement M
 judge-page-spec =

@@ -7,7 +7,7 @@ head-at-requires : tie.Need-head-at-requires
 head-at-requires c κs = search needs
 
 read-body-requires : tie.Need-read-body-requires
-read-body-requires c κs = search needs
+read-body-requires c κs = search resting
 
 enum-known-a : tie.Need-enum-known-a
 enum-known-a c = search needs

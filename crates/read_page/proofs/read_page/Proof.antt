@@ -1,7 +1,6 @@
-use mathlib.Core.Path.{refl}
 use denote.Ref.{now}
 use lib.ListN.{replicate}
-use Rattle.page_rules.specs.Kinds.{pageSheet}
+use Rattle.read_page.specs.Steps.{pageSheet}
 use Rattle.read_page.proofs.Whole.{read-laid, read-emits, reading}
 use borrow.Author.Needs.{needs}
 use Rattle.read_page.proofs.read_page.Statement.{statement}
@@ -19,15 +18,15 @@ judge-page-requires c κs = search needs
 enum-known-a : tie.Need-enum-known-a
 enum-known-a c = search needs
 
-enum-known-stripes : tie.Need-enum-known-stripes
-enum-known-stripes c = search needs
+enum-known-records : tie.Need-enum-known-records
+enum-known-records c = search needs
 
 slice-aggregate-emit : tie.Need-slice-aggregate-emit
 slice-aggregate-emit c = search needs
 
 emit-requires : tie.Need-emit-requires
 emit-requires c κs =
-    read-laid (now (c .before .before .before .before .before .before .before .before .before .before .before .args .page)) (now (c .before .before .before .before .before .before .before .before .before .before .before .args .sheet)) (c .before .before .before .before .before .before .before .before .if1 .left) (replicate pageSheet 0) (c .before .before .before .before .before .before .judge-page .last .0) (c .before .before .before .before .before .before .judge-page .result) (c .before .before .before .before .before .before .judge-page .ensures) refl (c .before .before .before .stripes .given .0 .0) (c .before .before .before .stripes .given .1)
+    read-laid (now (c .before .before .before .before .before .before .before .before .before .before .before .args .page)) (now (c .before .before .before .before .before .before .before .before .before .before .before .args .sheet)) (c .before .before .before .before .before .before .before .before .if1 .left) (replicate pageSheet 0) (c .before .before .before .before .before .before .judge-page .last .0) (c .before .before .before .before .before .before .judge-page .result) (c .before .before .before .before .before .before .judge-page .ensures) (c .before .before .before .records .given .0 .0) (c .before .before .before .records .given .1)
 
 returns-2 : tie.Need-returns-2
 returns-2 c = search reading
@@ -37,7 +36,7 @@ same-length c = search needs
 
 returns-3 : tie.Need-returns-3
 returns-3 c =
-    read-emits (now (c .before .before .before .before .before .before .before .before .before .before .before .before .before .before .args .page)) (now (c .before .before .before .before .before .before .before .before .before .before .before .before .before .before .args .sheet)) (c .before .before .before .before .before .before .before .before .before .before .before .if1 .left) (replicate pageSheet 0) (c .before .before .before .before .before .before .before .before .before .judge-page .last .0) (c .before .before .before .before .before .before .before .before .before .judge-page .result) (c .before .before .before .before .before .before .before .before .before .judge-page .ensures) refl (c .before .before .before .before .before .before .stripes .given .0 .0) (c .before .before .before .before .before .before .stripes .given .1)
+    read-emits (now (c .before .before .before .before .before .before .before .before .before .before .before .before .before .before .args .page)) (now (c .before .before .before .before .before .before .before .before .before .before .before .before .before .before .args .sheet)) (c .before .before .before .before .before .before .before .before .before .before .before .if1 .left) (replicate pageSheet 0) (c .before .before .before .before .before .before .before .before .before .judge-page .last .0) (c .before .before .before .before .before .before .before .before .before .judge-page .result) (c .before .before .before .before .before .before .before .before .before .judge-page .ensures) (c .before .before .before .before .before .before .records .given .0 .0) (c .before .before .before .before .before .before .records .given .1)
     (c .before .before .emit .result) (c .before .before .emit .last .0) (c .before .before .emit .ensures)
 
 pub read-page-spec : {M : Type 1} → statement M
@@ -48,7 +47,7 @@ read-page-spec =
     slice-aggregate-judge-page
     judge-page-requires
     enum-known-a
-    enum-known-stripes
+    enum-known-records
     slice-aggregate-emit
     emit-requires
     returns-2

@@ -1,5 +1,5 @@
 use mathlib.Core.Path.{refl}
-use Rattle.page_rules.specs.Kinds.{imageRecord}
+use Rattle.mode1_rules.specs.Kinds.{imageRecord}
 use Rattle.read_records.proofs.absent_record.Statement.{statement}
 use Rattle.read_records.proofs.absent_record.Tie as tie
 

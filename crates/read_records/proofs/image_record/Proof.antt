@@ -3,38 +3,14 @@ use borrow.Author.Needs.{needs}
 use Rattle.read_records.proofs.image_record.Statement.{statement}
 use Rattle.read_records.proofs.image_record.Tie as tie
 
-octet-requires : tie.Need-octet-requires
-octet-requires c κs = search needs
-
-add-octet : tie.Need-add-octet
-add-octet c = search needs
-
-octet-requires-2 : tie.Need-octet-requires-2
-octet-requires-2 c κs = search needs
-
-add-octet-2 : tie.Need-add-octet-2
-add-octet-2 c = search needs
-
-octet-requires-3 : tie.Need-octet-requires-3
-octet-requires-3 c κs = search needs
-
 enum-known-c : tie.Need-enum-known-c
 enum-known-c c = search needs
 
-four-requires : tie.Need-four-requires
-four-requires c κs = search needs
+narrow-requires : tie.Need-narrow-requires
+narrow-requires c κs = search image-laws
 
-low16-requires : tie.Need-low16-requires
-low16-requires c κs = search needs
-
-add-four : tie.Need-add-four
-add-four c = search needs
-
-four-requires-2 : tie.Need-four-requires-2
-four-requires-2 c κs = search needs
-
-low16-requires-2 : tie.Need-low16-requires-2
-low16-requires-2 c κs = search needs
+narrow-requires-2 : tie.Need-narrow-requires-2
+narrow-requires-2 c κs = search image-laws
 
 enum-told : tie.Need-enum-told
 enum-told c = search needs
@@ -52,17 +28,9 @@ pub image-record-spec : {M : Type 1} → statement M
 image-record-spec =
     tie.close
     (tie.spec
-    octet-requires
-    add-octet
-    octet-requires-2
-    add-octet-2
-    octet-requires-3
     enum-known-c
-    four-requires
-    low16-requires
-    add-four
-    four-requires-2
-    low16-requires-2
+    narrow-requires
+    narrow-requires-2
     enum-told
     absent-record-requires
     returns

@@ -12,6 +12,9 @@ slice-aggregate-stands-at c = search needs
 stands-at-requires : tie.Need-stands-at-requires
 stands-at-requires c κs = search needs
 
+stripe-at-requires : tie.Need-stripe-at-requires
+stripe-at-requires c κs = search needs
+
 returns : tie.Need-returns
 returns c = search segment-laws
 
@@ -28,7 +31,7 @@ cast-skip : tie.Need-cast-skip
 cast-skip c = search needs
 
 skip-requires : tie.Need-skip-requires
-skip-requires c κs = search segment-laws
+skip-requires c κs = search needs
 
 returns-2 : tie.Need-returns-2
 returns-2 c = search segment-laws
@@ -46,6 +49,7 @@ by-ident-spec =
     fits-requires
     slice-aggregate-stands-at
     stands-at-requires
+    stripe-at-requires
     returns
     is-optional-requires
     add-skip

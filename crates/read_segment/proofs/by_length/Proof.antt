@@ -9,14 +9,17 @@ fits-requires c κs = search needs
 two-requires : tie.Need-two-requires
 two-requires c κs = search needs
 
-returns : tie.Need-returns
-returns c = search segment-laws
+length-ok-requires : tie.Need-length-ok-requires
+length-ok-requires c κs = search needs
 
 add-by-ident : tie.Need-add-by-ident
 add-by-ident c = search needs
 
 by-ident-requires : tie.Need-by-ident-requires
-by-ident-requires c κs = search needs
+by-ident-requires c κs = search segment-laws
+
+returns : tie.Need-returns
+returns c = search segment-laws
 
 returns-2 : tie.Need-returns-2
 returns-2 c = search segment-laws
@@ -30,8 +33,9 @@ by-length-spec =
     (tie.spec
     fits-requires
     two-requires
-    returns
+    length-ok-requires
     add-by-ident
     by-ident-requires
+    returns
     returns-2
     returns-3)

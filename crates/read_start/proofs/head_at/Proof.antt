@@ -15,12 +15,13 @@ two-requires c κs = search needs
 four-requires : tie.Need-four-requires
 four-requires c κs = search needs
 
-cast-t7 : tie.Need-cast-t7
-cast-t7 c = search needs
+cast-t10 : tie.Need-cast-t10
+cast-t10 c = search needs
 
 returns : tie.Need-returns
 returns c = search heads
 
 pub head-at-spec : {M : Type 1} → statement M
 head-at-spec =
-    tie.close (tie.spec octet-requires octet-requires-2 two-requires four-requires cast-t7 returns)
+    tie.close
+    (tie.spec octet-requires octet-requires-2 two-requires four-requires cast-t10 returns)

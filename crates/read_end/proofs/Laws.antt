@@ -19,7 +19,7 @@ use Rattle.field_rules.specs.Field.{Res, ok, no, bind, fields}
 use Rattle.page_rules.specs.Reading.{zerosOf, endTable}
 use Rattle.read_field.specs.declared.Judged.{Judged}
 use Rattle.read_field.specs.declared.Judged.the-variants.{Fine, Refused}
-use Rattle.read_segment.specs.Ends.{zerosFrom, closeOf}
+use Rattle.read_end.specs.Ends.{zerosFrom, closeOf}
 use Rattle.read_field.specs.Judged.{fieldOf, judgedOf}
 use Rattle.read_field.proofs.Lines.{line-begin, line-mark, line-end}
 
@@ -74,4 +74,4 @@ module _ (s : List ℕ) (at : ℕ) {b : Bool} (t : b ≡ standsAt s at (0xFF ∷
   pub close-fine : {q : Judged} → r ≡ Fine → q ≡ zerosFrom s (at + 2) → q ≡ closeOf s at
   close-fine y h = h ∙ close-by s at (sym marked ∙ y)
 
-pub ruleset end-laws = (needs, zeros-begin, zeros-over, zeros-on, zeros-stop, close-refused, close-fine)
+pub ruleset ending = (needs, zeros-begin, zeros-over, zeros-on, zeros-stop, close-refused, close-fine)

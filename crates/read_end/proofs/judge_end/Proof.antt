@@ -1,7 +1,7 @@
-use Rattle.read_segment.proofs.End.{end-laws}
+use Rattle.read_end.proofs.Laws.{ending}
 use borrow.Author.Needs.{needs}
-use Rattle.read_segment.proofs.judge_end.Statement.{statement}
-use Rattle.read_segment.proofs.judge_end.Tie as tie
+use Rattle.read_end.proofs.judge_end.Statement.{statement}
+use Rattle.read_end.proofs.judge_end.Tie as tie
 
 slice-aggregate-stands-at : tie.Need-slice-aggregate-stands-at
 slice-aggregate-stands-at c = search needs
@@ -25,10 +25,10 @@ trailing-requires : tie.Need-trailing-requires
 trailing-requires c κs = search needs
 
 returns : tie.Need-returns
-returns c = search end-laws
+returns c = search ending
 
 returns-2 : tie.Need-returns-2
-returns-2 c = search end-laws
+returns-2 c = search ending
 
 pub judge-end-spec : {M : Type 1} → statement M
 judge-end-spec =

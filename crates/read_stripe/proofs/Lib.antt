@@ -1,0 +1,3 @@
+pub mod Layers
+pub mod Laws
+pub mod Ends
