@@ -14,7 +14,7 @@ use Rattle.page_rules.specs.Grammar.{colourOf, headOf}
 use Rattle.sheet_rules.specs.declared.Record.{Record}
 use Rattle.laws.specs.Tests.{only}
 use Rattle.sheet_rules.specs.Judge.{coded}
-use Rattle.write_rules.specs.Writing.{typeBy, fieldsBy}
+use Rattle.write_rules.specs.Mode1.{typeBy, fieldsBy}
 use Rattle.write_start.proofs.Laws.{put-more}
 use Rattle.write_head.specs.Parts.{stripeMark, stripeFields}
 

@@ -7,7 +7,7 @@ ghost use Rattle.octets.specs.Octets.{octets32, putAt};
 ghost use Rattle.page_rules.specs.Grammar.{headOf};
 ghost use Rattle.laws.specs.Tests.{only};
 ghost use Rattle.sheet_rules.specs.Judge.{coded};
-ghost use Rattle.write_rules.specs.Writing.{typeBy, fieldsBy};
+ghost use Rattle.write_rules.specs.Mode1.{typeBy, fieldsBy};
 ghost use Rattle.write_head.specs.Parts.{stripeMark, stripeFields};
 use page_rules::APP13;
 use page_rules::STRIPE;

@@ -1,0 +1,21 @@
+-- What hangs on the mode of a page that is written, by cases; what a mode's own case says stands in a file of its own.
+--
+--   mostLayers mode    the most layers that a stripe carries
+--   headIn mode r      the octets of a stripe beside its coded data, counted record by record
+--   stripeBy mode d q  the octets of the stripe whose records are q, with its coded data out of the buffer d
+use Prim.Native.Nat.{ℕ}
+use mathlib.Core.List.{List}
+use Rattle.segment_rules.specs.declared.Mode.{Mode}
+use Rattle.segment_rules.specs.declared.Mode.the-variants.{One}
+use Rattle.sheet_rules.specs.declared.Record.{Record}
+use Rattle.write_rules.specs.Mode1.{layers1, head1, stripe1}
+
+abbrev pub mostLayers : Mode → ℕ
+mostLayers One = layers1
+
+abbrev pub headIn : Mode → Record → ℕ
+headIn One r = head1 r
+
+unfoldable pub stripeBy : Mode → List ℕ → List Record → List ℕ
+unfolding stripe1
+stripeBy One d q = stripe1 d q
