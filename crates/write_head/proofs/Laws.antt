@@ -10,11 +10,12 @@ use lib.Dec.{lit≤}
 use borrow.Author.Needs.{needs}
 use Rattle.octets.specs.Octets.{octets16, octets32, putAt}
 use Rattle.octets.proofs.Laws.{length-octets32}
-use Rattle.page_rules.specs.Grammar.{colourOf, headOf}
+use Rattle.segment_rules.specs.Segment.{beginOf}
+use Rattle.mode1_rules.specs.Grammar.{colourOf, fieldsOf}
 use Rattle.sheet_rules.specs.declared.Record.{Record}
 use Rattle.laws.specs.Tests.{only}
 use Rattle.sheet_rules.specs.Judge.{coded}
-use Rattle.write_rules.specs.Writing.{typeBy, fieldsBy}
+use Rattle.write_rules.specs.Mode1.{typeBy, fieldsBy, begins}
 use Rattle.write_start.proofs.Laws.{put-more}
 use Rattle.write_head.specs.Parts.{stripeMark, stripeFields}
 
@@ -48,8 +49,8 @@ fields-put d at a b c l t e1 e2 e3 e4 =
     rw (sym t) (put-more d at _ (at + 23) _ (omega arith) (put-more d at _ (at + 15) _ (omega arith) (put-more d at _ (at + 7) _ (omega arith) e1 refl e2) refl e3) refl e4)
 
 pub head-put : (d : List ℕ) (at : ℕ) (a b c : Record) {e f : List ℕ} → at + 39 ≤ length d → e ≡ putAt d at stripeMark → f ≡ putAt e (at + 8) (stripeFields a b c)
-    → f ≡ putAt d at (headOf (fieldsBy a b c))
-unfolding headOf colourOf
+    → f ≡ putAt d at (begins ++ fieldsOf (fieldsBy a b c))
+unfolding beginOf octets16 fieldsOf colourOf
 head-put d at a b c l x y = put-more d at stripeMark (at + 8) (stripeFields a b c) (omega arith) x refl y
 
 pub ruleset heading = (needs, bit-some, bit-none, type-made, stripe-marked, pair-put, fields-put, head-put)

@@ -4,7 +4,7 @@ use mathlib.Core.List.{List, [], _∷_, _++_}
 use Rattle.octets.specs.Octets.{octets32}
 use Rattle.sheet_rules.specs.declared.Record.{Record}
 use Rattle.sheet_rules.specs.Judge.{coded}
-use Rattle.write_rules.specs.Writing.{typeBy}
+use Rattle.write_rules.specs.Mode1.{typeBy}
 
 abbrev pub stripeMark : List ℕ
 stripeMark = 0xFF ∷ 0xED ∷ 0x00 ∷ 0x25 ∷ 0x4D ∷ 0x52 ∷ 0x43 ∷ 0x01 ∷ []

@@ -4,13 +4,13 @@ ghost use mathlib.Core.List.{_++_};
 ghost use Prim.Native.Nat.{_+_, _≤_};
 ghost use lib.ListN.{length};
 ghost use Rattle.octets.specs.Octets.{octets32, putAt};
-ghost use Rattle.page_rules.specs.Grammar.{headOf};
+ghost use Rattle.mode1_rules.specs.Grammar.{fieldsOf};
 ghost use Rattle.laws.specs.Tests.{only};
 ghost use Rattle.sheet_rules.specs.Judge.{coded};
-ghost use Rattle.write_rules.specs.Writing.{typeBy, fieldsBy};
+ghost use Rattle.write_rules.specs.Mode1.{typeBy, fieldsBy, begins};
 ghost use Rattle.write_head.specs.Parts.{stripeMark, stripeFields};
-use page_rules::APP13;
-use page_rules::STRIPE;
+use segment_rules::APP13;
+use segment_rules::STRIPE;
 use sheet_rules::Record;
 
 fn bit(b: bool, v: u8) -> u8
@@ -70,7 +70,7 @@ fn put_fields(out: &mut [u8], at: usize, a: Record, b: Record, c: Record)
 
 pub fn put_head(out: &mut [u8], at: usize, a: Record, b: Record, c: Record)
     requires { ⌜ at + 39 ≤ length (now out) ⌝ }
-    ensures { λ _. ⌜ now (out .exit) ≡ putAt (now (out .entry)) at (headOf (fieldsBy a b c)) ⌝ }
+    ensures { λ _. ⌜ now (out .exit) ≡ putAt (now (out .entry)) at (begins ++ fieldsOf (fieldsBy a b c)) ⌝ }
 {
     put_stripe_mark(out, at);
     put_fields(out, at + 8, a, b, c);

@@ -16,6 +16,7 @@ use Rattle.laws.proofs.Cases.{cond-with, clash}
 use Rattle.laws.proofs.Says.{Says, says-eq, says-true, says-false, says-and, says-or, says-as}
 use Rattle.answers.specs.declared.Answer.the-variants.{Short, Mismatch}
 use Rattle.field_rules.specs.Field.{Res, ok, no}
+use Rattle.segment_rules.specs.declared.Mode.{Mode}
 use Rattle.sheet_rules.specs.declared.Record.{Record}
 use Rattle.sheet_rules.specs.Sentences.{Coded}
 use Rattle.sheet_rules.proofs.New.{says-coded}
@@ -80,15 +81,15 @@ module _ (d : List ℕ) (o : Octets d) (r : Record) (h : r .start + r .len ≤ l
 
 -- ---- one record
 
-pub step-cases : (P : Res Tally → Type 0) (d : List ℕ) (main : ℕ) (t : Tally) (i : ℕ) (r : Record) → (length d < r .start + r .len → P (no (Short i)))
-    → (r .start + r .len ≤ length d → matches d main t r ≡ true → P (ok (counted t r) (i + 1)))
-    → (r .start + r .len ≤ length d → matches d main t r ≡ false → P (no (Mismatch i))) → P (recordStep d main t i r)
+pub step-cases : (P : Res Tally → Type 0) (mode : Mode) (d : List ℕ) (main : ℕ) (t : Tally) (i : ℕ) (r : Record) → (length d < r .start + r .len → P (no (Short i)))
+    → (r .start + r .len ≤ length d → matches d main t r ≡ true → P (ok (counted mode t r) (i + 1)))
+    → (r .start + r .len ≤ length d → matches d main t r ≡ false → P (no (Mismatch i))) → P (recordStep mode d main t i r)
 unfolding recordStep
-step-cases P d main t i r short on off =
+step-cases P mode d main t i r short on off =
     cond-with P (ltb (length d) (r .start + r .len)) (λ e. short (ltb-true (length d) (r .start + r .len) e)) λ e.
     cond-with P (matches d main t r) (λ m. on (ltb-false (length d) (r .start + r .len) e) m) (λ m. off (ltb-false (length d) (r .start + r .len) e) m)
 
 -- a record that passes is counted
-pub step-next : (d : List ℕ) (main : ℕ) (t : Tally) (i : ℕ) (r : Record) (v : Tally) (n : ℕ) → recordStep d main t i r ≡ ok v n → n ≡ i + 1
-step-next d main t i r v n =
-    step-cases (λ x. x ≡ ok v n → n ≡ i + 1) d main t i r (λ h q. clash cc) (λ h m q. let z : i + 1 ≡ n = cc in sym z) (λ h m q. clash cc)
+pub step-next : (mode : Mode) (d : List ℕ) (main : ℕ) (t : Tally) (i : ℕ) (r : Record) (v : Tally) (n : ℕ) → recordStep mode d main t i r ≡ ok v n → n ≡ i + 1
+step-next mode d main t i r v n =
+    step-cases (λ x. x ≡ ok v n → n ≡ i + 1) mode d main t i r (λ h q. clash cc) (λ h m q. let z : i + 1 ≡ n = cc in sym z) (λ h m q. clash cc)

@@ -13,11 +13,14 @@ use Rattle.sheet_rules.specs.Judge.{keeps, after, after1, after2, after3, stepO
 use Rattle.jpeg_rules.specs.Marker.{classOf, markerOf}
 use Rattle.jpeg_rules.specs.Walk.{segOf, scanOf, tagOf, frameBodyOf, frameOf, scanStepOf, segmentOf, turnOf, walkOf}
 use Rattle.jpeg_rules.specs.Walk as W
-use Rattle.page_rules.specs.Kinds.{Fields, longestPage}
+use Rattle.mode1_rules.specs.declared.Fields.{Fields}
+use Rattle.segment_rules.specs.Rules.{mode1, longestPage}
 use Rattle.sheet_rules.specs.declared.Colour.{Colour}
-use Rattle.page_rules.specs.Grammar.{startOf, colourOf, headOf}
-use Rattle.page_rules.proofs.Examples.{page, picture}
-use Rattle.page_rules.proofs.Many.{coded-mask}
+use Rattle.start_rules.specs.Grammar.{startOf}
+use Rattle.mode1_rules.specs.Grammar.{colourOf, fieldsOf}
+use Rattle.segment_rules.specs.Segment.{beginOf}
+use Rattle.page_rules.proofs.Samples.{coded-mask, stripeHead, page}
+use Rattle.page_rules.proofs.Examples.{picture}
 use Rattle.write_rules.specs.Layer.{agrees}
 use Rattle.sheet_rules.proofs.Make.{made}
 use Rattle.write_rules.specs.Writing.{counted, matches, sizeAnswer, writeOf, writeInto}
@@ -45,7 +48,7 @@ unfoldable pub buffer : List ℕ
 buffer = replicate 60 0 ++ coded-mask
 
 pub written : (writeOf example buffer 70 ≡ Done 70) × (writeInto example buffer (replicate 72 7) ≡ page ++ (7 ∷ 7 ∷ []))
-unfolding writeOf writeInto putAt page startOf headOf colourOf octets16 octets32 buffer example counted matches sizeAnswer judgeOf judge walk onStep stepOf keeps after after1 after2 after3 endOf records recordAt be16At be32At
+unfolding writeOf writeInto putAt page startOf beginOf fieldsOf colourOf octets16 octets32 buffer example counted matches sizeAnswer judgeOf judge walk onStep stepOf keeps after after1 after2 after3 endOf records recordAt be16At be32At
 written = (refl, refl)
 
 pub no-room : writeOf example buffer 69 ≡ NoRoom
@@ -75,7 +78,7 @@ layers width coder =
 abbrev first : Fields
 first =
     record {
-      type = 7;
+      kind = 7;
       back = white;
       fore = black;
       backX = 2;
@@ -89,7 +92,7 @@ first =
 abbrev second : Fields
 second =
     record {
-      type = 2;
+      kind = 2;
       back = white;
       fore = black;
       backX = 0;
@@ -102,9 +105,9 @@ second =
 
 -- mask, background, foreground
 pub two-stripes : writeInto (sheetOf (layers 8 8)) (picture ++ coded-mask) (replicate 193 7)
-    ≡ startOf (record { mask = 8; image = 1; main = 400; width = 100 })
-    ++ (headOf first ++ (coded-mask ++ (picture ++ (picture ++ (headOf second ++ ((2 ∷ 3 ∷ 4 ∷ 5 ∷ []) ++ (0xFF ∷ 0xD9 ∷ 0xFF ∷ 0xD9 ∷ [])))))))
-unfolding writeInto putAt startOf headOf colourOf octets16 octets32 joined encode layers picture counted matches agrees judgeOf judge walk onStep stepOf keeps after after1 after2 after3 endOf records recordAt be16At be32At walkOf turnOf markerOf classOf segOf scanOf tagOf frameOf frameBodyOf scanStepOf segmentOf W.endOf standsAt begins
+    ≡ startOf (record { rules = mode1; mask = 8; image = 1; main = 400; width = 100 })
+    ++ (stripeHead first ++ (coded-mask ++ (picture ++ (picture ++ (stripeHead second ++ ((2 ∷ 3 ∷ 4 ∷ 5 ∷ []) ++ (0xFF ∷ 0xD9 ∷ 0xFF ∷ 0xD9 ∷ [])))))))
+unfolding writeInto putAt startOf beginOf fieldsOf colourOf octets16 octets32 joined encode layers picture counted matches agrees judgeOf judge walk onStep stepOf keeps after after1 after2 after3 endOf records recordAt be16At be32At walkOf turnOf markerOf classOf segOf scanOf tagOf frameOf frameBodyOf scanStepOf segmentOf W.endOf standsAt begins
 two-stripes = refl
 
 -- a width that the layer does not have, at its record, before the mask that is cut; another mask coder, at the later mask; a fifth layer

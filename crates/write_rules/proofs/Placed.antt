@@ -1,31 +1,22 @@
--- A record whose data is moved to another place: what stays, and the records of a stripe that is written.
+-- A record whose data is moved to another place: what stays.
 -- Assumes nothing.
-use Prim.Native.Nat.{ℕ, _+_, _%_, _<_}
-use native.Mathlib.Omega.{arith}
-use mathlib.Core.Path.{_≡_, refl, sym, ap, ap₂, subst, _∙_}
-use mathlib.Core.Logic.{inl, inr, _≢_, ⊎-elim}
+use Prim.Native.Nat.{ℕ}
+use mathlib.Core.Path.{_≡_, refl, sym, ap, ap₂, _∙_}
+use mathlib.Core.Logic.{_⊎_, inl, inr, _≢_, ⊎-elim}
 use mathlib.Core.Bool.{Bool, true, false, not, cond, false≢true}
 use mathlib.Core.List.{List, [], _∷_, _++_}
 use lib.ListN.{length, take, drop}
 use lib.Seq.{take-at}
 use lib.Dec.{eqb}
-use borrow.Author.Tests.{eqb-true}
+use borrow.Author.Tests.{eqb-true, eqb-false}
 use Rattle.laws.proofs.Cases.{bool-else}
 use Rattle.sheet_rules.specs.declared.Record.{Record}
 use Rattle.laws.specs.Tests.{only}
 use Rattle.sheet_rules.specs.Judge.{coded}
-use Rattle.sheet_rules.specs.Sentences.{Coded, Uncoded, CoderOf}
-use Rattle.sheet_rules.proofs.New.{CodedFacts, EmptyFacts, UncodedFacts, BaseFacts, ChoiceFacts, says-coded}
-use Rattle.jpeg_rules.specs.Grammar.{Layer}
-use Rattle.page_rules.specs.declared.Head.{Head}
-use Rattle.page_rules.specs.declared.LayerData.{LayerData}
-use Rattle.page_rules.specs.declared.LayerData.the-variants.{There, Absent}
-use Rattle.page_rules.specs.Kinds.{hasBack, hasMask, hasFore, imageRecord, maskRecord}
-use Rattle.page_rules.specs.Grammar.{TypeOf, Image, there, absent}
+use Rattle.sheet_rules.specs.Sentences.{Among, Coded, Uncoded, Unbroken}
+use Rattle.sheet_rules.proofs.New.{CodedFacts, EmptyFacts, UncodedFacts, says-coded}
 use Rattle.write_rules.specs.Layer.{layerOctets}
-use Rattle.write_rules.specs.Writing.{typeBy, colourBy}
 use Rattle.write_rules.specs.Form.{startAt, bare}
-use Rattle.write_rules.proofs.Threes.{Contents, Zeros}
 
 pub cons-same : {A : Type 0} {x y : A} {l m : List A} → x ≡ y → l ≡ m → x ∷ l ≡ y ∷ m
 cons-same {A = A} e f = ap₂ (λ (a : A) (b : List A). a ∷ b) e f
@@ -35,6 +26,24 @@ cons-same {A = A} e f = ap₂ (λ (a : A) (b : List A). a ∷ b) e f
 pub uncoded-is : (r : Record) → coded r ≡ false → Uncoded r
 uncoded-is r e =
     ⊎-elim (λ (f : eqb (r .len) 0 ≡ true). eqb-true (r .len) 0 f) (λ (f : eqb (r .len) 0 ≡ false). absurd (false≢true (sym e ∙ ap not f))) (bool-else (eqb (r .len) 0))
+
+abbrev pub Contents : Record → Type 0
+Contents r = (Coded r × CodedFacts r) ⊎ (Uncoded r × UncodedFacts r)
+
+-- of each record of a sheet
+pub contents-of : (rs : List Record) → Unbroken rs → (r : Record) → Among r rs → Contents r
+contents-of rs u r m = go (coded r) refl
+  where
+    empty : Uncoded r → (b : Bool) → eqb (r .layer) 2 ≡ b → (r .layer ≡ 2) ⊎ EmptyFacts r
+    empty z true e = inl (eqb-true (r .layer) 2 e)
+    empty z false e = let f = u .empty r m z (eqb-false (r .layer) 2 e) in inr (record { x = f .0; y = f .1; width = f .2; height = f .3 })
+
+    go : (b : Bool) → coded r ≡ b → Contents r
+    go true e = let c = says-coded r .told e in inl (c, record { coder = u .coder r m c; width = u .size r m c .0; height = u .size r m c .1; ending = u .ending r m c })
+    go false e =
+        let z = uncoded-is r e in
+        let f = u .uncoded r m z in
+        inr (z, record { coder = f .0; start = f .1; empty = empty z (eqb (r .layer) 2) refl })
 
 pub contents-coded : (r : Record) → Contents r → coded r ≡ true → CodedFacts r
 contents-coded r (inl k) e = k .1
@@ -46,50 +55,6 @@ contents-uncoded r (inr k) e = k .1
 
 pub contents-empty : (r : Record) → Contents r → r .layer ≢ 2 → coded r ≡ false → EmptyFacts r
 contents-empty r k n e = ⊎-elim (λ (z : r .layer ≡ 2). absurd (n z)) (λ (z : EmptyFacts r). z) (contents-uncoded r k e .empty)
-
--- ---- the type names the layers that are coded
-
-type-bits : (a b c : Bool) → (hasBack (typeBy a b c) ≡ a) × (hasMask (typeBy a b c) ≡ b) × (hasFore (typeBy a b c) ≡ c)
-type-bits true true true = (refl, refl, refl)
-type-bits true true false = (refl, refl, refl)
-type-bits true false true = (refl, refl, refl)
-type-bits true false false = (refl, refl, refl)
-type-bits false true true = (refl, refl, refl)
-type-bits false true false = (refl, refl, refl)
-type-bits false false true = (refl, refl, refl)
-type-bits false false false = (refl, refl, refl)
-
-pub back-bit : (a b c : Bool) → hasBack (typeBy a b c) ≡ a
-back-bit a b c = type-bits a b c .0
-
-pub mask-bit : (a b c : Bool) → hasMask (typeBy a b c) ≡ b
-mask-bit a b c = type-bits a b c .1
-
-pub fore-bit : (a b c : Bool) → hasFore (typeBy a b c) ≡ c
-fore-bit a b c = type-bits a b c .2
-
-pub type-by : (a b c : Bool) → ChoiceFacts a b c → TypeOf (typeBy a b c)
-type-by true true true k = inr (inr (inr (inr (inr refl))))
-type-by true true false k = inr (inr (inl refl))
-type-by true false true k = ⊎-elim (λ (e : false ≡ true). absurd (false≢true e)) (λ (e : (true ≡ true) × (true ≡ true) → ⊥). absurd (e (refl, refl))) (k .mask)
-type-by true false false k = inl refl
-type-by false true true k = inr (inr (inr (inr (inl refl))))
-type-by false true false k = inr (inl refl)
-type-by false false true k = inr (inr (inr (inl refl)))
-type-by false false false k =
-    ⊎-elim (λ (e : false ≡ true). absurd (false≢true e))
-    (⊎-elim (λ (e : false ≡ true). absurd (false≢true e)) (λ (e : false ≡ true). absurd (false≢true e)))
-    (k .some)
-
-pub type-small : (a b c : Bool) → typeBy a b c < 256
-type-small true true true = omega arith
-type-small true true false = omega arith
-type-small true false true = omega arith
-type-small true false false = omega arith
-type-small false true true = omega arith
-type-small false true false = omega arith
-type-small false false true = omega arith
-type-small false false false = omega arith
 
 -- ---- a record whose data starts at p
 
@@ -115,50 +80,3 @@ data-placed d l more r p n e =
     ap (λ (b : Bool). take (r .len) (drop (only b p) l)) c ∙ ap (take (r .len)) e ∙ take-at (layerOctets d r) more (r .len) n)
     (λ (c : coded r ≡ false). no-data l (placedAt r p) c ∙ sym (no-data d r c))
     (bool-else (coded r))
-
--- ---- the records of a page's stripe
-
-pub record-by : (r q : Record) → r .stripe ≡ q .stripe → r .layer ≡ q .layer → r .coder ≡ q .coder → r .x ≡ q .x → r .y ≡ q .y → r .width ≡ q .width → r .height ≡ q .height
-    → r .res ≡ q .res → r .base0 ≡ q .base0 → r .base1 ≡ q .base1 → r .base2 ≡ q .base2 → r .octet17 ≡ q .octet17 → r .start ≡ q .start → r .len ≡ q .len
-    → r .octets26 ≡ q .octets26 → r ≡ q
-record-by r q e1 e2 e3 e4 e5 e6 e7 e8 e9 e10 e11 e12 e13 e14 e15 = let all : startAt r (r .start) ≡ startAt q (q .start) = cc in all
-
--- what the page says of an image layer's data at a place
-unfoldable pub imageIs : Bool → Record → List ℕ → ℕ → LayerData
-imageIs true r l at = There at (length l) (r .width) (r .height) (r .res)
-imageIs false r l at = Absent
-
-pub image-made : (main at : ℕ) (d : List ℕ) (r : Record) → (Coded r → Layer main (layerOctets d r) (r .width) (r .height) (r .res))
-    → Image main at (coded r) (layerOctets d r) (imageIs (coded r) r (layerOctets d r) at)
-unfolding imageIs
-image-made main at d r y = go (coded r) refl
-  where
-    go : (b : Bool) → coded r ≡ b → Image main at b (layerOctets d r) (imageIs b r (layerOctets d r) at)
-    go true e = there (y (says-coded r .told e))
-    go false e = subst (λ (l : List ℕ). Image main at false l Absent) (sym (no-data d r e)) absent
-
-pub image-record : (hd : Head) (k l at : ℕ) (d : List ℕ) (r : Record) → r .stripe ≡ k → r .layer ≡ l → l % 2 ≡ 1 → Zeros r → Contents r → (Uncoded r → r .res ≡ hd .main)
-    → length (layerOctets d r) ≡ r .len → imageRecord hd k l (colourBy r) (r .x) (r .y) (imageIs (coded r) r (layerOctets d r) at) ≡ placedAt r at
-unfolding imageRecord imageIs
-image-record hd k l at d r es el odd z c m n = go (coded r) refl
-  where
-    one : CoderOf (r .layer) (r .coder) → r .coder ≡ 1
-    one (inl e) = e
-    one (inr (e, f)) = absurd (omega arith)
-
-    go : (b : Bool) → coded r ≡ b → imageRecord hd k l (colourBy r) (r .x) (r .y) (imageIs b r (layerOctets d r) at) ≡ startAt r (only b at)
-    go true e =
-        record-by _ _ (sym es) (sym el) (sym (one (contents-coded r c e .coder))) refl refl refl refl refl refl refl refl (sym (z .0)) refl n (sym (z .1))
-    go false e =
-        let f = contents-empty r c (λ (w : r .layer ≡ 2). omega arith) e in
-        let u = uncoded-is r e in
-        record-by _ _ (sym es) (sym el) (sym (contents-uncoded r c e .coder)) (sym (f .x)) (sym (f .y)) (sym (f .width)) (sym (f .height)) (sym (m u)) refl refl refl (sym (z .0)) refl (sym u) (sym (z .1))
-
-pub mask-record : (hd : Head) (k at : ℕ) (r : Record) (b : Bool) → coded r ≡ b → r .stripe ≡ k → r .layer ≡ 2 → Zeros r → Contents r → (r .x ≡ 0) × (r .y ≡ 0) → BaseFacts r
-    → r .width ≡ hd .width → r .res ≡ hd .main → (Coded r → hd .mask ≡ r .coder)
-    → maskRecord hd k (r .height) (cond b (hd .mask) 0) (cond b at 0) (r .len) ≡ startAt r (only b at)
-unfolding maskRecord
-mask-record hd k at r true e es el z c o f w m h =
-    record-by _ _ (sym es) (sym el) (h (says-coded r .told e)) (sym (o .0)) (sym (o .1)) (sym w) refl (sym m) (sym (f .0 .0)) (sym (f .0 .1)) (sym (f .1)) (sym (z .0)) refl refl (sym (z .1))
-mask-record hd k at r false e es el z c o f w m h =
-    record-by _ _ (sym es) (sym el) (sym (contents-uncoded r c e .coder)) (sym (o .0)) (sym (o .1)) (sym w) refl (sym m) (sym (f .0 .0)) (sym (f .0 .1)) (sym (f .1)) (sym (z .0)) refl refl (sym (z .1))

@@ -9,12 +9,14 @@ use lib.ListN.{length, take, drop, length-map}
 use lib.Dec.{ltb}
 use borrow.Author.Tests.{le-ltb}
 use Rattle.octets.specs.Octets.{Octets, putAt}
-use Rattle.page_rules.specs.Kinds.{longestPage}
+use Rattle.segment_rules.specs.Rules.{longestPage}
 use Rattle.laws.proofs.Cases.{cond-both}
 use Rattle.answers.specs.declared.Answer.{Answer}
 use Rattle.answers.specs.declared.Answer.the-variants.{Done, Short, BadMode, NoRoom, BadSheet, Mismatch, TooLong}
 use Rattle.answers.specs.Answers.{placeOf}
 use Rattle.field_rules.specs.Field.{Res, ok, no}
+use Rattle.segment_rules.specs.declared.Mode.the-variants.{One}
+use Rattle.segment_rules.specs.Rules.{mode1}
 use Rattle.sheet_rules.specs.declared.Record.{Record}
 use Rattle.sheet_rules.specs.Record.{recordSize, records, sheetOf}
 use Rattle.sheet_rules.specs.Sentences.{Sheet}
@@ -22,13 +24,13 @@ use Rattle.sheet_rules.proofs.Cut.{sheet-back, sheet-whole, records-count}
 use Rattle.sheet_rules.proofs.Theorems.{sheet-refused, refused-few}
 use Rattle.page_rules.specs.Grammar.{Page}
 use Rattle.page_rules.specs.Reading.{pageOf, roomOf, readOf, intoOf, readInto}
-use Rattle.page_rules.proofs.There.{page-there}
-use Rattle.page_rules.proofs.Back.{page-back}
+use Rattle.page_rules.proofs.Exactly.{page-there}
+use Rattle.page_rules.proofs.Exactly.{page-back}
 use Rattle.write_rules.specs.declared.Tally.{Tally}
 use Rattle.write_rules.specs.Writing.{begun, verdictOf, pageBy, sizeAnswer, answerBy, writeOf, intoBy, writeInto}
 use Rattle.write_rules.specs.Layer.{layerOctets}
 use Rattle.write_rules.specs.Form.{bare, Lands, Formed}
-use Rattle.write_rules.specs.Sentences.{Fine, Low, sizeOf, Sound, Gives, no-sheet, above-3, passing, differing, too-long, no-room, written, sheetMain}
+use Rattle.write_rules.specs.Sentences.{Fine, Low, startSize, pageEnd, sizeOf, Sound, Gives, no-sheet, above, passing, differing, too-long, no-room, written, sheetMain}
 use Rattle.write_rules.proofs.Passed.{Passed}
 use Rattle.write_rules.proofs.Exactly.{write-gives, gives-write}
 use Rattle.write_rules.proofs.Written.{records-sized}
@@ -54,7 +56,7 @@ gives-refusal s d room (BadSheet i) (no-sheet k) h =
     let f = refused-few s i (sheet-refused s i .1 k) .1 in
     let l = records-count s in
     record { kind = inl refl; place = omega arith }
-gives-refusal s d room (BadMode i) (above-3 a k) h = let w = k .within in record { kind = inr (inl refl); place = omega arith }
+gives-refusal s d room (BadMode i) (above a k) h = let w = k .within in record { kind = inr (inl refl); place = omega arith }
 gives-refusal s d room (Short i) (passing a low k) h = let w = k .within in record { kind = inr (inr (inl refl)); place = omega arith }
 gives-refusal s d room (Mismatch i) (differing a low k) h = let w = k .within in record { kind = inr (inr (inr (inl refl))); place = omega arith }
 gives-refusal s d room TooLong (too-long k long) h = record { kind = inr (inr (inr (inr (inl refl)))); place = omega arith }
@@ -71,9 +73,9 @@ write-kept s d p os o n q = into-kept s d p o (records-sized s os) n (done-into 
 
 pub refused-kept : (s d p : List ℕ) → ((n : ℕ) → writeOf s d (length p) ≡ Done n → ⊥) → writeInto s d p ≡ p
 unfolding writeOf answerBy sizeAnswer writeInto intoBy
-refused-kept s d p = by (verdictOf s d)
+refused-kept s d p = by (verdictOf mode1 s d)
   where
-    by : (r : Res Tally) → ((n : ℕ) → answerBy (length p) r ≡ Done n → ⊥) → intoBy p d (records s) r ≡ p
+    by : (r : Res Tally) → ((n : ℕ) → answerBy (length p) r ≡ Done n → ⊥) → intoBy mode1 p d (records s) r ≡ p
     by (ok u m) =
         cond-both (λ x y. ((n : ℕ) → x ≡ Done n → ⊥) → y ≡ p) (ltb longestPage (u .size)) (λ t h. refl) λ t.
         cond-both (λ x y. ((n : ℕ) → x ≡ Done n → ⊥) → y ≡ p) (ltb (length p) (u .size)) (λ v h. refl) (λ v h. absurd (h (u .size) refl))
@@ -115,7 +117,7 @@ write-formed s d p os o n q = into-formed s d p o (records-sized s os) n (done-i
 -- ---- a page of at most 16,777,215 octets can be written from its sheet and itself, into a buffer as long as it is
 
 lent-done : (p : List ℕ) → Octets p → (rs : List Record) (y : Page p rs) → length p ≤ longestPage → (room : ℕ) → length p ≤ room
-    → writeOf (sheetOf rs) p room ≡ Done (26 + length (y .stripes))
+    → writeOf (sheetOf rs) p room ≡ Done (startSize + length pageEnd + length (y .stripes))
 lent-done p o rs y short room fits =
     let l = length-page p rs y in
     let e = sheet-back rs in
@@ -123,10 +125,10 @@ lent-done p o rs y short room fits =
     record {
       sheet = subst Sheet (sym e) (trip-sheet p rs y short);
       whole = sheet-whole rs;
-      low = subst Low (sym e) (trip-low p rs y short);
+      low = subst (Low One) (sym e) (trip-low p rs y short);
       fine = subst (λ (x : List Record). Fine (sheetMain x) p x) (sym e) (trip-fine p rs y short);
     } in
-    write-exactly (sheetOf rs) p o room (Done (26 + length (y .stripes))) .1 (written k (trip-size p rs y short ∙ ap sizeOf (sym e)) (omega arith) (omega arith))
+    write-exactly (sheetOf rs) p o room (Done (startSize + length pageEnd + length (y .stripes))) .1 (written k (trip-size p rs y short ∙ ap (sizeOf One) (sym e)) (omega arith) (omega arith))
 
 -- a page in the writer's form comes back octet for octet
 
@@ -136,12 +138,12 @@ formed-again p o rs f short out fits =
     let l = length-page p rs (f .page) in
     let lo : length (f .page .optionals) ≡ 0 = ap length (f .optionals) in
     let lz = f .padding in
-    let z : 26 + length (f .page .stripes) ≡ length p = omega arith in
+    let z : startSize + length pageEnd + length (f .page .stripes) ≡ length p = omega arith in
     let q : writeOf (sheetOf rs) p (length out) ≡ Done (length p) = lent-done p o rs (f .page) short (length out) fits ∙ ap Done z in
     let k = done-into (sheetOf rs) p out o (length p) q in
-    let e : pageBy p (records (sheetOf rs)) (k .u) ≡ p =
-    ap (λ (x : List Record). pageBy p x (k .u)) (sheet-back rs)
-    ∙ page-again p rs f (k .u) (subst (λ (x : List Record). Passed p (sheetMain x) begun (k .u) x) (sheet-back rs) (k .accepted .passed)) in
+    let e : pageBy mode1 p (records (sheetOf rs)) (k .u) ≡ p =
+    ap (λ (x : List Record). pageBy mode1 p x (k .u)) (sheet-back rs)
+    ∙ page-again p rs f (k .u) (subst (λ (x : List Record). Passed One p (sheetMain x) begun (k .u) x) (sheet-back rs) (k .accepted .passed)) in
     (q, k .into ∙ ap (putAt out 0) e)
 
 -- so that a page that was written, written again from the sheet that reading gives of it, is the same page
@@ -172,17 +174,17 @@ pub read-write-read : (p : List ℕ) → Octets p → (rs : List Record) (n : �
 read-write-read p o rs n e short out fits =
     let y = page-back p o rs n e .0 in
     let l = length-page p rs y in
-    let c : ℕ = 26 + length (y .stripes) in
+    let c : ℕ = startSize + length pageEnd + length (y .stripes) in
     let q = lent-done p o rs y short (length out) fits in
-    let i = done-into (sheetOf rs) p out o (26 + length (y .stripes)) q in
-    let k = into-lands (sheetOf rs) p out o (sheet-sized p rs y short) (26 + length (y .stripes)) i in
-    let m = into-size (sheetOf rs) p out o (sheet-sized p rs y short) (26 + length (y .stripes)) i in
+    let i = done-into (sheetOf rs) p out o (startSize + length pageEnd + length (y .stripes)) q in
+    let k = into-lands (sheetOf rs) p out o (sheet-sized p rs y short) (startSize + length pageEnd + length (y .stripes)) i in
+    let m = into-size (sheetOf rs) p out o (sheet-sized p rs y short) (startSize + length pageEnd + length (y .stripes)) i in
     record {
-      count = 26 + length (y .stripes);
+      count = startSize + length pageEnd + length (y .stripes);
       done = q;
       most = omega arith;
       records = k .records;
-      read = page-there (take (26 + length (y .stripes)) (writeInto (sheetOf rs) p out)) (k .records) (k .page) ∙ ap (ok (k .records)) m;
+      read = page-there (take (startSize + length pageEnd + length (y .stripes)) (writeInto (sheetOf rs) p out)) (k .records) (k .page) ∙ ap (ok (k .records)) m;
       same = k .same ∙ ap (map bare) (sheet-back rs);
       layers = k .layers ∙ ap (map (layerOctets p)) (sheet-back rs);
     }

@@ -7,29 +7,34 @@ use mathlib.Core.Logic.{⊎-elim}
 use mathlib.Core.Bool.{true, false}
 use mathlib.Core.List.{List, _∷_, _++_}
 use lib.ListN.{length, length-append, length-replicate, replicate}
-use Rattle.page_rules.specs.Kinds.{longestPage}
+use Rattle.segment_rules.specs.Rules.{longestPage}
 use Rattle.laws.proofs.Cases.{bool-else}
+use Rattle.segment_rules.specs.declared.Mode.the-variants.{One}
 use Rattle.sheet_rules.specs.declared.Record.{Record}
 use Rattle.sheet_rules.specs.Record.{records, sheetOf}
 use Rattle.sheet_rules.specs.Judge.{coded}
 use Rattle.sheet_rules.specs.Sentences.{Among, Sheet}
 use Rattle.sheet_rules.proofs.New.{says-coded}
 use Rattle.jpeg_rules.specs.Grammar.{Layer}
-use Rattle.page_rules.specs.Grammar.{startOf, Page}
-use Rattle.page_rules.proofs.There.{length-start}
-use Rattle.page_rules.proofs.Accepted.{page-accepted}
-use Rattle.page_rules.proofs.Named.{page-named}
+use Rattle.start_rules.specs.Grammar.{startOf}
+use Rattle.page_rules.specs.Grammar.{Page}
+use Rattle.start_rules.proofs.Start.{length-start, only-mode1}
+use Rattle.segment_rules.specs.declared.Rules.{Rules}
+use Rattle.sheet_rules.specs.Record.{sumOf}
+use Rattle.write_rules.proofs.Passed.{sizeIn}
+use Rattle.page_rules.proofs.Parts.{page-accepted}
+use Rattle.page_rules.proofs.Parts.{page-named}
 use Rattle.write_rules.specs.Layer.{layerOctets}
-use Rattle.write_rules.specs.Sentences.{Fine, Low, sizeOf, sheetMain}
-use Rattle.write_rules.proofs.Threes.{sheet-threes}
-use Rattle.write_rules.proofs.Sizes.{size-threes}
+use Rattle.write_rules.specs.Sentences.{Fine, Low, startSize, pageEnd, sizeOf, sheetMain}
+use Rattle.write_rules.proofs.Sizes.{size-each}
 use Rattle.write_rules.proofs.Placed.{uncoded-is}
-use Rattle.write_rules.proofs.Lands.{Sized}
-use Rattle.write_rules.proofs.Lent.{Lent, stripes-lent, stripes-main, stripes-size}
+use Rattle.write_rules.proofs.Ready.{Sized}
+use Rattle.write_rules.proofs.Mode1Lent.{Lent}
+use Rattle.write_rules.proofs.Lent.{stripes-lent, stripes-main, stripes-size}
 use Rattle.sheet_rules.proofs.Cut.{sheet-back}
 
 -- the octets of a page
-pub length-page : (s : List ℕ) (rs : List Record) (y : Page s rs) → length s ≡ 26 + length (y .optionals) + length (y .stripes) + y .zeros
+pub length-page : (s : List ℕ) (rs : List Record) (y : Page s rs) → length s ≡ startSize + length pageEnd + length (y .optionals) + length (y .stripes) + y .zeros
 length-page s rs y =
     let close : List ℕ = 0xFF ∷ 0xD9 ∷ 0xFF ∷ 0xD9 ∷ replicate (y .zeros) 0 in
     let a = ap length (y .octets) in
@@ -47,7 +52,7 @@ module _ (s : List ℕ) (rs : List Record) (y : Page s rs) (short : length s ≤
   pub trip-sheet : Sheet rs
   trip-sheet = page-accepted s rs y short
 
-  pub trip-low : Low rs
+  pub trip-low : Low One rs
   trip-low r m = lent r m .low
 
   pub trip-fine : Fine (sheetMain rs) s rs
@@ -75,8 +80,7 @@ module _ (s : List ℕ) (rs : List Record) (y : Page s rs) (short : length s ≤
   pub sheet-sized : (r : Record) → Among r (records (sheetOf rs)) → Sized r
   sheet-sized r m = trip-sized r (subst (Among r) (sheet-back rs) m)
 
-  pub trip-size : 26 + length (y .stripes) ≡ sizeOf rs
-  trip-size =
-      let m = stripes-main (y .striped) in
-      ap (λ (n : ℕ). 26 + n) (sym (stripes-size (y .striped)))
-      ∙ size-threes (sheet-threes rs trip-sheet trip-low (y .head) (sym (m .0)) (sym (m .1))) (trip-sheet .complete .count)
+  pub trip-size : startSize + length pageEnd + length (y .stripes) ≡ sizeOf One rs
+  trip-size = ap (λ (n : ℕ). startSize + length pageEnd + n)
+      (sym (stripes-size (y .striped)) ∙ ap (λ (r : Rules). sumOf (sizeIn (r .mode)) rs) (only-mode1 (y .head .rules)))
+      ∙ sym (size-each One rs)

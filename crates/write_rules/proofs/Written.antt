@@ -1,31 +1,37 @@
 -- The page that is written: of the grammar, in the writer's form, with the records and the data that were lent.
 -- Assumes nothing.
-use Prim.Native.Nat.{ℕ, zero, suc, _+_, _*_, _/_, _≤_}
+use Prim.Native.Nat.{ℕ, zero, suc, _+_, _*_, _/_}
 use native.Mathlib.Omega.{arith}
 use mathlib.Core.Path.{_≡_, refl, sym, ap, subst, _∙_}
 use mathlib.Core.Logic.{inl, inr, ⊎-elim}
 use mathlib.Core.List.{List, [], _∷_, _++_, map, List·Memᴰ·head, List·Memᴰ·tail, List·Memᴰ·cases-cons, List·Memᴰ·not-nil}
 use lib.ListN.{length, drop, length-append}
-use Rattle.octets.specs.Octets.{Octets}
+use Rattle.octets.specs.Octets.{Octets, octets16, octets32}
 use Rattle.octets.proofs.Laws.{drop-next, be16-bound, be32-bound, octets-append}
 use Rattle.octets.specs.Entries.{entriesFrom}
 use Rattle.laws.proofs.Cases.{clash}
 use Rattle.sheet_rules.specs.declared.Record.{Record}
-use Rattle.sheet_rules.specs.Record.{recordSize, recordAt, recordsFrom, records}
-use Rattle.sheet_rules.specs.Sentences.{Among, CoderOf, Listed, Sheet}
-use Rattle.page_rules.specs.declared.Head.{Head}
-use Rattle.page_rules.specs.Grammar.{startOf, MaskCoder, GoodHead, no-more}
-use Rattle.page_rules.proofs.There.{length-start}
+use Rattle.segment_rules.specs.declared.Rules.{Rules}
+use Rattle.sheet_rules.specs.Record.{recordSize, recordAt, recordsFrom, records, nth, sumOf}
+use Rattle.sheet_rules.specs.Sentences.{Among, CoderOf, Sheet}
+use Rattle.segment_rules.specs.declared.Mode.{Mode}
+use Rattle.segment_rules.specs.declared.Mode.the-variants.{One}
+use Rattle.start_rules.specs.declared.Head.{Head}
+use Rattle.start_rules.specs.Grammar.{startOf, MaskCoder, ImageCoder, GoodHead}
+use Rattle.body_rules.specs.Body.{no-more}
+use Rattle.start_rules.proofs.Start.{length-start}
 use Rattle.write_rules.specs.declared.Tally.{Tally}
 use Rattle.write_rules.specs.Layer.{layerOctets}
 use Rattle.write_rules.specs.Writing.{begun, headBy, stripesBy, pageBy}
 use Rattle.write_rules.specs.Form.{bare, UsedMask, UsedImage, Formed}
 use Rattle.write_rules.proofs.Agreed.{length-data}
-use Rattle.write_rules.proofs.Passed.{Passed}
-use Rattle.write_rules.proofs.Threes.{Threes, ended, another, sheet-threes}
-use Rattle.write_rules.specs.Sentences.{Low, sheetMain}
-use Rattle.write_rules.proofs.Small.{close-octets, start-octets, stripes-octets}
-use Rattle.write_rules.proofs.Lands.{Sized, Ready, movedBy, stripes-land, moved-same, moved-data, length-stripes}
+use Rattle.write_rules.proofs.Passed.{Passed, sizeIn}
+use Rattle.write_rules.specs.Cut.{stripesOf}
+use Rattle.write_rules.specs.Sentences.{Low, sheetMain, startSize, pageEnd}
+use Rattle.write_rules.proofs.Cut.{cut-joined, Lots, sheet-cut, second-of}
+use Rattle.write_rules.proofs.Ready.{Sized, Under, Ready}
+use Rattle.write_rules.proofs.Small.{end-octets, start-octets}
+use Rattle.write_rules.proofs.Lands.{movedOf, stripes-land, moved-same, moved-data, length-stripes, stripes-octets}
 
 -- ---- the numbers of a sheet's records are small
 
@@ -80,89 +86,104 @@ used-image-same qs rs e w =
 
 -- ---- the start of page
 
-mask-coder : (layer coder : ℕ) → CoderOf layer coder → MaskCoder coder
-mask-coder layer coder (inl e) = inr (inl e)
-mask-coder layer coder (inr (f, inl e)) = inr (inr (inl e))
-mask-coder layer coder (inr (f, inr (inl e))) = inr (inr (inr (inl e)))
-mask-coder layer coder (inr (f, inr (inr e))) = inr (inr (inr (inr e)))
+mask-coder : (m : Mode) (layer coder : ℕ) → CoderOf layer coder → MaskCoder m coder
+mask-coder One layer coder (inl e) = inr (inl e)
+mask-coder One layer coder (inr (f, inl e)) = inr (inr (inl e))
+mask-coder One layer coder (inr (f, inr (inl e))) = inr (inr (inr (inl e)))
+mask-coder One layer coder (inr (f, inr (inr e))) = inr (inr (inr (inr e)))
 
-head-facts : {hd : Head} {left : ℕ} {rs : List Record} → Threes hd 0 left rs → Listed (hd .main) × ((1 ≤ hd .width) × (hd .width ≤ 32768))
-head-facts (ended p) = absurd (omega arith)
-head-facts (another t more) = (t .listed, t .wide)
+-- a coder octet may be 0 or the coder that is used
+no-mask : (m : Mode) (c : ℕ) → c ≡ 0 → MaskCoder m c
+no-mask One c e = inl e
 
-module _ (d : List ℕ) (o : Octets d) (rs : List Record) (u : Tally) (sh : Sheet rs) (low : Low rs) (sized : (r : Record) → Among r rs → Sized r)
-    (p : Passed d (sheetMain rs) begun u rs) where
-  pub threes : Threes (headBy rs u) 0 65535 rs
-  threes = sheet-threes rs sh low (headBy rs u) refl refl
+no-image : (m : Mode) (c : ℕ) → c ≡ 0 → ImageCoder m c
+no-image One c e = inl e
+
+one-image : (m : Mode) (c : ℕ) → c ≡ 1 → ImageCoder m c
+one-image One c e = inr e
+
+module _ (rules : Rules) (d : List ℕ) (o : Octets d) (rs : List Record) (u : Tally) (sh : Sheet rs) (low : Low (rules .mode) rs) (sized : (r : Record) → Among r rs → Sized r)
+    (p : Passed (rules .mode) d (sheetMain rs) begun u rs) where
+  abbrev hd : Head
+  hd = headBy rules rs u
+
+  under : Under (rules .mode) hd rs
+  under = record { named = refl; sheet = sh; low = low; main = refl; width = refl }
+
+  lots : Lots rs 0 65535 (stripesOf rs)
+  lots = sheet-cut rs sh
 
   pub long : (r : Record) → Among r rs → length (layerOctets d r) ≡ r .len
   long r m = length-data d o r (p .inside r m)
 
-  ready : Ready d (headBy rs u) rs
+  ready : Ready d hd rs
   ready = record { sized = sized; long = long; layer = p .layer; mask = p .mask; image = p .image }
 
-  good-head : GoodHead (headBy rs u)
+  good-head : GoodHead hd
   good-head =
-      let h = head-facts threes in
+      let two = second-of rs sh in
       record {
         mask =
-            ⊎-elim (λ (e : u .mask ≡ 0). inl e)
+            ⊎-elim (λ (e : u .mask ≡ 0). no-mask (rules .mode) (u .mask) e)
             (λ (w : UsedMask rs).
-            subst MaskCoder (sym (p .mask (w .it) (w .among) (w .coded) (w .mask)))
-            (mask-coder (w .it .layer) (w .it .coder) (sh .unbroken .coder (w .it) (w .among) (w .coded))))
+            subst (MaskCoder (rules .mode)) (sym (p .mask (w .it) (w .among) (w .coded) (w .mask)))
+            (mask-coder (rules .mode) (w .it .layer) (w .it .coder) (sh .unbroken .coder (w .it) (w .among) (w .coded))))
             (p .maskUsed);
-        image = ⊎-elim (λ (e : u .image ≡ 0). inl e) (λ (w : UsedImage rs). inr (p .image (w .it) (w .among) (w .coded) (w .image))) (p .imageUsed);
-        main = h .0;
-        width = h .1;
+        image =
+            ⊎-elim (λ (e : u .image ≡ 0). no-image (rules .mode) (u .image) e)
+            (λ (w : UsedImage rs). one-image (rules .mode) (u .image) (p .image (w .it) (w .among) (w .coded) (w .image))) (p .imageUsed);
+        main = sh .unbroken .listed (nth rs 1) (two .0);
+        width = sh .unbroken .wide (nth rs 1) (two .0) (two .1);
       }
 
-  pub written-same : map bare (movedBy d 22 rs) ≡ map bare rs
-  written-same = moved-same threes d 22
+  pub written-same : map bare (movedOf (rules .mode) d rs) ≡ map bare rs
+  written-same = moved-same (rules .mode) d hd rs under lots startSize ∙ ap (map bare) (cut-joined rs)
 
   -- every page that is written has the writer's form
-  pub written-formed : Formed (pageBy d rs u) (movedBy d 22 rs)
-  unfolding pageBy
+  pub written-formed : Formed (pageBy rules d rs u) (movedOf (rules .mode) d rs)
+  unfolding pageBy stripesBy startOf octets16 octets32
   written-formed =
-      let l = stripes-land threes d 22 ready in
+      let l = stripes-land (rules .mode) d hd rs under lots startSize ready in
       record {
         page =
             record {
-              head = headBy rs u;
+              head = headBy rules rs u;
               optionals = [];
-              stripes = stripesBy d rs;
+              stripes = stripesBy (rules .mode) d rs;
               zeros = 0;
               octets = refl;
               good = good-head;
               optional = no-more;
               striped = l .striped;
             };
-        mask = λ nz. used-mask-same (movedBy d 22 rs) rs written-same (⊎-elim (λ (e : u .mask ≡ 0). absurd (nz e)) (λ (w : UsedMask rs). w) (p .maskUsed));
-        image = λ nz. used-image-same (movedBy d 22 rs) rs written-same (⊎-elim (λ (e : u .image ≡ 0). absurd (nz e)) (λ (w : UsedImage rs). w) (p .imageUsed));
+        mask = λ nz. used-mask-same (movedOf (rules .mode) d rs) rs written-same (⊎-elim (λ (e : u .mask ≡ 0). absurd (nz e)) (λ (w : UsedMask rs). w) (p .maskUsed));
+        image = λ nz. used-image-same (movedOf (rules .mode) d rs) rs written-same (⊎-elim (λ (e : u .image ≡ 0). absurd (nz e)) (λ (w : UsedImage rs). w) (p .imageUsed));
         offsets = l .trim;
         optionals = refl;
         padding = refl;
       }
 
   -- the layers' octets are those that were lent
-  pub written-layers : map (layerOctets (pageBy d rs u)) (movedBy d 22 rs) ≡ map (layerOctets d) rs
-  unfolding pageBy
+  pub written-layers : map (layerOctets (pageBy rules d rs u)) (movedOf (rules .mode) d rs) ≡ map (layerOctets d) rs
+  unfolding pageBy stripesBy
   written-layers =
-      let e = drop-next (pageBy d rs u) (startOf (headBy rs u)) (stripesBy d rs ++ (0xFF ∷ 0xD9 ∷ 0xFF ∷ 0xD9 ∷ [])) 0 refl in
-      let n : 0 + length (startOf (headBy rs u)) ≡ 22 = let l = length-start (headBy rs u) in omega arith in
-      moved-data threes d (pageBy d rs u) (0xFF ∷ 0xD9 ∷ 0xFF ∷ 0xD9 ∷ []) 22 long (ap (λ (j : ℕ). drop j (pageBy d rs u)) (sym n) ∙ e)
+      let e = drop-next (pageBy rules d rs u) (startOf hd) (stripesBy (rules .mode) d rs ++ pageEnd) 0 refl in
+      let n : 0 + length (startOf hd) ≡ startSize = let l = length-start hd in omega arith in
+      moved-data (rules .mode) d hd rs under long lots (pageBy rules d rs u) pageEnd startSize (ap (λ (j : ℕ). drop j (pageBy rules d rs u)) (sym n) ∙ e)
+      ∙ ap (map (layerOctets d)) (cut-joined rs)
 
-  pub length-written : length (pageBy d rs u) ≡ u .size
-  unfolding pageBy
+  pub length-written : length (pageBy rules d rs u) ≡ u .size
+  unfolding pageBy stripesBy
   length-written =
-      let a = length-start (headBy rs u) in
-      let b = length-append (startOf (headBy rs u)) (stripesBy d rs ++ (0xFF ∷ 0xD9 ∷ 0xFF ∷ 0xD9 ∷ [])) in
-      let c = length-append (stripesBy d rs) (0xFF ∷ 0xD9 ∷ 0xFF ∷ 0xD9 ∷ []) in
-      let e = length-stripes threes d long in
+      let a = length-start hd in
+      let b = length-append (startOf hd) (stripesBy (rules .mode) d rs ++ pageEnd) in
+      let c = length-append (stripesBy (rules .mode) d rs) pageEnd in
+      let e = length-stripes (rules .mode) d hd rs under long lots ∙ ap (sumOf (sizeIn (rules .mode))) (cut-joined rs) in
       let f = p .size in
       omega arith
 
-  pub written-octets : Octets (pageBy d rs u)
-  unfolding pageBy
+  pub written-octets : Octets (pageBy rules d rs u)
+  unfolding pageBy stripesBy
   written-octets =
-      octets-append (startOf (headBy rs u)) (stripesBy d rs ++ (0xFF ∷ 0xD9 ∷ 0xFF ∷ 0xD9 ∷ [])) (start-octets (headBy rs u) good-head)
-      (octets-append (stripesBy d rs) (0xFF ∷ 0xD9 ∷ 0xFF ∷ 0xD9 ∷ []) (stripes-octets threes (omega arith) d o sized) close-octets)
+      octets-append (startOf hd) (stripesBy (rules .mode) d rs ++ pageEnd) (start-octets hd good-head)
+      (octets-append (stripesBy (rules .mode) d rs) pageEnd (stripes-octets (rules .mode) d hd rs under lots (omega arith) o sized) end-octets)

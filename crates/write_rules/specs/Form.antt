@@ -4,21 +4,23 @@
 --   bare r         the record without the start of its coded data: all but octets 18 to 21 of a coded record
 --   Lands rs d l   the octets l are a page whose sheet is that of the records rs, but for octets 18 to 21 of coded records; and the data of each
 --                  is the data that the buffer d has for it
---   Trim ..        in each stripe of a page an absent layer's offsets are 0
+--   Trim ..        each stripe of a page has the writer's form
 --   UsedMask, UsedImage   some mask, or some image layer, among the records is coded
 --   Formed p rs    the octets p are a page with the records rs, in the writer's form
-use Prim.Native.Nat.{ℕ}
+use Prim.Native.Nat.{ℕ, _+_}
 use mathlib.Core.Path.{_≡_}
 use mathlib.Core.Logic.{_≢_}
-use mathlib.Core.Bool.{false, cond}
+use mathlib.Core.Bool.{cond}
 use mathlib.Core.List.{List, [], map}
+use lib.ListN.{length}
 use Rattle.sheet_rules.specs.declared.Record.{Record}
 use Rattle.sheet_rules.specs.Judge.{coded}
 use Rattle.sheet_rules.specs.Sentences.{Among, Coded}
-use Rattle.page_rules.specs.declared.Head.{Head}
-use Rattle.page_rules.specs.Kinds.{hasBack, hasFore}
-use Rattle.page_rules.specs.Grammar.{Stripe, Stripes, last, next, Page}
+use Rattle.start_rules.specs.declared.Head.{Head}
+use Rattle.page_rules.specs.Grammar.{Stripes, Page}
+use Rattle.body_rules.specs.Body.{last, next}
 use Rattle.write_rules.specs.Layer.{layerOctets}
+use Rattle.write_rules.specs.Modes.{TrimIn}
 
 abbrev pub startAt : Record → ℕ → Record
 startAt r start =
@@ -53,13 +55,10 @@ pub record Lands (rs : List Record) (d l : List ℕ) : Type 0 where
 
 -- ---- the writer's form, of a page
 
-pub record TrimStripe {hd : Head} {k left at : ℕ} {l : List ℕ} {height : ℕ} {rs : List Record} (z : Stripe hd k left at l height rs) : Type 0 where
-  pub back : hasBack (z .fields .type) ≡ false → (z .fields .backX ≡ 0) × (z .fields .backY ≡ 0)
-  pub fore : hasFore (z .fields .type) ≡ false → (z .fields .foreX ≡ 0) × (z .fields .foreY ≡ 0)
-
 unfoldable pub Trim : {hd : Head} {k left at : ℕ} {l : List ℕ} {rs : List Record} → Stripes hd k left at l rs → Type 0
 Trim (last some) = Unit {0}
-Trim (next height few z rest) = TrimStripe z × Trim rest
+Trim {hd} {k} {left} {at} (next {l = l} {rs = rs} height few z rest) =
+    TrimIn (hd .rules .mode) hd k left (at + length (z .begin)) (z .rest) height rs (z .behind) × Trim rest
 
 -- a coded layer among the records: a mask, or an image layer
 pub record UsedMask (rs : List Record) : Type 0 where

@@ -6,50 +6,57 @@ use mathlib.Core.Path.{_≡_, refl, sym, _∙_}
 use mathlib.Core.Bool.{Bool, true, false, _&&_, _||_, not, cond}
 use mathlib.Core.List.{List}
 use lib.ListN.{length}
-use lib.Dec.{eqb, leb, lit≤}
+use lib.Dec.{eqb, leb}
 use mir.Syntax.{w32, w64}
 use mir.Val.{Fits}
 use borrow.Author.Needs.{needs}
 use borrow.Author.Tests.{eq-eqb, ne-eqb, leb-true, leb-false, le-ltb, lt-ltb}
 use Rattle.answers.specs.declared.Answer.the-variants.{Short, Mismatch}
 use Rattle.sheet_rules.specs.declared.Record.{Record}
-use Rattle.laws.specs.Tests.{only}
+use Rattle.segment_rules.specs.declared.Mode.{Mode}
+use Rattle.segment_rules.specs.declared.Mode.the-variants.{One}
 use Rattle.sheet_rules.specs.Judge.{coded}
 use Rattle.write_rules.specs.declared.Tally.{Tally}
 use Rattle.write_rules.specs.Layer.{agrees}
+use Rattle.write_rules.specs.Mode1.{head1}
+use Rattle.write_rules.specs.Modes.{headIn}
+use Rattle.segment_rules.specs.Rules.{mostLayers}
+use Rattle.write_rules.proofs.Modes.{head-few}
 use Rattle.write_rules.specs.Writing.{isMask, counted, matches, recordStep}
 use Rattle.write_verdict.specs.declared.Pass.the-variants.{Next, Refused}
 use Rattle.write_verdict.specs.Pass.{passOf}
 
--- ---- choose and head_octets
-pub head-some : (l : ℕ) → l ≡ 1 → 39 ≡ only (eqb l 1) 39
-head-some l e = simp (eq-eqb l 1 e)
+-- ---- what hangs on the mode
+pub most-one : (mode : Mode) → _≡_ {A = ℕ} 3 (mostLayers mode)
+most-one One = refl
 
-pub head-none : (l : ℕ) → (l ≡ 1 → ⊥) → _≡_ {A = ℕ} 0 (only (eqb l 1) 39)
-head-none l n = simp (ne-eqb l 1 n)
+pub head-some : (r : Record) → r .layer ≡ 1 → 39 ≡ head1 r
+head-some r e = simp (eq-eqb (r .layer) 1 e)
 
-pub only-small : (b : Bool) → only b 39 ≤ 39
-only-small true = lit≤ tt
-only-small false = lit≤ tt
+pub head-none : (r : Record) → (r .layer ≡ 1 → ⊥) → _≡_ {A = ℕ} 0 (head1 r)
+head-none r n = simp (ne-eqb (r .layer) 1 n)
 
-module _ (size l len : ℕ) (s : size ≤ 4611686018427387904) {h : ℕ} (e : h ≡ only (eqb l 1) 39) where
+pub head-one : (mode : Mode) (r : Record) {h : ℕ} → h ≡ head1 r → h ≡ headIn mode r
+head-one One r f = f
+
+module _ (mode : Mode) (size : ℕ) (r : Record) (s : size ≤ 4611686018427387904) {h : ℕ} (e : h ≡ headIn mode r) where
   pub head-fits : Fits w64 (size + h)
-  head-fits = let o = only-small (eqb l 1) in record { fits = omega arith }
+  head-fits = let o = head-few mode r in record { fits = omega arith }
 
-  pub len-fits : Fits w32 len → Fits w64 (size + h + len)
-  len-fits f = let o = only-small (eqb l 1) in let b = f .fits in record { fits = omega arith }
+  pub len-fits : Fits w32 (r .len) → Fits w64 (size + h + r .len)
+  len-fits f = let o = head-few mode r in let b = f .fits in record { fits = omega arith }
 
-  pub size-made : size + h + len ≡ size + only (eqb l 1) 39 + len
+  pub size-made : size + h + r .len ≡ size + headIn mode r + r .len
   size-made = rw e refl
 
-pub ruleset choosing = (needs, head-some, head-none, head-fits, len-fits, size-made)
+pub ruleset choosing = (needs, most-one, head-some, head-none, head-one, head-fits, len-fits, size-made)
 
 -- ---- with_record
-pub tally-made : (t : Tally) (r : Record) {c : Bool} {mask image size : ℕ} → c ≡ coded r → mask ≡ cond (c && isMask r) (r .coder) (t .mask)
-    → image ≡ cond (c && not (isMask r)) (r .coder) (t .image) → size ≡ t .size + only (eqb (r .layer) 1) 39 + r .len
-    → _≡_ {A = Tally} (record { mask = mask; image = image; size = size }) (counted t r)
+pub tally-made : (mode : Mode) (t : Tally) (r : Record) {c : Bool} {mask image size : ℕ} → c ≡ coded r → mask ≡ cond (c && isMask r) (r .coder) (t .mask)
+    → image ≡ cond (c && not (isMask r)) (r .coder) (t .image) → size ≡ t .size + headIn mode r + r .len
+    → _≡_ {A = Tally} (record { mask = mask; image = image; size = size }) (counted mode t r)
 unfolding counted
-tally-made t r e f g h = rw (f, g, h, e) refl
+tally-made mode t r e f g h = rw (f, g, h, e) refl
 
 -- ---- data_matches and pass_record
 module _ (d : List ℕ) (main : ℕ) (t : Tally) (r : Record) {c : Bool} (e : c ≡ coded r) where
@@ -66,8 +73,8 @@ module _ (d : List ℕ) (main : ℕ) (t : Tally) (r : Record) {c : Bool} (e : c 
     unfolding matches
     match-image l h = h ∙ simp (sym e ∙ y, ne-eqb (r .layer) 2 l)
 
-module _ (d : List ℕ) (main : ℕ) (t : Tally) (i : ℕ) (r : Record) {f : Bool} (e : f ≡ leb (r .start + r .len) (length d)) where
-  pub pass-short : f ≡ false → Refused (Short i) ≡ passOf (recordStep d main t i r)
+module _ (mode : Mode) (d : List ℕ) (main : ℕ) (t : Tally) (i : ℕ) (r : Record) {f : Bool} (e : f ≡ leb (r .start + r .len) (length d)) where
+  pub pass-short : f ≡ false → Refused (Short i) ≡ passOf (recordStep mode d main t i r)
   unfolding recordStep passOf
   pass-short y = simp (lt-ltb (length d) (r .start + r .len) (leb-false _ _ (sym e ∙ y)))
 
@@ -75,11 +82,11 @@ module _ (d : List ℕ) (main : ℕ) (t : Tally) (i : ℕ) (r : Record) {f : Boo
     there : r .start + r .len ≤ length d
     there = leb-true _ _ (sym e ∙ y)
 
-    pub pass-mismatch : m ≡ false → Refused (Mismatch i) ≡ passOf (recordStep d main t i r)
+    pub pass-mismatch : m ≡ false → Refused (Mismatch i) ≡ passOf (recordStep mode d main t i r)
     unfolding recordStep passOf
     pass-mismatch w = simp (le-ltb (length d) (r .start + r .len) there, sym z ∙ w)
 
-    pub pass-next : {u : Tally} → m ≡ true → u ≡ counted t r → Next u ≡ passOf (recordStep d main t i r)
+    pub pass-next : {u : Tally} → m ≡ true → u ≡ counted mode t r → Next u ≡ passOf (recordStep mode d main t i r)
     unfolding recordStep passOf
     pass-next w h = simp (h, le-ltb (length d) (r .start + r .len) there, sym z ∙ w)
 

@@ -1,7 +1,7 @@
 -- The writer's verdict, as its reader sees it.
 --
 --   passOf r     what the records come to, without the place
---   modeOf r     the first record above layer 3
+--   layersOf r   the first record above the layers that are carried
 --   Few s n      the sheet has n whole records, and no more than a good one
 --   Taken s n    the judge takes the sheet, with n records
 --   acceptedOf   the verdict on a sheet that the judge takes
@@ -11,24 +11,26 @@ use mathlib.Core.List.{List}
 use lib.ListN.{length}
 use Rattle.answers.specs.Answers.{placeOf}
 use Rattle.field_rules.specs.Field.{Res, ok, no, bind}
+use Rattle.segment_rules.specs.declared.Mode.{Mode}
 use Rattle.sheet_rules.specs.declared.Verdict.the-variants.{Good}
 use Rattle.sheet_rules.specs.Record.{recordSize, records, mostRecords}
 use Rattle.sheet_rules.specs.Judge.{judgeOf}
 use Rattle.write_rules.specs.declared.Tally.{Tally}
+use Rattle.segment_rules.specs.Rules.{mostLayers}
 use Rattle.write_rules.specs.Sentences.{sheetMain}
 use Rattle.write_rules.specs.Writing.{modeFrom, begun, recordsPass}
 use Rattle.write_verdict.specs.declared.Pass.{Pass}
 use Rattle.write_verdict.specs.declared.Pass.the-variants.{Next, Refused}
-use Rattle.write_verdict.specs.declared.Mode.{Mode}
-use Rattle.write_verdict.specs.declared.Mode.the-variants.{Low, Above}
+use Rattle.write_verdict.specs.declared.Layers.{Layers}
+use Rattle.write_verdict.specs.declared.Layers.the-variants.{Low, Above}
 
 unfoldable pub passOf : Res Tally → Pass
 passOf (ok tally n) = Next tally
 passOf (no a) = Refused a
 
-unfoldable pub modeOf : Res ℕ → Mode
-modeOf (ok k n) = Low
-modeOf (no a) = Above (placeOf a)
+unfoldable pub layersOf : Res ℕ → Layers
+layersOf (ok k n) = Low
+layersOf (no a) = Above (placeOf a)
 
 pub record Few (s : List ℕ) (n : ℕ) : Type 0 where
   pub whole : n ≡ length s / recordSize
@@ -38,6 +40,6 @@ pub record Taken (s : List ℕ) (n : ℕ) : Type 0 where
   pub stripes : ℕ
   pub good : judgeOf s ≡ Good n stripes
 
-unfoldable pub acceptedOf : List ℕ → List ℕ → Res Tally
+unfoldable pub acceptedOf : Mode → List ℕ → List ℕ → Res Tally
 unfolding bind
-acceptedOf s d = bind (modeFrom 0 (records s)) (λ (k e : ℕ). recordsPass d (sheetMain (records s)) begun 0 (records s))
+acceptedOf mode s d = bind (modeFrom (mostLayers mode) 0 (records s)) (λ (k e : ℕ). recordsPass mode d (sheetMain (records s)) begun 0 (records s))

@@ -3,6 +3,9 @@ use borrow.Author.Needs.{needs}
 use Rattle.write_page.proofs.write_page.Statement.{statement}
 use Rattle.write_page.proofs.write_page.Tie as tie
 
+in-mode-1-requires : tie.Need-in-mode-1-requires
+in-mode-1-requires c κs = search needs
+
 judge-write-requires : tie.Need-judge-write-requires
 judge-write-requires c κs = search needs
 
@@ -28,6 +31,7 @@ pub write-page-spec : {M : Type 1} → statement M
 write-page-spec =
     tie.close
     (tie.spec
+    in-mode-1-requires
     judge-write-requires
     enum-known-a
     enum-known-tally

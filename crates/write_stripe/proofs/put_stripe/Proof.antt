@@ -1,68 +1,41 @@
-use Rattle.write_stripe.proofs.Laws.{stripe-put, stripe-next}
+use Rattle.write_stripe.proofs.Laws.{striping}
 use borrow.Author.Needs.{needs}
 use Rattle.write_stripe.proofs.put_stripe.Statement.{statement}
 use Rattle.write_stripe.proofs.put_stripe.Tie as tie
 
-add-back : tie.Need-add-back
-add-back c = search needs
+record-at-requires : tie.Need-record-at-requires
+record-at-requires c κs = search needs
 
-cast-back : tie.Need-cast-back
-cast-back c = search needs
+add-record-at : tie.Need-add-record-at
+add-record-at c = search needs
 
-add-back-2 : tie.Need-add-back-2
-add-back-2 c = search needs
+record-at-requires-2 : tie.Need-record-at-requires-2
+record-at-requires-2 c κs = search needs
 
-cast-fore : tie.Need-cast-fore
-cast-fore c = search needs
+add-record-at-2 : tie.Need-add-record-at-2
+add-record-at-2 c = search needs
 
-add-fore : tie.Need-add-fore
-add-fore c = search needs
+record-at-requires-3 : tie.Need-record-at-requires-3
+record-at-requires-3 c κs = search needs
 
-cast-next : tie.Need-cast-next
-cast-next c = search needs
-
-add-next : tie.Need-add-next
-add-next c = search needs
-
-put-head-requires : tie.Need-put-head-requires
-put-head-requires c κs = search needs
-
-add-put-layer : tie.Need-add-put-layer
-add-put-layer c = search needs
-
-put-layer-requires : tie.Need-put-layer-requires
-put-layer-requires c κs = search needs
-
-put-layer-requires-2 : tie.Need-put-layer-requires-2
-put-layer-requires-2 c κs = search needs
-
-put-layer-requires-3 : tie.Need-put-layer-requires-3
-put-layer-requires-3 c κs = search needs
+put-three-requires : tie.Need-put-three-requires
+put-three-requires c κs = search striping
 
 same-length : tie.Need-same-length
 same-length c = search needs
 
 returns : tie.Need-returns
-returns c = (
-  stripe-put _ _ _ (c .before .before .before .before .before .before .before .before .before .before .before .before .before .before .before .before .before .before .before .before .before .args .a) (c .before .before .before .before .before .before .before .before .before .before .before .before .before .before .before .before .before .before .before .before .before .args .b) (c .before .before .before .before .before .before .before .before .before .before .before .before .before .before .before .before .before .before .before .before .before .args .c) (c .before .before .before .before .before .before .before .before .before .before .before .before .before .before .before .before .before .before .before .before .before .pre) (c .before .before .before .before .before .before .before .before .before .before .before .before .before .before .put-head .ensures) (c .before .before .before .before .before .before .before .before .before .before .put-layer .ensures) (c .before .before .before .before .before .before .put-layer2 .ensures) (c .before .before .put-layer3 .ensures),
-  stripe-next _ _ _ (c .before .before .before .before .before .before .before .before .before .before .before .before .before .before .before .before .before .before .before .before .before .args .a) (c .before .before .before .before .before .before .before .before .before .before .before .before .before .before .before .before .before .before .before .before .before .args .b) (c .before .before .before .before .before .before .before .before .before .before .before .before .before .before .before .before .before .before .before .before .before .args .c) (c .before .before .before .before .before .before .before .before .before .before .before .before .before .before .before .before .before .before .before .before .before .pre),
-)
+returns c = search striping
 
 pub put-stripe-spec : {M : Type 1} → statement M
 put-stripe-spec =
     tie.close
     (tie.spec
-    add-back
-    cast-back
-    add-back-2
-    cast-fore
-    add-fore
-    cast-next
-    add-next
-    put-head-requires
-    add-put-layer
-    put-layer-requires
-    put-layer-requires-2
-    put-layer-requires-3
+    record-at-requires
+    add-record-at
+    record-at-requires-2
+    add-record-at-2
+    record-at-requires-3
+    put-three-requires
     same-length
     returns)

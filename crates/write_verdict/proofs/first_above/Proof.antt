@@ -4,10 +4,10 @@ use Rattle.write_verdict.proofs.first_above.Statement.{statement}
 use Rattle.write_verdict.proofs.first_above.Tie as tie
 
 abbrev Inv-loop : tie.InvT-loop
-Inv-loop s n i₀ i = Looking s n i
+Inv-loop most s n i₀ i = Looking most s n i
 
 abbrev μ-loop : tie.MeasureT-loop
-μ-loop s n i₀ i = n - i
+μ-loop most s n i₀ i = n - i
 
 loop-holds : tie.Need-loop-holds Inv-loop μ-loop
 loop-holds c = search mode-laws
@@ -15,8 +15,8 @@ loop-holds c = search mode-laws
 record-at-requires : tie.Need-record-at-requires Inv-loop μ-loop
 record-at-requires c κs = search mode-laws
 
-cast-t6 : tie.Need-cast-t6 Inv-loop μ-loop
-cast-t6 c = search mode-laws
+cast-t7 : tie.Need-cast-t7 Inv-loop μ-loop
+cast-t7 c = search mode-laws
 
 returns : tie.Need-returns Inv-loop μ-loop
 returns c = search mode-laws
@@ -41,7 +41,7 @@ first-above-spec =
     μ-loop
     loop-holds
     record-at-requires
-    cast-t6
+    cast-t7
     returns
     add-i
     loop-less

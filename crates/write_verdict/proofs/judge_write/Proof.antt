@@ -9,8 +9,8 @@ judge-requires c κs = search needs
 enum-known-record : tie.Need-enum-known-record
 enum-known-record c = search needs
 
-cast-t7 : tie.Need-cast-t7
-cast-t7 c = search verdict-laws
+cast-t9 : tie.Need-cast-t9
+cast-t9 c = search verdict-laws
 
 enum-known-records : tie.Need-enum-known-records
 enum-known-records c = search needs
@@ -30,7 +30,7 @@ judge-write-spec =
     (tie.spec
     judge-requires
     enum-known-record
-    cast-t7
+    cast-t9
     enum-known-records
     judge-records-requires
     returns

@@ -4,10 +4,10 @@ use Rattle.write_verdict.proofs.pass_records.Statement.{statement}
 use Rattle.write_verdict.proofs.pass_records.Tie as tie
 
 abbrev Inv-loop : tie.InvT-loop
-Inv-loop s d main n t₀ i₀ t i = Passing s d main n t i
+Inv-loop mode s d main n t₀ i₀ t i = Passing mode s d main n t i
 
 abbrev μ-loop : tie.MeasureT-loop
-μ-loop s d main n t₀ i₀ t i = n - i
+μ-loop mode s d main n t₀ i₀ t i = n - i
 
 loop-holds : tie.Need-loop-holds Inv-loop μ-loop
 loop-holds c = search pass-laws
@@ -32,7 +32,7 @@ loop-less c = search pass-laws
 
 loop-again : tie.Need-loop-again Inv-loop μ-loop
 loop-again c =
-    pass-on _ _ _ _ (c .before .before .before .before .before .before .before .before .before .pre) _ _ (c .before .before .before .before .before .before .loop .inv) (c .before .before .before .before .before .loop-test .taken) (c .before .before .before .before .record-at .ensures) (c .before .before .before .pass-record .ensures)
+    pass-on _ _ _ _ _ (c .before .before .before .before .before .before .before .before .before .pre) _ _ (c .before .before .before .before .before .before .loop .inv) (c .before .before .before .before .before .loop-test .taken) (c .before .before .before .before .record-at .ensures) (c .before .before .before .pass-record .ensures)
     (λ i. c .before .before .before .before .before .before .before .before .shared-slice-known .given i .fits) _ (c .before .u .given .1)
 
 enum-known-a : tie.Need-enum-known-a Inv-loop μ-loop

@@ -9,6 +9,9 @@ head-octets-requires c κs = search needs
 add-result : tie.Need-add-result
 add-result c = search choosing
 
+cast-result : tie.Need-cast-result
+cast-result c = search needs
+
 add-result-2 : tie.Need-add-result-2
 add-result-2 c = search choosing
 
@@ -16,4 +19,5 @@ returns : tie.Need-returns
 returns c = search needs
 
 pub size-with-spec : {M : Type 1} → statement M
-size-with-spec = tie.close (tie.spec head-octets-requires add-result add-result-2 returns)
+size-with-spec =
+    tie.close (tie.spec head-octets-requires add-result cast-result add-result-2 returns)
