@@ -17,7 +17,7 @@ use Rattle.field_rules.specs.Field.{Res, ok, no}
 use Rattle.segment_rules.specs.declared.Rules.{Rules}
 use Rattle.segment_rules.specs.Rules.{mode1}
 use Rattle.sheet_rules.specs.declared.Record.{Record}
-use Rattle.sheet_rules.specs.Record.{recordSize, recordAt, records, nth}
+use Rattle.sheet_rules.specs.Record.{recordSize, recordAt, records, blank, nth}
 use Rattle.sheet_rules.proofs.Cut.{records-count, record-nth, second-blank, second-read}
 use Rattle.sheet_rules.proofs.Among.{nth-among}
 use Rattle.start_rules.specs.declared.Head.{Head}
@@ -36,16 +36,15 @@ use Rattle.write_verdict.specs.Pass.{passOf}
 use Rattle.write_start.proofs.Laws.{put-more}
 use Rattle.write_page.specs.Steps.{Lined, Sound, Fitting}
 
--- ---- head_of
+-- ---- head_of: what the start says hangs on the second record alone
 module _ (rules : Rules) (s : List ℕ) (t : Tally) where
   abbrev headWith : Record → Head
-  headWith r = record { mask = t .mask; image = t .image; main = r .res; width = r .width }
+  headWith r = headBy rules (blank ∷ r ∷ []) t
 
-  pub head-none : length s < 2 * recordSize → _≡_ {A = Head} (record { mask = t .mask; image = t .image; main = 0; width = 0 }) (headBy rules (records s) t)
+  pub head-none : length s < 2 * recordSize → headWith blank ≡ headBy rules (records s) t
   head-none l = ap headWith (second-blank s l)
 
-  pub head-read : {r : Record} → 2 * recordSize ≤ length s → r ≡ recordAt s 1
-      → _≡_ {A = Head} (record { mask = t .mask; image = t .image; main = r .res; width = r .width }) (headBy rules (records s) t)
+  pub head-read : {r : Record} → 2 * recordSize ≤ length s → r ≡ recordAt s 1 → headWith r ≡ headBy rules (records s) t
   head-read l e = ap headWith (second-read s l e)
 
 pub ruleset heading = (needs, head-none, head-read)

@@ -59,6 +59,7 @@ fn head_of(rules: Rules, s: &[u8], tally: Tally) -> Head
 {
     if s.len() < TWO_RECORDS {
         return Head {
+            rules,
             mask: tally.mask,
             image: tally.image,
             main: 0,
@@ -67,6 +68,7 @@ fn head_of(rules: Rules, s: &[u8], tally: Tally) -> Head
     }
     let r = sheet_record::record_at(s, 1);
     Head {
+        rules,
         mask: tally.mask,
         image: tally.image,
         main: r.res,

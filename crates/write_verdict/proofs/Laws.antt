@@ -18,7 +18,6 @@ use Rattle.segment_rules.specs.declared.Mode.the-variants.{One}
 use Rattle.sheet_rules.specs.Judge.{coded}
 use Rattle.write_rules.specs.declared.Tally.{Tally}
 use Rattle.write_rules.specs.Layer.{agrees}
-use Rattle.write_rules.specs.Mode1.{head1}
 use Rattle.write_rules.specs.Modes.{headIn}
 use Rattle.segment_rules.specs.Rules.{mostLayers}
 use Rattle.write_rules.proofs.Modes.{head-few}
@@ -30,14 +29,11 @@ use Rattle.write_verdict.specs.Pass.{passOf}
 pub most-one : (mode : Mode) → _≡_ {A = ℕ} 3 (mostLayers mode)
 most-one One = refl
 
-pub head-some : (r : Record) → r .layer ≡ 1 → 39 ≡ head1 r
-head-some r e = simp (eq-eqb (r .layer) 1 e)
+pub head-some : (mode : Mode) (r : Record) → r .layer ≡ 1 → 39 ≡ headIn mode r
+head-some One r e = simp (eq-eqb (r .layer) 1 e)
 
-pub head-none : (r : Record) → (r .layer ≡ 1 → ⊥) → _≡_ {A = ℕ} 0 (head1 r)
-head-none r n = simp (ne-eqb (r .layer) 1 n)
-
-pub head-one : (mode : Mode) (r : Record) {h : ℕ} → h ≡ head1 r → h ≡ headIn mode r
-head-one One r f = f
+pub head-none : (mode : Mode) (r : Record) → (r .layer ≡ 1 → ⊥) → _≡_ {A = ℕ} 0 (headIn mode r)
+head-none One r n = simp (ne-eqb (r .layer) 1 n)
 
 module _ (mode : Mode) (size : ℕ) (r : Record) (s : size ≤ 4611686018427387904) {h : ℕ} (e : h ≡ headIn mode r) where
   pub head-fits : Fits w64 (size + h)
@@ -49,7 +45,7 @@ module _ (mode : Mode) (size : ℕ) (r : Record) (s : size ≤ 46116860184273879
   pub size-made : size + h + r .len ≡ size + headIn mode r + r .len
   size-made = rw e refl
 
-pub ruleset choosing = (needs, most-one, head-some, head-none, head-one, head-fits, len-fits, size-made)
+pub ruleset choosing = (needs, most-one, head-some, head-none, head-fits, len-fits, size-made)
 
 -- ---- with_record
 pub tally-made : (mode : Mode) (t : Tally) (r : Record) {c : Bool} {mask image size : ℕ} → c ≡ coded r → mask ≡ cond (c && isMask r) (r .coder) (t .mask)

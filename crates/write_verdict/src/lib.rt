@@ -7,7 +7,6 @@ ghost use lib.ListN.{length};
 ghost use Rattle.sheet_rules.specs.Record.{records};
 ghost use Rattle.write_rules.specs.Modes.{headIn};
 ghost use Rattle.segment_rules.specs.Rules.{mostLayers};
-ghost use Rattle.write_rules.specs.Mode1.{head1};
 ghost use Rattle.write_rules.specs.Sentences.{sheetMain};
 ghost use Rattle.write_rules.specs.Writing.{counted, matches, recordStep, modeFrom, begun, recordsPass, verdictOf};
 ghost use Rattle.write_verdict.specs.Pass.{passOf, layersOf, Few, Taken, acceptedOf};
@@ -44,18 +43,12 @@ fn most_layers(mode: Mode) -> u8
     }
 }
 
-// A Mode 1 stripe's segment is counted at its first layer.
-fn head_of_one(r: Record) -> u64
-    ensures { λ n. ⌜ n ≡ head1 r ⌝ }
-{
-    if r.layer == 1 { MODE1_HEAD as u64 } else { 0 }
-}
-
+// What a record adds to its stripe beside its coded data: in Mode 1 the stripe's segment, counted at its first layer.
 fn head_octets(mode: Mode, r: Record) -> u64
     ensures { λ n. ⌜ n ≡ headIn mode r ⌝ }
 {
     match mode {
-        Mode::One => head_of_one(r),
+        Mode::One => { if r.layer == 1 { MODE1_HEAD as u64 } else { 0 } }
     }
 }
 
