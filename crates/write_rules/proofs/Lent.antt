@@ -6,7 +6,6 @@ use mathlib.Core.Path.{_≡_, refl, sym, ap, subst, _∙_}
 use mathlib.Core.Logic.{⊎-elim}
 use mathlib.Core.List.{List, _∷_, _++_, List·Memᴰ·not-nil, List·Memᴰ·append-cases}
 use lib.ListN.{length, length-append}
-use Rattle.segment_rules.specs.declared.Mode.the-variants.{One}
 use Rattle.sheet_rules.specs.declared.Record.{Record}
 use Rattle.sheet_rules.specs.Record.{nth, sumOf}
 use Rattle.sheet_rules.specs.Sentences.{Among}

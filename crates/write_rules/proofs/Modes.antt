@@ -30,7 +30,7 @@ use Rattle.segment_rules.proofs.Begin.{length-begin}
 use Rattle.mode1_rules.specs.Kinds.{stripeBody}
 use Rattle.page_rules.specs.Grammar.{bodyIn, StripeIn, Stripe}
 use Rattle.write_rules.specs.Layer.{layerOctets}
-use Rattle.write_rules.specs.Mode1.{begins, rest1, stripe1}
+use Rattle.write_rules.specs.Mode1.{begins, rest1}
 use Rattle.write_rules.specs.Modes.{headIn, stripeBy, TrimIn}
 use Rattle.segment_rules.specs.Rules.{mostLayers}
 use Rattle.write_rules.specs.Form.{bare}

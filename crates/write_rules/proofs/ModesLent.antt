@@ -17,7 +17,6 @@ use Rattle.start_rules.specs.declared.Head.{Head}
 use Rattle.page_rules.specs.Grammar.{bodyIn, StripeIn, Stripe}
 use Rattle.page_rules.proofs.Parts.{at-body}
 use Rattle.write_rules.specs.Cut.{Opened}
-use Rattle.write_rules.specs.Mode1.{begins, rest1, stripe1}
 use Rattle.write_rules.specs.Modes.{stripeBy, TrimIn}
 use Rattle.write_rules.proofs.Passed.{sizeIn}
 use Rattle.write_rules.proofs.Mode1Lent as M1
