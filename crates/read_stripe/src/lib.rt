@@ -22,15 +22,7 @@ pub enum Step {
 }
 
 // The layers of stripe k, whose fields are fine and whose coded data begins at `at`.
-fn stripe_layers(
-    out: &mut [u8],
-    s: &[u8],
-    hd: Head,
-    k: u16,
-    f: Fields,
-    at: u32,
-    first: u32,
-) -> Step
+fn stripe_layers(out: &mut [u8], s: &[u8], hd: Head, k: u16, f: Fields, at: u32, first: u32) -> Step
     requires { ⌜ Laying (now out) (now s) f at first ⌝ }
     ensures step { λ r. ⌜ r ≡ stepOf (layered hd k f (now (s .entry)) at) ⌝ }
     ensures laid { λ _. ⌜ now (out .exit) ≡ laidOf (now (out .entry)) first (layered hd k f (now (s .entry)) at) ⌝ }
