@@ -31,8 +31,8 @@ use Rattle.read_layers.specs.Layers.{Inside, layersIn}
 use Rattle.read_records.specs.Places.{Placed, Room}
 use Rattle.read_stripe.specs.declared.Step.{Step}
 use Rattle.read_stripe.specs.declared.Step.the-variants.{Next}
-use Rattle.read_stripe.specs.Steps.{Fit, Laying, Ready, layered, stepOf, laidOf}
-use Rattle.read_stripe.proofs.Layers.{Parts, layers-parts, layers-refused, layers-done}
+use Rattle.read_stripe.specs.Steps.{Laying, Ready, layered, stepOf, laidOf}
+use Rattle.read_stripe.proofs.Layers.{layers-parts, layers-refused, layers-done}
 
 -- ---- stripe_layers
 
