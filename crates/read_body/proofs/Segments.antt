@@ -25,7 +25,7 @@ use Rattle.page_rules.specs.Grammar.{bodyIn}
 use Rattle.page_rules.specs.Reading.{dueWith, dueAt, itemOf}
 use Rattle.read_segment.specs.declared.Segment.{Segment}
 use Rattle.read_segment.specs.declared.Segment.the-variants.{Stripe, Optional}
-use Rattle.read_segment.specs.Segments.{viewOf}
+use Rattle.read_segment.specs.Segments.{Marked, viewOf}
 use Rattle.read_segment.proofs.Views.{view-no, view-stripe, view-optional, Ended, segment-ends}
 use Rattle.read_body.specs.declared.Place.{Place}
 use Rattle.read_body.specs.declared.Body.{Body}
@@ -54,6 +54,9 @@ module _ (hd : Head) (p : Place) (s out : List ℕ) (i : Standing hd out s p) {f
   pub body-short : f ≡ false → BodyRefused hd p s out (Short (p .at)) out
   unfolding bodyFrom
   body-short y = record { same = λ fuel acc. simp (lt-ltb (length s) (p .at + 2) (leb-false _ _ (sym e ∙ y))); kept = refl }
+
+  pub body-marked : f ≡ true → Marked s (p .at)
+  body-marked y = record { seen = leb-true _ _ (sym e ∙ y); small = i .small }
 
   module _ (y : f ≡ true) {b : Bool} (t : b ≡ standsAt s (p .at) endMark) where
     room : p .at + 2 ≤ length s
@@ -138,4 +141,4 @@ module _ (hd : Head) (p : Place) (s out : List ℕ) (i : Standing hd out s p) {f
         body-stripe (Stop (Body.Refused a)) out′ x = record { same = λ fuel acc. by-item (no a) fuel acc (stripe-item ∙ x .same); kept = x .kept }
         body-stripe (Stop (Records count next)) out′ x = absurd x
 
-pub ruleset segments = (needs, body-short, body-over, body-wrong, body-skip, body-ready, body-stripe)
+pub ruleset segments = (needs, body-short, body-marked, body-over, body-wrong, body-skip, body-ready, body-stripe)

@@ -1,10 +1,13 @@
 -- The fields of a stripe at their places (9.3).
 --
 --   fieldsAt s at    the fields whose first octet stands at a place
-use Prim.Native.Nat.{ℕ, _+_}
+--   Shown s at f     these are the fields at a place of a page
+use Prim.Native.Nat.{ℕ, _+_, _≤_}
+use mathlib.Core.Path.{_≡_}
 use mathlib.Core.List.{List}
 use lib.ListN.{getD}
 use Rattle.octets.specs.Octets.{be32At}
+use Rattle.segment_rules.specs.Rules.{longestPage}
 use Rattle.sheet_rules.specs.Record.{colourAt}
 use Rattle.mode1_rules.specs.declared.Fields.{Fields}
 
@@ -21,3 +24,7 @@ fieldsAt s at =
       height = be32At s (at + 23);
       maskLength = be32At s (at + 27);
     }
+
+pub record Shown (s : List ℕ) (at : ℕ) (f : Fields) : Type 0 where
+  pub near : at ≤ longestPage
+  pub same : f ≡ fieldsAt s at

@@ -8,7 +8,7 @@ ghost use Rattle.segment_rules.specs.Rules.{longestPage};
 ghost use Rattle.mode1_rules.specs.Kinds.{hasBack, hasMask, hasFore, typeOk, offsetOk};
 ghost use Rattle.mode1_rules.specs.Reading.{maskLengthOk, stripeTable};
 ghost use Rattle.read_field.specs.Judged.{judgedOf};
-ghost use Rattle.read_head.specs.Fields.{fieldsAt};
+ghost use Rattle.read_head.specs.Fields.{fieldsAt, Shown};
 use answers::Answer;
 use mode1_rules::Fields;
 use read_field::Judged;
@@ -84,12 +84,11 @@ pub fn fields_at(s: &[u8], at: u32) -> Fields
     }
 }
 
-// An offset is one field of eight octets.
-pub fn judge_stripe(s: &[u8], hd: Head, left: u32, at: u32) -> Judged
-    requires { ⌜ at ≤ longestPage ⌝ }
+// The fields were read before, so that they are read once. An offset is one field of eight octets.
+pub fn judge_stripe(s: &[u8], hd: Head, left: u32, at: u32, f: Fields) -> Judged
+    requires { ⌜ Shown (now s) at f ⌝ }
     ensures { λ r. ⌜ r ≡ judgedOf (fields (stripeTable hd left) [] (now (s .entry)) at) ⌝ }
 {
-    let f = fields_at(s, at);
     let kind = type_ok(hd, f.kind);
     let back = offset_ok(has_back(f.kind), f.backX, f.backY);
     let fore = offset_ok(has_fore(f.kind), f.foreX, f.foreY);

@@ -23,7 +23,7 @@ use Rattle.segment_rules.specs.Segment.{sized, lengthOk, mrc, openTable, behind
 use Rattle.page_rules.specs.Reading.{identOk, dueWith}
 use Rattle.read_segment.specs.declared.Segment.{Segment}
 use Rattle.read_segment.specs.declared.Segment.the-variants.{Stripe, Optional, Refused}
-use Rattle.read_segment.specs.Segments.{Behind, viewOf, optionalAt, onSpan, stripeAt, behind as behindIn, identOf, lengthOf}
+use Rattle.read_segment.specs.Segments.{Marked, Behind, viewOf, optionalAt, onSpan, stripeAt, behind as behindIn, identOf, lengthOf}
 
 -- ---- length_ok
 pub length-by : (version : Version) (size : ℕ) → leb 6 size ≡ lengthOk version size
@@ -194,22 +194,14 @@ module _ (version : Version) (k body : ℕ) (s : List ℕ) (at : ℕ) {f : Bool}
         h ∙ rw (q, p) (simp (le-ltb (length s) (at + 2) long, told ∙ l))
 
 -- ---- segment_at
-module _ (version : Version) (k body : ℕ) (s : List ℕ) (at : ℕ) {f : Bool} (e : f ≡ leb (at + 2) (length s)) where
-  pub segment-cut : f ≡ false → Refused (Short at) ≡ viewOf (segmentOf version (dueWith body k) s at)
+module _ (version : Version) (k body : ℕ) (s : List ℕ) (at : ℕ) (d : Marked s at) {m : Bool} (u : m ≡ standsAt s at (0xFF ∷ 0xED ∷ [])) where
+  pub segment-stray : m ≡ false → Refused (BadMark at) ≡ viewOf (segmentOf version (dueWith body k) s at)
   unfolding segmentOf openTable fields bind viewOf
-  segment-cut y = simp (lt-ltb (length s) (at + 2) (leb-false _ _ (sym e ∙ y)))
+  segment-stray w = simp (le-ltb (length s) (at + 2) (d .seen), sym u ∙ w)
 
-  module _ (y : f ≡ true) {m : Bool} (u : m ≡ standsAt s at (0xFF ∷ 0xED ∷ [])) where
-    near : at + 2 ≤ length s
-    near = leb-true _ _ (sym e ∙ y)
-
-    pub segment-stray : m ≡ false → Refused (BadMark at) ≡ viewOf (segmentOf version (dueWith body k) s at)
-    unfolding segmentOf openTable fields bind viewOf
-    segment-stray w = simp (le-ltb (length s) (at + 2) near, sym u ∙ w)
-
-    pub segment-marked : {r : Segment} → m ≡ true → r ≡ lengthOf version k body s (at + 2) → r ≡ viewOf (segmentOf version (dueWith body k) s at)
-    unfolding segmentOf openTable fields lengthOf
-    segment-marked w h = h ∙ simp (le-ltb (length s) (at + 2) near, sym u ∙ w)
+  pub segment-marked : {r : Segment} → m ≡ true → r ≡ lengthOf version k body s (at + 2) → r ≡ viewOf (segmentOf version (dueWith body k) s at)
+  unfolding segmentOf openTable fields lengthOf
+  segment-marked w h = h ∙ simp (le-ltb (length s) (at + 2) (d .seen), sym u ∙ w)
 
 long-six : (version : Version) (size : ℕ) → lengthOk version size ≡ true → 6 ≤ size
 long-six Base size e = leb-true 6 size e
@@ -217,4 +209,4 @@ long-six Base size e = leb-true 6 size e
 pub behind : (version : Version) (at size : ℕ) {b : Bool} → (2 ≤ at) × (at ≤ longestPage + 2) → b ≡ lengthOk version size → b ≡ true → Behind (at + 2) size
 behind version at size h t l = let n = h .1 in record { far = omega arith; near = omega arith; long = long-six version size (sym t ∙ l) }
 
-pub ruleset segment-laws = (needs, length-by, optional-made, skip-whole, skip-cut, stripe-many, stripe-other, stripe-begun, ident-cut, ident-stripe, ident-optional, ident-other, skip-near, behind, length-cut, length-small, length-ident, segment-cut, segment-stray, segment-marked)
+pub ruleset segment-laws = (needs, length-by, optional-made, skip-whole, skip-cut, stripe-many, stripe-other, stripe-begun, ident-cut, ident-stripe, ident-optional, ident-other, skip-near, behind, length-cut, length-small, length-ident, segment-stray, segment-marked)

@@ -1,5 +1,6 @@
 -- A segment behind the start of page, as the caller of its reader sees it.
 --
+--   Marked s at            a place of a page at which two octets stand; Behind: where an ident is due
 --   viewOf r               what the reading of a segment comes to: a stripe and the place of its body, or an optional segment and the place after it
 --   optionalAt k s at      an ident that an optional segment has, behind k stripes
 --   onSpan r               a body that is passed over
@@ -9,7 +10,7 @@
 use Prim.Native.Nat.{ℕ, _+_, _-_, _≤_}
 use mathlib.Core.Bool.{Bool, _&&_, not, cond}
 use mathlib.Core.List.{List, [], _∷_}
-use lib.ListN.{getD}
+use lib.ListN.{length, getD}
 use lib.Dec.{leb, eqb}
 use Rattle.octets.specs.Octets.{standsAt}
 use Rattle.answers.specs.declared.Answer.the-variants.{BadMark, BadLength, BadStripe}
@@ -20,6 +21,11 @@ use Rattle.segment_rules.specs.Segment.{Due, lengthOk, mrc, sizeIn, identIn, be
 use Rattle.page_rules.specs.Reading.{dueWith}
 use Rattle.read_segment.specs.declared.Segment.{Segment}
 use Rattle.read_segment.specs.declared.Segment.the-variants.{Stripe, Optional, Refused}
+
+-- two octets stand here
+pub record Marked (s : List ℕ) (at : ℕ) : Type 0 where
+  pub seen : at + 2 ≤ length s
+  pub small : length s ≤ longestPage
 
 -- an ident is due here, after a length that is long enough
 pub record Behind (at size : ℕ) : Type 0 where

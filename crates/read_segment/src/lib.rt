@@ -6,7 +6,7 @@ ghost use Rattle.field_rules.specs.Part.{spanOf};
 ghost use Rattle.segment_rules.specs.Rules.{longestPage};
 ghost use Rattle.segment_rules.specs.Segment.{lengthOk, segmentOf};
 ghost use Rattle.page_rules.specs.Reading.{dueWith};
-ghost use Rattle.read_segment.specs.Segments.{Behind, viewOf, optionalAt, onSpan, stripeAt, identOf, lengthOf};
+ghost use Rattle.read_segment.specs.Segments.{Marked, Behind, viewOf, optionalAt, onSpan, stripeAt, identOf, lengthOf};
 use answers::Answer;
 use segment_rules::APP13;
 use segment_rules::MRC;
@@ -99,18 +99,14 @@ fn by_length(s: &[u8], version: Version, k: u16, body: u16, at: u32) -> Segment
     }
 }
 
-// Behind k stripes, where a stripe has a body of so many octets.
+// Behind k stripes, where a stripe has a body of so many octets. The caller has seen that two octets are there.
 pub fn segment_at(s: &[u8], version: Version, k: u16, body: u16, at: u32) -> Segment
-    requires { ⌜ at ≤ longestPage ⌝ }
+    requires { ⌜ Marked (now s) at ⌝ }
     ensures { λ r. ⌜ r ≡ viewOf (segmentOf version (dueWith body k) (now (s .entry)) at) ⌝ }
 {
-    if read_field::fits(s, at, 2) {
-        if octets::stands_at(s, at as usize, &APP13) {
-            by_length(s, version, k, body, at + 2)
-        } else {
-            Segment::Refused(Answer::BadMark(at))
-        }
+    if octets::stands_at(s, at as usize, &APP13) {
+        by_length(s, version, k, body, at + 2)
     } else {
-        Segment::Refused(Answer::Short(at))
+        Segment::Refused(Answer::BadMark(at))
     }
 }

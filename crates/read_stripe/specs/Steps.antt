@@ -1,7 +1,7 @@
 -- A Mode 1 stripe read step by step: what is known before each step, and what it comes to.
 --
 --   Fit f                    fields that the records hold: the height, and the offsets of the layers that the type names
---   Laying out s at first    the fields at a place are fine and whole, and the scratch has room for the records from a number on
+--   Laying out s f at first  the fields are fine, their coded data begins at a place of a page, and the scratch has room for the records from a number on
 --   layered hd k f s at      the stripe of these fields, whose coded layers begin at a place
 --   Ready out s left at first    a stripe's body stands at a place of a page
 --   stepOf, laidOf           what the reading of a stripe comes to, and the scratch afterwards
@@ -19,9 +19,8 @@ use Rattle.segment_rules.specs.Rules.{mostLayers, longestPage}
 use Rattle.start_rules.specs.declared.Head.{Head}
 use Rattle.body_rules.specs.Body.{Item, skipped, striped}
 use Rattle.mode1_rules.specs.declared.Fields.{Fields}
-use Rattle.mode1_rules.specs.Kinds.{stripeBody, hasBack, hasFore}
+use Rattle.mode1_rules.specs.Kinds.{hasBack, hasFore}
 use Rattle.mode1_rules.specs.Reading.{layersOf}
-use Rattle.read_head.specs.Fields.{fieldsAt}
 use Rattle.read_stripe.specs.declared.Step.{Step}
 use Rattle.read_stripe.specs.declared.Step.the-variants.{Next, Refused}
 
@@ -30,11 +29,11 @@ pub record Fit (f : Fields) : Type 0 where
   pub back : hasBack (f .kind) ≡ true → (f .backX ≤ 65535) × (f .backY ≤ 65535)
   pub fore : hasFore (f .kind) ≡ true → (f .foreX ≤ 65535) × (f .foreY ≤ 65535)
 
-pub record Laying (out s : List ℕ) (at first : ℕ) : Type 0 where
+pub record Laying (out s : List ℕ) (f : Fields) (at first : ℕ) : Type 0 where
   pub holds : (first + mostLayers One) * recordSize ≤ length out
-  pub whole : at + stripeBody ≤ length s
+  pub inside : at ≤ length s
   pub small : length s ≤ longestPage
-  pub fit : Fit (fieldsAt s at)
+  pub fit : Fit f
 
 pub record Ready (out s : List ℕ) (left at first : ℕ) : Type 0 where
   pub holds : (first + mostLayers One) * recordSize ≤ length out

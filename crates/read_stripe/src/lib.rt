@@ -1,12 +1,10 @@
 // A Mode 1 stripe from the first octet of its body on (`stripeRead` of `mode1_rules`): its fields, its coded layers, and its records, which are laid where all
 // of it is read. A stripe that is refused leaves nothing.
 ghost use mathlib.Core.Path.{_≡_};
-ghost use Prim.Native.Nat.{_+_};
-ghost use Rattle.mode1_rules.specs.Kinds.{stripeBody};
 ghost use Rattle.mode1_rules.specs.Reading.{stripeRead};
-ghost use Rattle.read_head.specs.Fields.{fieldsAt};
 ghost use Rattle.read_stripe.specs.Steps.{Laying, Ready, layered, stepOf, laidOf};
 use answers::Answer;
+use mode1_rules::Fields;
 use mode1_rules::STRIPE_BODY;
 use read_field::Judged;
 use read_layers::Layers;
@@ -23,19 +21,17 @@ pub enum Step {
     Refused(Answer),
 }
 
-// The layers of stripe k, whose fields stand at `at` and are fine.
-fn stripe_layers(out: &mut [u8], s: &[u8], hd: Head, k: u16, at: u32, first: u32) -> Step
-    requires { ⌜ Laying (now out) (now s) at first ⌝ }
-    ensures step { λ r. ⌜ r ≡ stepOf (layered hd k (fieldsAt (now (s .entry)) at) (now (s .entry)) (at + stripeBody)) ⌝ }
-    ensures laid { λ _. ⌜ now (out .exit) ≡ laidOf (now (out .entry)) first (layered hd k (fieldsAt (now (s .entry)) at) (now (s .entry)) (at + stripeBody)) ⌝ }
+// The layers of stripe k, whose fields are fine and whose coded data begins at `at`.
+fn stripe_layers(out: &mut [u8], s: &[u8], hd: Head, k: u16, f: Fields, at: u32, first: u32) -> Step
+    requires { ⌜ Laying (now out) (now s) f at first ⌝ }
+    ensures step { λ r. ⌜ r ≡ stepOf (layered hd k f (now (s .entry)) at) ⌝ }
+    ensures laid { λ _. ⌜ now (out .exit) ≡ laidOf (now (out .entry)) first (layered hd k f (now (s .entry)) at) ⌝ }
 {
-    let f = read_head::fields_at(s, at);
-    let mask = at + STRIPE_BODY as u32;
-    match read_layers::read_layers(s, hd.main, f.kind, f.maskLength, mask) {
+    match read_layers::read_layers(s, hd.main, f.kind, f.maskLength, at) {
         Layers::Refused(a) => Step::Refused(a),
         Layers::Read { back, fore, next } => {
             let to = first as usize * RECORD_SIZE;
-            read_records::put_stripe(out, to, hd, k, f, mask, back, fore);
+            read_records::put_stripe(out, to, hd, k, f, at, back, fore);
             Step::Next {
                 next,
                 height: f.height,
@@ -59,8 +55,9 @@ pub fn read_stripe(
     ensures step { λ r. ⌜ r ≡ stepOf (stripeRead hd k left (now (s .entry)) at) ⌝ }
     ensures laid { λ _. ⌜ now (out .exit) ≡ laidOf (now (out .entry)) first (stripeRead hd k left (now (s .entry)) at) ⌝ }
 {
-    match read_head::judge_stripe(s, hd, left, at) {
+    let f = read_head::fields_at(s, at);
+    match read_head::judge_stripe(s, hd, left, at, f) {
         Judged::Refused(a) => Step::Refused(a),
-        Judged::Fine => stripe_layers(out, s, hd, k, at, first),
+        Judged::Fine => stripe_layers(out, s, hd, k, f, at + STRIPE_BODY as u32, first),
     }
 }

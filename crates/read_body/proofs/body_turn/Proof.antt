@@ -25,7 +25,7 @@ stripe-body-requires : tie.Need-stripe-body-requires
 stripe-body-requires c κs = search needs
 
 segment-at-requires : tie.Need-segment-at-requires
-segment-at-requires c κs = search needs
+segment-at-requires c κs = search segments
 
 enum-known-a : tie.Need-enum-known-a
 enum-known-a c = search needs

@@ -4,9 +4,6 @@ use borrow.Author.Needs.{needs}
 use Rattle.read_head.proofs.judge_stripe.Statement.{statement}
 use Rattle.read_head.proofs.judge_stripe.Tie as tie
 
-fields-at-requires : tie.Need-fields-at-requires
-fields-at-requires c κs = search needs
-
 type-ok-requires : tie.Need-type-ok-requires
 type-ok-requires c κs = search needs
 
@@ -47,37 +44,37 @@ field-requires-3 : tie.Need-field-requires-3
 field-requires-3 c κs = search needs
 
 add-field-3 : tie.Need-add-field-3
-add-field-3 c = place-fits _ _ (c .before .before .before .before .before .before .before .before .before .before .before .before .before .pre) (lit≤ tt)
+add-field-3 c = place-fits _ _ (c .before .before .before .before .before .before .before .before .before .before .before .before .pre .near) (lit≤ tt)
 
 add-t22-3 : tie.Need-add-t22-3
-add-t22-3 c = place-fits _ _ (c .before .before .before .before .before .before .before .before .before .before .before .before .before .pre) (lit≤ tt)
+add-t22-3 c = place-fits _ _ (c .before .before .before .before .before .before .before .before .before .before .before .before .pre .near) (lit≤ tt)
 
 field-requires-4 : tie.Need-field-requires-4
 field-requires-4 c κs = search needs
 
 add-field-4 : tie.Need-add-field-4
-add-field-4 c = place-fits _ _ (c .before .before .before .before .before .before .before .before .before .before .before .before .before .before .pre) (lit≤ tt)
+add-field-4 c = place-fits _ _ (c .before .before .before .before .before .before .before .before .before .before .before .before .before .pre .near) (lit≤ tt)
 
 add-t22-4 : tie.Need-add-t22-4
-add-t22-4 c = place-fits _ _ (c .before .before .before .before .before .before .before .before .before .before .before .before .before .before .pre) (lit≤ tt)
+add-t22-4 c = place-fits _ _ (c .before .before .before .before .before .before .before .before .before .before .before .before .before .pre .near) (lit≤ tt)
 
 field-requires-5 : tie.Need-field-requires-5
 field-requires-5 c κs = search needs
 
 add-field-5 : tie.Need-add-field-5
-add-field-5 c = place-fits _ _ (c .before .before .before .before .before .before .before .before .before .before .before .before .before .before .before .pre) (lit≤ tt)
+add-field-5 c = place-fits _ _ (c .before .before .before .before .before .before .before .before .before .before .before .before .before .before .pre .near) (lit≤ tt)
 
 add-t22-5 : tie.Need-add-t22-5
-add-t22-5 c = place-fits _ _ (c .before .before .before .before .before .before .before .before .before .before .before .before .before .before .before .pre) (lit≤ tt)
+add-t22-5 c = place-fits _ _ (c .before .before .before .before .before .before .before .before .before .before .before .before .before .before .pre .near) (lit≤ tt)
 
 field-requires-6 : tie.Need-field-requires-6
 field-requires-6 c κs = search needs
 
 add-field-6 : tie.Need-add-field-6
-add-field-6 c = place-fits _ _ (c .before .before .before .before .before .before .before .before .before .before .before .before .before .before .before .before .pre) (lit≤ tt)
+add-field-6 c = place-fits _ _ (c .before .before .before .before .before .before .before .before .before .before .before .before .before .before .before .pre .near) (lit≤ tt)
 
 add-t22-6 : tie.Need-add-t22-6
-add-t22-6 c = place-fits _ _ (c .before .before .before .before .before .before .before .before .before .before .before .before .before .before .before .before .pre) (lit≤ tt)
+add-t22-6 c = place-fits _ _ (c .before .before .before .before .before .before .before .before .before .before .before .before .before .before .before .pre .near) (lit≤ tt)
 
 field-requires-7 : tie.Need-field-requires-7
 field-requires-7 c κs = search needs
@@ -85,7 +82,7 @@ field-requires-7 c κs = search needs
 returns : tie.Need-returns
 returns c =
     stripe-made _ _ _ _ _
-    (c .before .before .before .before .before .before .before .before .before .before .before .before .before .before .before .fields-at .ensures)
+    (c .before .before .before .before .before .before .before .before .before .before .before .before .before .before .before .before .pre .same)
     (c .before .before .before .before .before .before .before .before .before .before .before .before .before .before .type-ok .ensures)
     (c .before .before .before .before .before .before .before .before .before .before .before .before .before .has-back .ensures)
     (c .before .before .before .before .before .before .before .before .before .before .before .before .offset-ok .ensures)
@@ -104,7 +101,6 @@ pub judge-stripe-spec : {M : Type 1} → statement M
 judge-stripe-spec =
     tie.close
     (tie.spec
-    fields-at-requires
     type-ok-requires
     has-back-requires
     offset-ok-requires

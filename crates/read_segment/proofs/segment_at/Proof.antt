@@ -3,9 +3,6 @@ use borrow.Author.Needs.{needs}
 use Rattle.read_segment.proofs.segment_at.Statement.{statement}
 use Rattle.read_segment.proofs.segment_at.Tie as tie
 
-fits-requires : tie.Need-fits-requires
-fits-requires c κs = search needs
-
 slice-aggregate-stands-at : tie.Need-slice-aggregate-stands-at
 slice-aggregate-stands-at c = search needs
 
@@ -24,18 +21,13 @@ returns c = search segment-laws
 returns-2 : tie.Need-returns-2
 returns-2 c = search segment-laws
 
-returns-3 : tie.Need-returns-3
-returns-3 c = search segment-laws
-
 pub segment-at-spec : {M : Type 1} → statement M
 segment-at-spec =
     tie.close
     (tie.spec
-    fits-requires
     slice-aggregate-stands-at
     stands-at-requires
     add-by-length
     by-length-requires
     returns
-    returns-2
-    returns-3)
+    returns-2)

@@ -3,6 +3,9 @@ use borrow.Author.Needs.{needs}
 use Rattle.read_stripe.proofs.read_stripe.Statement.{statement}
 use Rattle.read_stripe.proofs.read_stripe.Tie as tie
 
+fields-at-requires : tie.Need-fields-at-requires
+fields-at-requires c κs = search needs
+
 judge-stripe-requires : tie.Need-judge-stripe-requires
 judge-stripe-requires c κs = search needs
 
@@ -11,6 +14,12 @@ enum-known-a c = search needs
 
 enum-told : tie.Need-enum-told
 enum-told c = search needs
+
+cast-stripe-layers : tie.Need-cast-stripe-layers
+cast-stripe-layers c = search needs
+
+add-stripe-layers : tie.Need-add-stripe-layers
+add-stripe-layers c = search needs
 
 stripe-layers-requires : tie.Need-stripe-layers-requires
 stripe-layers-requires c κs = search striping
@@ -28,9 +37,12 @@ pub read-stripe-spec : {M : Type 1} → statement M
 read-stripe-spec =
     tie.close
     (tie.spec
+    fields-at-requires
     judge-stripe-requires
     enum-known-a
     enum-told
+    cast-stripe-layers
+    add-stripe-layers
     stripe-layers-requires
     returns
     same-length

@@ -3,15 +3,6 @@ use borrow.Author.Needs.{needs}
 use Rattle.read_stripe.proofs.stripe_layers.Statement.{statement}
 use Rattle.read_stripe.proofs.stripe_layers.Tie as tie
 
-fields-at-requires : tie.Need-fields-at-requires
-fields-at-requires c κs = search needs
-
-cast-mask : tie.Need-cast-mask
-cast-mask c = search needs
-
-add-mask : tie.Need-add-mask
-add-mask c = search needs
-
 read-layers-requires : tie.Need-read-layers-requires
 read-layers-requires c κs = search needs
 
@@ -40,9 +31,6 @@ pub stripe-layers-spec : {M : Type 1} → statement M
 stripe-layers-spec =
     tie.close
     (tie.spec
-    fields-at-requires
-    cast-mask
-    add-mask
     read-layers-requires
     enum-known-a
     enum-known-back
