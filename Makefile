@@ -70,7 +70,7 @@ clean:
 build/libspirerook.a: $(shell find crates -name '*.rt' -o -name '*.antt' 2>/dev/null) crates.txt
 	@command -v rt >/dev/null 2>&1 || { echo "no command 'rt': the library is proved and built by the Rattle toolchain" >&2; exit 1; }
 	@mkdir -p build
-	rt staticlib spirerook
+	bash tools/archive spirerook
 	cp target/staticlib/libspirerook.a $@
 
 # nothing may be left undefined but what the C library has, and no text is relocated
