@@ -18,6 +18,7 @@ use Rattle.segment_rules.specs.declared.Mode.the-variants.{One}
 use Rattle.segment_rules.specs.Rules.{mostLayers}
 use Rattle.start_rules.specs.declared.Head.{Head}
 use Rattle.body_rules.specs.Body.{Item, skipped, striped}
+use Rattle.mode1_rules.specs.Kinds.{stripeBody}
 use Rattle.mode1_rules.specs.Reading.{stripeRead}
 use Rattle.page_rules.specs.Grammar.{bodyIn}
 use Rattle.page_rules.specs.Reading.{stripeReadIn}
@@ -31,7 +32,7 @@ use Rattle.read_body.specs.Steps.{StripeRoom, Ready, stripeIn, StripePas
 
 -- ---- stripe_body and stripe_step
 
-pub body-by : (mode : Mode) → 31 ≡ bodyIn mode
+pub body-by : (mode : Mode) → stripeBody ≡ bodyIn mode
 body-by One = refl
 
 module _ (mode : Mode) (hd : Head) (k left : ℕ) (out s : List ℕ) (at first : ℕ) where
