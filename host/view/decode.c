@@ -46,6 +46,9 @@ finding decode_layer(const coded_layer *layer, const apart_bounds *bounds, apart
     decoding task = {layer, bounds->memory};
     size_t octets = (size_t)layer->width * layer->height * (layer->mask ? 1 : 3);
     apart_report report;
+    if (!layer->mask) {
+        ready_jpeg();
+    }
     apart_end end = do_apart(decode_here, &task, bounds, octets, samples, &report);
     finding found = end == APART_DONE ? told_by(&report, layer->height) : ends[end];
     if (end == APART_DONE && found != LAYER_READ) {

@@ -144,3 +144,24 @@ finding decode_jpeg(const coded_layer *layer, uint8_t *samples, size_t memory, u
     jpeg_destroy_decompress(&decoder);
     return found;
 }
+
+void ready_jpeg(void)
+{
+    struct jpeg_compress_struct coder = {0};
+    jpeg_trouble trouble;
+    unsigned char *octets = NULL;
+    unsigned long length = 0;
+    coder.err = jpeg_std_error(&trouble.errors);
+    trouble.errors.error_exit = leave;
+    if (setjmp(trouble.out) == 0) {
+        jpeg_create_compress(&coder);
+        jpeg_mem_dest(&coder, &octets, &length);
+        coder.image_width = coder.image_height = 1;
+        coder.input_components = 1;
+        coder.in_color_space = JCS_GRAYSCALE;
+        jpeg_set_defaults(&coder);
+        jpeg_start_compress(&coder, TRUE);
+    }
+    jpeg_destroy_compress(&coder);
+    free(octets);
+}

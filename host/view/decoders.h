@@ -52,6 +52,10 @@ finding decode_t85(const coded_layer *layer, uint8_t *samples, uint32_t *rows);
  * besides. */
 finding decode_jpeg(const coded_layer *layer, uint8_t *samples, size_t memory, uint32_t *rows);
 
+/* Called outside the sandbox, before a JPEG is decoded inside it: libjpeg asks what the processor
+ * can when a thread first works with it, and on Arm it opens a file for that. */
+void ready_jpeg(void);
+
 /* A row of bits, the first in the highest place, into octets of 0 and 1. */
 void spread_bits(const uint8_t *bits, uint32_t count, uint8_t *samples);
 

@@ -8,7 +8,7 @@ use Rattle.jpeg_rules.specs.declared.Fault.the-variants.{Short, BadRes, 
 use Rattle.jpeg_rules.specs.declared.Walk.the-variants.{Ends, Refused}
 use Rattle.jpeg_rules.specs.Marker.{classOf, markerOf}
 use Rattle.jpeg_rules.specs.Walk.{segOf, scanOf, tagOf, frameBodyOf, frameOf, scanStepOf, segmentOf, endOf, turnOf, walkOf}
-use Rattle.jpeg_rules.specs.Look.{turnLook, walkLook}
+use Rattle.jpeg_rules.proofs.Look.{turnLook, walkLook}
 
 -- the parts: the resolution's segment, the frame of 8 by 16, a scan with a stuffed FF and a restart marker, and the ends
 unfoldable pub opening : List ℕ

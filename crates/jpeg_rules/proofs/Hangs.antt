@@ -32,7 +32,7 @@ use Rattle.jpeg_rules.specs.declared.Turn.{Turn}
 use Rattle.jpeg_rules.specs.declared.Turn.the-variants.{Go, Stop}
 use Rattle.jpeg_rules.specs.Marker.{classOf, markerOf}
 use Rattle.jpeg_rules.specs.Walk.{segOf, scanOf, resolves, tagOf, framed, passed, moved, refused, onBody, onFound, onTag, frameBodyOf, frameOf, scanStepOf, segmentOf, endOf, markOf, onMarker, turnOf, onTurn, walkFrom, begun, walkOf}
-use Rattle.jpeg_rules.specs.Look.{bodyLook, whole, foundLook, markLook, markerLook, turnLook, onwardLook, walkLookFrom, walkLook, walkBeyond}
+use Rattle.jpeg_rules.proofs.Look.{bodyLook, whole, foundLook, markLook, markerLook, turnLook, onwardLook, walkLookFrom, walkLook, walkBeyond}
 use Rattle.jpeg_rules.proofs.Leaves.{marker-back}
 use Rattle.jpeg_rules.proofs.Walks.{turn-told, ahead}
 use Rattle.jpeg_rules.proofs.Within.{placeOf, tag-long}

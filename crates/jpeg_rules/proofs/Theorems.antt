@@ -16,7 +16,7 @@ use Rattle.jpeg_rules.specs.declared.Walk.{Walk}
 use Rattle.jpeg_rules.specs.declared.Walk.the-variants.{Ends, Refused}
 use Rattle.jpeg_rules.specs.Grammar.{Layer}
 use Rattle.jpeg_rules.specs.Walk.{walkOf}
-use Rattle.jpeg_rules.specs.Look.{walkLook, walkBeyond}
+use Rattle.jpeg_rules.proofs.Look.{walkLook, walkBeyond}
 use Rattle.jpeg_rules.specs.Faults.{BadLayer}
 use Rattle.jpeg_rules.proofs.There.{layer-walk}
 use Rattle.jpeg_rules.proofs.Back.{walk-layer}

@@ -1,5 +1,4 @@
 pub mod Marker
 pub mod Grammar
 pub mod Walk
-pub mod Look
 pub mod Faults

@@ -27,7 +27,7 @@ use Rattle.jpeg_rules.specs.declared.Fault.the-variants as F
 use Rattle.jpeg_rules.specs.declared.Walk.{Walk}
 use Rattle.jpeg_rules.specs.declared.Walk.the-variants.{Ends, Refused}
 use Rattle.jpeg_rules.specs.Walk.{walkOf}
-use Rattle.jpeg_rules.specs.Look.{walkLook, walkBeyond}
+use Rattle.jpeg_rules.proofs.Look.{walkLook, walkBeyond}
 use Rattle.jpeg_rules.proofs.Within.{placeOf as placeOfFault}
 use Rattle.jpeg_rules.proofs.Hangs as J
 use Rattle.start_rules.specs.declared.Head.{Head}

@@ -9,7 +9,7 @@ use Rattle.answers.specs.declared.Answer.the-variants.{Short, BadMark, BadLengt
 use Rattle.field_rules.specs.Field.{no, fields, reach}
 use Rattle.jpeg_rules.specs.Marker.{classOf, markerOf}
 use Rattle.jpeg_rules.specs.Walk.{segOf, scanOf, tagOf, frameBodyOf, frameOf, scanStepOf, segmentOf, endOf, turnOf, walkOf}
-use Rattle.jpeg_rules.specs.Look.{turnLook, walkLook}
+use Rattle.jpeg_rules.proofs.Look.{turnLook, walkLook}
 use Rattle.jpeg_rules.proofs.Examples as J
 use Rattle.segment_rules.specs.Segment.{beginOf, openTable}
 use Rattle.start_rules.specs.Coders.{maskCoder, imageCoder}

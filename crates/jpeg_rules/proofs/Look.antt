@@ -1,4 +1,4 @@
--- How far the walk over a JPEG layer looked, to be read beside Walk.antt. A refusal other than Short is decided by the octets up to there; inside
+-- How far the walk over a JPEG layer looked, to be read beside specs/Walk.antt. A refusal other than Short is decided by the octets up to there; inside
 -- a body by the octets up to the body's end, since a body that passes the end is Short, unjudged (01, "Numbers that a call returns").
 --
 --   bodyLook g n go         a segment whose length stands at n: to the end of the length where that is at fault, else what `go` says of the body
