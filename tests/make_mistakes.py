@@ -380,8 +380,7 @@ def check_damage(tally, folder, rng):
     if program is None:
         return
     plan, masks, images = originals(rng)
-    safe = dict(os.environ, ASAN_OPTIONS="exitcode=%d:allocator_may_return_null=1" % REPORT,
-                UBSAN_OPTIONS="exitcode=%d" % REPORT)
+    safe = dict(os.environ, UBSAN_OPTIONS="exitcode=%d" % REPORT)
     ends = {0: 0, 1: 0, 2: 0}
     for k in range(DAMAGED):
         files = {"d.plan": plan.encode(), "pic.m": rng.choice(masks), "pic.i": rng.choice(images)}
@@ -392,6 +391,8 @@ def check_damage(tally, folder, rng):
                 files[name] = mended(files[name])
         for name, octets in files.items():
             write(os.path.join(folder, name), octets)
+        safe["ASAN_OPTIONS"] = "exitcode=%d:allocator_may_return_null=1:%s" % (
+            REPORT, reference_run.leaks(k))
         status, told, wrong = run(folder, "d.plan", "-o", "d.out", "--pencil", "d.s", "d.f",
                                   "--no-sandbox", program=program, env=safe)
         good = status == 0 and wrong == "" or status in (1, 2) and is_message(wrong) and told == ""

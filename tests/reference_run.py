@@ -5,6 +5,7 @@ much more than in `make test` is tried where cases are random: 10 is ten times a
 """
 
 import os
+import platform
 import re
 import subprocess
 
@@ -42,6 +43,12 @@ def parts_of(name):
 def trials(count):
     """How many random cases are tried of those that `make test` has this many of."""
     return max(1, round(count * float(os.environ.get("SPIREROOK_TRIALS") or 1)))
+
+
+def leaks(turn):
+    """Whether the sanitizers look for leaks in this turn of many, in their words: in each on x86-64.
+    On Arm gcc's search takes seconds over an empty program, so there one turn in 40 has it."""
+    return "detect_leaks=%d" % (platform.machine() == "x86_64" or turn % 40 == 0)
 
 
 def build(name="reference_list", sources=SOURCES, flags=("-O2",), parts=LIST):

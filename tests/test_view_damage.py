@@ -250,10 +250,10 @@ def pencil_page(rng):
     return (page.octets(), *page.sheet_and_pencil())
 
 
-def sanitizer_settings(folder, **others):
+def sanitizer_settings(folder, turn, **others):
     log = "log_path=%s:exitcode=99" % os.path.join(folder, "report")
-    return {**os.environ, "ASAN_OPTIONS": log, "UBSAN_OPTIONS": log + ":print_stacktrace=1",
-            "LSAN_OPTIONS": "exitcode=99", **others}
+    return {**os.environ, "ASAN_OPTIONS": log + ":" + reference_run.leaks(turn),
+            "UBSAN_OPTIONS": log + ":print_stacktrace=1", "LSAN_OPTIONS": "exitcode=99", **others}
 
 
 def reports(folder):
@@ -268,7 +268,7 @@ def check_planted(program):
     checks = []
     for plant, due in (("address", "heap-buffer-overflow"), ("undefined", "signed integer overflow")):
         place = Place()
-        settings = sanitizer_settings(place.kept.name, PLANT=plant)
+        settings = sanitizer_settings(place.kept.name, 1, PLANT=plant)
         shown = place.show(next(whole_pages()), *NO_SANDBOX, view=program, env=settings)
         told = reports(place.kept.name) + shown.wrong
         checks.append((due in told and "its decoder broke off" in shown.told,
@@ -292,10 +292,10 @@ class Watched(Place):
 
     def __init__(self, program, seed):
         super().__init__()
-        self.settings = {"view": program, "env": sanitizer_settings(self.kept.name)}
-        self.seed, self.shown, self.files = seed, 0, {}
+        self.program, self.seed, self.shown, self.files = program, seed, 0, {}
 
     def show(self, octets, *words, **settings):
+        self.settings = {"view": self.program, "env": sanitizer_settings(self.kept.name, self.shown)}
         shown = super().show(octets, *words, *NO_SANDBOX, **settings)
         self.shown += 1
         self.files = {"page": octets, **{name.rpartition(".")[2]: view_making.read(name)
