@@ -21,6 +21,7 @@
 #include <stdlib.h>
 #include <string.h>
 #include <sys/mman.h>
+#include <unistd.h>
 
 enum {
     NUMBERS = 5 + CALL_NUMBERS,
@@ -75,11 +76,15 @@ static bool in_thread(pthread_attr_t *attributes, void *(*function)(void *), voi
            pthread_join(thread, NULL) == 0;
 }
 
+/* In a thread of SPIREROOK_STACK; of the least that there is where that is more, as on Arm: then
+ * the painted stack alone tells. */
 static bool in_small_stack(struct task *task)
 {
     pthread_attr_t attributes;
+    long least = sysconf(_SC_THREAD_STACK_MIN);
+    size_t size = least > SPIREROOK_STACK ? (size_t)least : SPIREROOK_STACK;
     bool ran = pthread_attr_init(&attributes) == 0 &&
-               pthread_attr_setstacksize(&attributes, SPIREROOK_STACK) == 0 &&
+               pthread_attr_setstacksize(&attributes, size) == 0 &&
                in_thread(&attributes, run_task, task);
     pthread_attr_destroy(&attributes);
     return ran;
