@@ -4,6 +4,7 @@ LIBRARY names the archive that is tried in place of build/libspirerook.a. SPIRER
 much more than in `make test` is tried where cases are random: 10 is ten times as many.
 """
 
+import itertools
 import os
 import platform
 import re
@@ -17,6 +18,7 @@ HEADERS = os.path.join(ROOT, "include")
 DRIVER = os.path.join(ROOT, "tests", "driver")
 WARNINGS = ["-std=c11", "-Wall", "-Wextra", "-Wpedantic", "-Werror"]
 SECONDS = 60         # by the clock; a run takes a few, but others may work on the machine
+TURNS = itertools.count()   # of programs run here
 LIST = ("sheet.c", "console.c", "list.c")
 CALLS = ("page.c", "reading.c", "stripe.c", "jpeg.c", "write.c", "line.c", "data.c", "sheet.c",
          "as_library.c")
@@ -47,8 +49,9 @@ def trials(count):
 
 def leaks(turn):
     """Whether the sanitizers look for leaks in this turn of many, in their words: in each on x86-64.
-    On Arm gcc's search takes seconds over an empty program, so there one turn in 40 has it."""
-    return "detect_leaks=%d" % (platform.machine() == "x86_64" or turn % 40 == 0)
+    On Arm gcc's search takes seconds over an empty program, so there one turn in 41 has it (an
+    odd number, since two programs often take turns)."""
+    return "detect_leaks=%d" % (platform.machine() == "x86_64" or turn % 41 == 0)
 
 
 def build(name="reference_list", sources=SOURCES, flags=("-O2",), parts=LIST):
@@ -124,7 +127,8 @@ def ended(program, octets, words):
     try:
         with as_input(octets) as given:
             done = subprocess.run([program, *words], stdin=given, stdout=subprocess.PIPE,
-                                  stderr=subprocess.PIPE, timeout=SECONDS, check=False)
+                                  stderr=subprocess.PIPE, timeout=SECONDS, check=False,
+                                  env={**os.environ, "ASAN_OPTIONS": leaks(next(TURNS))})
     except subprocess.TimeoutExpired as late:
         return late.stdout or b"", b"", "no end after %d seconds" % SECONDS
     signal = "ended by signal %d" % -done.returncode if done.returncode < 0 else ""
