@@ -15,7 +15,7 @@ file() { mkdir -p "$(dirname "$1")" && cat >"$1"; }
 fresh() {
   rm -rf "$room/repo" && mkdir -p "$room/repo/tests" "$room/repo/stub" && cd "$room/repo" || exit 1
   cp -r "$here/.ci" "$here/Makefile" . && cp "$here"/tests/{run,tally,need,spent.py} tests/
-  mkdir tools && cp "$here/tools/leftovers" tools/
+  mkdir tools && cp "$here/tools/leftovers" tools/ && echo 'exec rt staticlib "$1"' >tools/archive # rt is a stub, its kit none
   echo 'one:' >crates.txt
   printf '%s\n' 'rt: one proved (7 s)' 'rt: must-fail one/a: refused, as it must be (first at src/lib.rt:1:1; 5 s)' \
     "rt: two ran as nobody, and wrote what its file 'stdout' has (3 s)" '4 passed, 0 failed' >stub/ci
