@@ -7,7 +7,6 @@
 --                    rule on numbers read before, refused so many octets back
 --   fields table before s at   the numbers read, with those before in front; or the refusal of the first field at fault
 --   is good, any     a rule on a field of one number, and a field without a rule
---   reach table before s at    how far it looked
 --
 -- A field that does not fit whole is Short, whatever its octets say.
 use Prim.Native.Nat.{ℕ, _+_, _-_, _<_}
@@ -73,17 +72,6 @@ fields (val ws good refusal ∷ table) before s at =
     cond (ltb (length s) (at + widths ws)) (no (Short at))
     (cond (good before (numbers ws s at)) (fields table (before ++ numbers ws s at) s (at + widths ws)) (no (refusal at)))
 fields (again back good refusal ∷ table) before s at = cond (good before) (fields table before s at) (no (refusal (at - back)))
-
--- how far reading looked: to the end of the last field, or of the field at fault; where a number read before is at fault, up to where that was seen
-unfoldable pub reach : List Field → List ℕ → List ℕ → ℕ → ℕ
-unfolding widths numbers
-reach [] before s at = at
-reach (mark m refusal ∷ table) before s at =
-    cond (ltb (length s) (at + length m)) at (cond (standsAt s at m) (reach table before s (at + length m)) (at + length m))
-reach (val ws good refusal ∷ table) before s at =
-    cond (ltb (length s) (at + widths ws)) at
-    (cond (good before (numbers ws s at)) (reach table (before ++ numbers ws s at) s (at + widths ws)) (at + widths ws))
-reach (again back good refusal ∷ table) before s at = cond (good before) (reach table before s at) at
 
 -- ---- what the octets are
 

@@ -4,11 +4,10 @@ use Prim.Native.Nat.{ℕ}
 use mathlib.Core.Path.{_≡_, refl}
 use mathlib.Core.List.{List, [], _∷_, _++_}
 use Rattle.octets.specs.Octets.{be16At, begins, standsAt}
-use Rattle.jpeg_rules.specs.declared.Fault.the-variants.{Short, BadRes, BadLayer}
+use Rattle.jpeg_rules.specs.declared.Fault.the-variants.{BadRes, BadLayer}
 use Rattle.jpeg_rules.specs.declared.Walk.the-variants.{Ends, Refused}
 use Rattle.jpeg_rules.specs.Marker.{classOf, markerOf}
 use Rattle.jpeg_rules.specs.Walk.{segOf, scanOf, tagOf, frameBodyOf, frameOf, scanStepOf, segmentOf, endOf, turnOf, walkOf}
-use Rattle.jpeg_rules.proofs.Look.{turnLook, walkLook}
 
 -- the parts: the resolution's segment, the frame of 8 by 16, a scan with a stuffed FF and a restart marker, and the ends
 unfoldable pub opening : List ℕ
@@ -59,10 +58,3 @@ walk-no-resolution = refl
 pub walk-two-frames : walkOf (opening ++ tag200 ++ frame ++ frame ++ scan ++ closing) 0 400 ≡ Refused (BadLayer 26)
 unfolding walkOf turnOf markerOf classOf segOf scanOf tagOf frameOf frameBodyOf scanStepOf segmentOf endOf standsAt begins be16At opening closing tag200 frame scan
 walk-two-frames = refl
-
--- a second FF D8 after scan data is decided by its two octets: FF 00 there would be data, without an end
-pub walk-looks : (walkOf (opening ++ tag200 ++ frame ++ scan ++ opening) 0 400 ≡ Refused (BadLayer 38))
-    × (walkLook (opening ++ tag200 ++ frame ++ scan ++ opening) 0 400 ≡ 40)
-    × (walkOf (opening ++ tag200 ++ frame ++ scan ++ (0xFF ∷ 0x00 ∷ [])) 0 400 ≡ Refused (Short 31))
-unfolding walkOf walkLook turnOf turnLook markerOf classOf segOf scanOf tagOf frameOf frameBodyOf scanStepOf segmentOf endOf standsAt begins be16At opening tag200 frame scan
-walk-looks = (refl, refl, refl)

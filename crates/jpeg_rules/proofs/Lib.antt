@@ -8,8 +8,5 @@ pub mod Back
 pub mod Within
 pub mod Refuses
 pub mod Refused
-pub mod Look
-pub mod LeafHangs
-pub mod Hangs
 pub mod Theorems
 pub mod Examples

@@ -1,29 +1,24 @@
 -- What is proved of the JPEG walk. The statements are for the reader; how each is shown stands in the files beside this one.
 -- Assumes nothing.
-use Prim.Native.Nat.{ℕ, _+_, _-_, _≤_, _<_}
+use Prim.Native.Nat.{ℕ, _+_, _-_, _≤_}
 use native.Mathlib.Omega.{arith}
-use mathlib.Core.Path.{_≡_, refl, sym, ap, subst, _∙_}
+use mathlib.Core.Path.{_≡_, refl, sym, ap, _∙_}
 use mathlib.Core.Logic.{_↔_}
 use mathlib.Core.List.{List, [], _∷_, _++_, append-nil}
 use lib.ListN.{length, take, drop, length-append, length-drop, take-append-drop}
 use lib.Seq.{length-take-le, drop-drop}
 use Rattle.laws.proofs.Cases.{clash}
 use Rattle.octets.specs.Octets.{Octets}
-use Rattle.octets.proofs.Agree.{Agree}
 use Rattle.jpeg_rules.specs.declared.Fault.{Fault}
-use Rattle.jpeg_rules.specs.declared.Fault.the-variants.{Short}
 use Rattle.jpeg_rules.specs.declared.Walk.{Walk}
 use Rattle.jpeg_rules.specs.declared.Walk.the-variants.{Ends, Refused}
 use Rattle.jpeg_rules.specs.Grammar.{Layer}
 use Rattle.jpeg_rules.specs.Walk.{walkOf}
-use Rattle.jpeg_rules.proofs.Look.{walkLook, walkBeyond}
 use Rattle.jpeg_rules.specs.Faults.{BadLayer}
 use Rattle.jpeg_rules.proofs.There.{layer-walk}
 use Rattle.jpeg_rules.proofs.Back.{walk-layer}
 use Rattle.jpeg_rules.proofs.Refuses.{layer-bad}
 use Rattle.jpeg_rules.proofs.Refused.{layer-blames}
-use Rattle.jpeg_rules.proofs.Within.{placeOf}
-use Rattle.jpeg_rules.proofs.Hangs.{NearWalk, walk-hangs}
 
 -- the octets from one place up to another are a layer
 pub record LayerAt (s : List ℕ) (start main e w h r : ℕ) : Type 0 where
@@ -113,19 +108,3 @@ walk-shift s t o start at main e w h r q same fits =
     let split : drop at t ≡ l ++ drop (at + (e - start)) t =
     cut-at t at (at + (e - start)) (omega arith) ∙ ap (λ (m : ℕ). take m (drop at t) ++ drop (at + (e - start)) t) z ∙ ap (λ (x : List ℕ). x ++ drop (at + (e - start)) t) same in
     layer-walk t at main l (drop (at + (e - start)) t) w h r (k .layer) split ∙ ap (λ (m : ℕ). Ends (at + m) w h r) n
-
--- ---- a walk that is not Short is decided by the octets up to where it looked: every list that agrees so far is walked alike
-
-pub walk-decided : (s : List ℕ) → Octets s → (start main : ℕ) → ((p : ℕ) → walkOf s start main ≡ Refused (Short p) → ⊥) → (t : List ℕ)
-    → Agree (walkLook s start main) s t → walkOf t start main ≡ walkOf s start main
-walk-decided s o start main u = walk-hangs s o start main u .hangs .same
-
--- where it ended, that is its end; where it was refused, past the place and not far beyond
-pub look-end : (s : List ℕ) → Octets s → (start main e w h r : ℕ) → walkOf s start main ≡ Ends e w h r → walkLook s start main ≡ e
-unfolding NearWalk
-look-end s o start main e w h r q = subst (NearWalk (walkLook s start main)) q (walk-hangs s o start main (λ p z. clash cc) .near)
-
-pub look-near : (s : List ℕ) → Octets s → (start main : ℕ) (f : Fault) → walkOf s start main ≡ Refused f → ((p : ℕ) → f ≡ Short p → ⊥)
-    → (placeOf f < walkLook s start main) × (walkLook s start main ≤ placeOf f + walkBeyond f)
-unfolding NearWalk
-look-near s o start main f q u = subst (NearWalk (walkLook s start main)) q (walk-hangs s o start main (λ p z. u p cc) .near)

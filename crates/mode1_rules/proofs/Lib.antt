@@ -7,4 +7,3 @@ pub mod Named
 pub mod Parts
 pub mod Accepted
 pub mod Coded
-pub mod Look

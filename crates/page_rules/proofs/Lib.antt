@@ -2,11 +2,8 @@ pub mod Items
 pub mod Exactly
 pub mod Refused
 pub mod Parts
-pub mod Look
-pub mod Decided
 pub mod Theorems
 pub mod Into
 pub mod Samples
 pub mod Many
 pub mod Examples
-pub mod LookExamples

@@ -1,4 +1,3 @@
 pub mod Begin
 pub mod Exactly
 pub mod Named
-pub mod Look

@@ -3,4 +3,3 @@ pub mod Start
 pub mod Faults
 pub mod Exactly
 pub mod Named
-pub mod Look

@@ -11,8 +11,8 @@ use Rattle.octets.specs.Octets.{standsAt}
 use Rattle.laws.proofs.Cases.{cond-both, clash}
 use Rattle.answers.specs.declared.Answer.{Answer}
 use Rattle.answers.specs.declared.Answer.the-variants.{Short}
-use Rattle.field_rules.specs.Field.{Res, ok, no, widths, numbers, Field, mark, val, again, fields, reach}
-use Rattle.field_rules.proofs.Hangs.{Whole, fields-hang}
+use Rattle.field_rules.specs.Field.{Res, ok, no, widths, numbers, Field, mark, val, again, fields}
+use Rattle.page_looks.proofs.Hangs.{reach, Whole, fields-hang}
 
 module _ (out s : List ℕ) (n : ℕ) where
   pub reach-end : (table : List Field) (before : List ℕ) (at : ℕ) → fields table before s at ≡ ok out n → reach table before s at ≡ n

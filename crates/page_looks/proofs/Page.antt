@@ -23,21 +23,21 @@ use Rattle.answers.specs.declared.Answer.{Answer}
 use Rattle.answers.specs.declared.Answer.the-variants.{Trailing}
 use Rattle.answers.specs.Answers.{placeOf}
 use Rattle.sheet_rules.specs.declared.Record.{Record}
-use Rattle.field_rules.specs.Field.{Res, ok, no, bind, fields, reach}
-use Rattle.field_rules.proofs.Hangs.{Whole}
-use Rattle.field_rules.proofs.Looked.{onward, beyond, Near, near, Looked, looked-ok, looked-if, looked-bind}
+use Rattle.field_rules.specs.Field.{Res, ok, no, bind, fields}
+use Rattle.page_looks.proofs.Hangs.{reach, Whole}
+use Rattle.page_looks.proofs.Looked.{onward, beyond, Near, near, Looked, looked-ok, looked-if, looked-bind}
 use Rattle.segment_rules.specs.declared.Version.{Version}
 use Rattle.segment_rules.specs.declared.Mode.{Mode}
 use Rattle.segment_rules.specs.declared.Mode.the-variants.{One}
 use Rattle.segment_rules.specs.Segment.{segmentOf}
-use Rattle.segment_rules.proofs.Look.{segmentLook, segment-looked, segment-far}
+use Rattle.page_looks.proofs.Segment.{segmentLook, segment-looked, segment-far}
 use Rattle.start_rules.specs.declared.Head.{Head}
 use Rattle.start_rules.specs.Reading.{startRead}
-use Rattle.start_rules.proofs.Look.{startLook}
+use Rattle.page_looks.proofs.Start.{startLook}
 use Rattle.body_rules.specs.Body.{Item, skipped, bodyFrom}
-use Rattle.body_rules.proofs.Look.{bodyLook}
-use Rattle.mode1_rules.proofs.Look as M1
+use Rattle.page_looks.proofs.Body.{bodyLook}
+use Rattle.page_looks.proofs.Mode1 as M1
 use Rattle.page_rules.specs.Reading.{dueAt, stripeReadIn, itemOf, zerosOf, endTable}
 
 -- ---- the definitions
 

@@ -13,30 +13,30 @@ use Rattle.octets.specs.Octets.{Octets, be16At}
 use Rattle.octets.proofs.Laws.{be16-bound}
 use Rattle.octets.proofs.Agree.{octet-agree, Hangs, hangs-none, hangs-as, hangs-from, hangs-then, hangs-fits}
 use Rattle.laws.proofs.Cases.{cond-with, clash}
 use Rattle.jpeg_rules.specs.declared.Class.{Class}
 use Rattle.jpeg_rules.specs.declared.Class.the-variants.{Alone, Frame, Scan, End, Wrong, Segment}
 use Rattle.jpeg_rules.specs.declared.Marker.{Marker}
 use Rattle.jpeg_rules.specs.declared.Marker.the-variants.{Code, Missing, Cut}
 use Rattle.jpeg_rules.specs.declared.Fault.{Fault}
 use Rattle.jpeg_rules.specs.declared.Fault.the-variants.{Short, BadRes, BadLayer}
 use Rattle.jpeg_rules.specs.declared.Seg.{Seg}
 use Rattle.jpeg_rules.specs.declared.Seg.the-variants.{Body}
 use Rattle.jpeg_rules.specs.declared.Found.{Found}
 use Rattle.jpeg_rules.specs.declared.Found.the-variants.{At, Nothing}
 use Rattle.jpeg_rules.specs.declared.Tag.{Tag}
 use Rattle.jpeg_rules.specs.declared.Tag.the-variants.{Gives, Plain}
 use Rattle.jpeg_rules.specs.declared.Reach.{Reach}
 use Rattle.jpeg_rules.specs.declared.Walk.{Walk}
 use Rattle.jpeg_rules.specs.declared.Walk.the-variants.{Ends}
 use Rattle.jpeg_rules.specs.declared.Turn.{Turn}
 use Rattle.jpeg_rules.specs.declared.Turn.the-variants.{Go, Stop}
 use Rattle.jpeg_rules.specs.Marker.{classOf, markerOf}
 use Rattle.jpeg_rules.specs.Walk.{segOf, scanOf, resolves, tagOf, framed, passed, moved, refused, onBody, onFound, onTag, frameBodyOf, frameOf, scanStepOf, segmentOf, endOf, markOf, onMarker, turnOf, onTurn, walkFrom, begun, walkOf}
-use Rattle.jpeg_rules.proofs.Look.{bodyLook, whole, foundLook, markLook, markerLook, turnLook, onwardLook, walkLookFrom, walkLook, walkBeyond}
+use Rattle.jpeg_looks.proofs.Look.{bodyLook, whole, foundLook, markLook, markerLook, turnLook, onwardLook, walkLookFrom, walkLook, walkBeyond}
 use Rattle.jpeg_rules.proofs.Leaves.{marker-back}
 use Rattle.jpeg_rules.proofs.Walks.{turn-told, ahead}
 use Rattle.jpeg_rules.proofs.Within.{placeOf, tag-long}
-use Rattle.jpeg_rules.proofs.LeafHangs.{Whole, seg-whole, seg-bad, marker-hangs, scan-hangs, tag-hangs, frame-hangs}
+use Rattle.jpeg_looks.proofs.Leaves.{Whole, seg-whole, seg-bad, marker-hangs, scan-hangs, tag-hangs, frame-hangs}
 
 -- ---- how near the end or the place of a refusal
 

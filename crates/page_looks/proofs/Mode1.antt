@@ -16,28 +16,28 @@ use Rattle.octets.specs.Octets.{Octets}
 use Rattle.laws.proofs.Cases.{clash}
 use Rattle.answers.specs.declared.Answer.the-variants.{Short, BadLength, BadRes, BadType, BadStripe, BadLayer}
 use Rattle.answers.specs.Answers.{placeOf}
-use Rattle.field_rules.specs.Field.{ok, bind, widths, fields, reach}
+use Rattle.field_rules.specs.Field.{ok, bind, widths, fields}
 use Rattle.field_rules.specs.Part.{spanOf}
-use Rattle.field_rules.proofs.Hangs.{Whole}
-use Rattle.field_rules.proofs.Looks.{Looks}
-use Rattle.field_rules.proofs.Looked.{onward, beyond, Near, near, _&_, Looked, looked-ok, looked-no, looked-then, looked-bind, looked-map, looked-span, looked-fields}
+use Rattle.page_looks.proofs.Hangs.{reach, Whole}
+use Rattle.page_looks.proofs.Fields.{Looks}
+use Rattle.page_looks.proofs.Looked.{onward, beyond, Near, near, _&_, Looked, looked-ok, looked-no, looked-then, looked-bind, looked-map, looked-span, looked-fields}
 use Rattle.sheet_rules.specs.declared.Record.{Record}
 use Rattle.jpeg_rules.specs.declared.Fault.{Fault}
 use Rattle.jpeg_rules.specs.declared.Fault.the-variants as F
 use Rattle.jpeg_rules.specs.declared.Walk.{Walk}
 use Rattle.jpeg_rules.specs.declared.Walk.the-variants.{Ends, Refused}
 use Rattle.jpeg_rules.specs.Walk.{walkOf}
-use Rattle.jpeg_rules.proofs.Look.{walkLook, walkBeyond}
+use Rattle.jpeg_looks.proofs.Look.{walkLook, walkBeyond}
 use Rattle.jpeg_rules.proofs.Within.{placeOf as placeOfFault}
-use Rattle.jpeg_rules.proofs.Hangs as J
+use Rattle.jpeg_looks.proofs.Hangs as J
 use Rattle.start_rules.specs.declared.Head.{Head}
 use Rattle.body_rules.specs.Body.{striped}
 use Rattle.mode1_rules.specs.declared.Fields.{Fields}
 use Rattle.mode1_rules.specs.declared.LayerData.{LayerData}
 use Rattle.mode1_rules.specs.declared.LayerData.the-variants.{There, Absent}
 use Rattle.mode1_rules.specs.Kinds.{hasBack, hasFore}
 use Rattle.mode1_rules.specs.Grammar.{recordsOf}
 use Rattle.mode1_rules.specs.Reading.{stripeTable, fieldsFrom, faultOf, onWalk, walked, layersOf, stripeRead}
 
 unfoldable pub layerLook : List ℕ → ℕ → Bool → ℕ → ℕ
 layerLook s main present at = cond present (walkLook s at main) at

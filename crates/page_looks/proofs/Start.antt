@@ -9,11 +9,11 @@ use lib.ListN.{length}
 use lib.Dec.{lit≤}
 use Rattle.answers.specs.declared.Answer.the-variants.{BadMark, BadLength, BadVersion, BadMode, BadCoder, BadRes, BadWidth}
 use Rattle.answers.specs.Answers.{placeOf}
-use Rattle.field_rules.specs.Field.{Res, ok, bind, widths, fields, reach}
-use Rattle.field_rules.proofs.Hangs.{Whole}
-use Rattle.field_rules.proofs.Looks.{Looks, reach-mark}
-use Rattle.field_rules.proofs.Looked.{beyond, Near, near, near-length, _&_, Looked, looked-map, looked-fields}
+use Rattle.field_rules.specs.Field.{Res, ok, bind, widths, fields}
+use Rattle.page_looks.proofs.Hangs.{reach, Whole}
+use Rattle.page_looks.proofs.Fields.{Looks, reach-mark}
+use Rattle.page_looks.proofs.Looked.{beyond, Near, near, near-length, _&_, Looked, looked-map, looked-fields}
 use Rattle.start_rules.specs.Reading.{startTable, headFrom, startRead}
 
 unfoldable pub startLook : List ℕ → ℕ → ℕ
 startLook s at = reach startTable [] s at

@@ -13,15 +13,15 @@ use lib.Dec.{eqb, lit≤}
 use Rattle.laws.proofs.Cases.{cond-with}
 use Rattle.answers.specs.declared.Answer.the-variants.{BadMark, BadLength}
 use Rattle.answers.specs.Answers.{placeOf}
-use Rattle.field_rules.specs.Field.{Res, ok, no, bind, widths, fields, reach}
+use Rattle.field_rules.specs.Field.{Res, ok, no, bind, widths, fields}
 use Rattle.field_rules.specs.Part.{spanOf}
-use Rattle.field_rules.proofs.Hangs.{Whole}
-use Rattle.field_rules.proofs.Looks.{Looks, reach-mark}
+use Rattle.page_looks.proofs.Hangs.{reach, Whole}
+use Rattle.page_looks.proofs.Fields.{Looks, reach-mark}
 use Rattle.field_rules.proofs.Refused.{fields-end}
-use Rattle.field_rules.proofs.Looked.{onward, beyond, Near, near, near-length, _&_, Looked, looked-ok, looked-no, looked-bind, looked-map, looked-span, looked-fields}
+use Rattle.page_looks.proofs.Looked.{onward, beyond, Near, near, near-length, _&_, Looked, looked-ok, looked-no, looked-bind, looked-map, looked-span, looked-fields}
 use Rattle.segment_rules.specs.declared.Version.{Version}
 use Rattle.segment_rules.proofs.Begin.{open-size}
 use Rattle.segment_rules.specs.Segment.{Need, passed, sized, Due, sizeIn, identIn, openTable, behindOf, segmentOf}
 
 abbrev pub behindLook : Need → ℕ → ℕ → ℕ
 behindLook passed size at = at + size

@@ -1,5 +1,5 @@
 -- A step of reading depends on the octets up to where it looked, and so do steps one after another. How far a step looked is defined beside its
--- theorem, in the crate of its reading: the first fault in page order shows at the end of its field; a length that depends on the ident is judged
+-- theorem, in the file of its part: the first fault in page order shows at the end of its field; a length that depends on the ident is judged
 -- at the end of the ident behind it; and a fault inside a JPEG body at the end of that body (01, "Numbers that a call returns").
 --
 --   onward r looked go      how far two steps looked: where the first was refused it looked so far, and where it was read the second says
@@ -21,10 +21,10 @@ use Rattle.laws.proofs.Cases.{cond-with, clash}
 use Rattle.answers.specs.declared.Answer.{Answer}
 use Rattle.answers.specs.declared.Answer.the-variants.{Short, BadLength}
 use Rattle.answers.specs.Answers.{numberOf, placeOf}
-use Rattle.field_rules.specs.Field.{Res, ok, no, bind, Field, fields, reach}
+use Rattle.field_rules.specs.Field.{Res, ok, no, bind, Field, fields}
 use Rattle.field_rules.specs.Part.{spanOf}
-use Rattle.field_rules.proofs.Hangs.{Whole, fields-hang}
-use Rattle.field_rules.proofs.Looks.{reach-end, Looks, fields-look}
+use Rattle.page_looks.proofs.Hangs.{reach, Whole, fields-hang}
+use Rattle.page_looks.proofs.Fields.{reach-end, Looks, fields-look}
 
 abbrev pub onward : {A : Type 0} → Res A → ℕ → (A → ℕ → ℕ) → ℕ
 onward (ok x n) looked go = go x n

@@ -13,7 +13,18 @@ use Rattle.answers.specs.declared.Answer.the-variants.{Short}
 use Rattle.laws.proofs.Cases.{cond-both}
 use Rattle.octets.specs.Octets.{standsAt}
 use Rattle.octets.proofs.Agree.{Agree, octet-agree, be16-agree, be32-agree, stands-agree, Hangs, hangs-none, hangs-then, hangs-fits}
-use Rattle.field_rules.specs.Field.{Res, ok, no, Width, one, two, four, octetCount, widths, numberAt, numbers, Field, mark, val, again, fields, reach}
+use Rattle.field_rules.specs.Field.{Res, ok, no, Width, one, two, four, octetCount, widths, numberAt, numbers, Field, mark, val, again, fields}
+
+-- how far reading looked: to the end of the last field, or of the field at fault; where a number read before is at fault, up to where that was seen
+unfoldable pub reach : List Field → List ℕ → List ℕ → ℕ → ℕ
+unfolding widths numbers
+reach [] before s at = at
+reach (mark m refusal ∷ table) before s at =
+    cond (ltb (length s) (at + length m)) at (cond (standsAt s at m) (reach table before s (at + length m)) (at + length m))
+reach (val ws good refusal ∷ table) before s at =
+    cond (ltb (length s) (at + widths ws)) at
+    (cond (good before (numbers ws s at)) (reach table (before ++ numbers ws s at) s (at + widths ws)) (at + widths ws))
+reach (again back good refusal ∷ table) before s at = cond (good before) (reach table before s at) at
 
 module _ (e : ℕ) (s t : List ℕ) (a : Agree e s t) where
   number-agree : (w : Width) (at : ℕ) → at + octetCount w ≤ e → numberAt w s at ≡ numberAt w t at

@@ -13,17 +13,17 @@ use Rattle.answers.specs.declared.Answer.{Answer}
 use Rattle.answers.specs.declared.Answer.the-variants.{Short, BadMark}
 use Rattle.answers.specs.Answers.{placeOf}
 use Rattle.sheet_rules.specs.declared.Record.{Record}
-use Rattle.field_rules.specs.Field.{Res, no, bind, fields, reach}
-use Rattle.field_rules.proofs.Hangs.{Whole}
-use Rattle.field_rules.proofs.Looks.{Looks}
-use Rattle.field_rules.proofs.Looked.{beyond, Near, near, _&_, Looked, looked-bind, looked-fields}
+use Rattle.field_rules.specs.Field.{Res, no, bind, fields}
+use Rattle.page_looks.proofs.Hangs.{reach, Whole}
+use Rattle.page_looks.proofs.Fields.{Looks}
+use Rattle.page_looks.proofs.Looked.{beyond, Near, near, _&_, Looked, looked-bind, looked-fields}
 use Rattle.start_rules.specs.declared.Head.{Head}
 use Rattle.start_rules.specs.Reading.{startRead}
-use Rattle.start_rules.proofs.Look.{startLook, start-looked, start-far}
+use Rattle.page_looks.proofs.Start.{startLook, start-looked, start-far}
 use Rattle.body_rules.specs.Body.{bodyFrom}
-use Rattle.body_rules.proofs.Look.{bodyLook, body-looked}
+use Rattle.page_looks.proofs.Body.{bodyLook, body-looked}
 use Rattle.page_rules.specs.Reading.{itemOf, endTable, pageOf}
-use Rattle.page_rules.proofs.Look.{itemLook, item-looked, item-far, readZeros, zeros-looked, pageLook}
+use Rattle.page_looks.proofs.Page.{itemLook, item-looked, item-far, readZeros, zeros-looked, pageLook}
 
 end-near : (at : ℕ) → Looks Near at endTable
 unfolding Looks endTable placeOf beyond

@@ -19,9 +19,9 @@ use Rattle.answers.specs.declared.Answer.the-variants.{Short, BadStripe}
 use Rattle.answers.specs.Answers.{placeOf}
 use Rattle.sheet_rules.specs.declared.Record.{Record}
 use Rattle.field_rules.specs.Field.{Res, ok, no, bind}
-use Rattle.field_rules.proofs.Hangs.{Whole}
-use Rattle.field_rules.proofs.Looked.{onward, beyond, near, Looked, looked-ok, looked-no, looked-from, looked-as, looked-then, looked-fits, looked-bind}
+use Rattle.page_looks.proofs.Hangs.{Whole}
+use Rattle.page_looks.proofs.Looked.{onward, beyond, near, Looked, looked-ok, looked-no, looked-from, looked-as, looked-then, looked-fits, looked-bind}
 use Rattle.body_rules.specs.Body.{endMark, Item, skipped, striped, onItem, laid, bodyFrom}
 
 unfoldable pub bodyLook : (ℕ → ℕ → List ℕ → ℕ → Res Item) → (ℕ → ℕ → List ℕ → ℕ → ℕ) → ℕ → ℕ → ℕ → List ℕ → ℕ → ℕ
 bodyLook turn look zero k left s at = at

@@ -6,10 +6,10 @@ use mathlib.Core.List.{List, [], _∷_, _++_}
 use lib.ListN.{take}
 use Rattle.octets.specs.Octets.{be16At, be32At, begins, standsAt, octets16, octets32}
 use Rattle.answers.specs.declared.Answer.the-variants.{Short, BadMark, BadLength, BadLayer, Trailing}
-use Rattle.field_rules.specs.Field.{no, fields, reach}
+use Rattle.field_rules.specs.Field.{no, fields}
 use Rattle.jpeg_rules.specs.Marker.{classOf, markerOf}
 use Rattle.jpeg_rules.specs.Walk.{segOf, scanOf, tagOf, frameBodyOf, frameOf, scanStepOf, segmentOf, endOf, turnOf, walkOf}
-use Rattle.jpeg_rules.proofs.Look.{turnLook, walkLook}
+use Rattle.jpeg_looks.proofs.Look.{turnLook, walkLook}
 use Rattle.jpeg_rules.proofs.Examples as J
 use Rattle.segment_rules.specs.Segment.{beginOf, openTable}
 use Rattle.start_rules.specs.Coders.{maskCoder, imageCoder}
@@ -18,9 +18,10 @@ use Rattle.start_rules.specs.Reading.{startTable}
 use Rattle.mode1_rules.specs.Kinds.{typeOk}
 use Rattle.mode1_rules.specs.Grammar.{colourOf, fieldsOf}
 use Rattle.mode1_rules.specs.Reading.{stripeTable}
 use Rattle.page_rules.specs.Reading.{endTable, pageOf}
-use Rattle.page_rules.proofs.Look.{pageLook}
+use Rattle.page_looks.proofs.Hangs.{reach}
+use Rattle.page_looks.proofs.Page.{pageLook}
 use Rattle.page_rules.proofs.Samples.{head, page, colours, typed, stripeHead}
 
 -- a start of page of length 17: decided by the ident after the length, whose last octet is `ident`
 pub long-start : ℕ → List ℕ

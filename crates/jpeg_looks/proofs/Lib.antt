@@ -1,0 +1,5 @@
+pub mod Look
+pub mod Leaves
+pub mod Hangs
+pub mod Theorems
+pub mod Examples

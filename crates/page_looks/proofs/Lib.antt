@@ -1,0 +1,11 @@
+pub mod Hangs
+pub mod Fields
+pub mod Looked
+pub mod Segment
+pub mod Start
+pub mod Body
+pub mod Mode1
+pub mod Page
+pub mod Decided
+pub mod Theorems
+pub mod Examples
