@@ -7,9 +7,7 @@ pub mod Small
 pub mod Mode1Records
 pub mod Mode1
 pub mod Mode1Octets
-pub mod Mode1Lent
 pub mod Modes
-pub mod ModesLent
 pub mod Mode1Size
 pub mod Answered
 pub mod Sizes
@@ -17,8 +15,4 @@ pub mod Lands
 pub mod Written
 pub mod Into
 pub mod Exactly
-pub mod Lent
-pub mod Again
-pub mod Trips
 pub mod Theorems
-pub mod Examples

@@ -16,11 +16,11 @@ use Rattle.sheet_rules.specs.Sentences.{Among}
 use Rattle.start_rules.specs.declared.Head.{Head}
 use Rattle.page_rules.specs.Grammar.{bodyIn, StripeIn, Stripe}
 use Rattle.page_rules.proofs.Parts.{at-body}
 use Rattle.write_rules.specs.Cut.{Opened}
 use Rattle.write_rules.specs.Modes.{stripeBy, TrimIn}
 use Rattle.write_rules.proofs.Passed.{sizeIn}
-use Rattle.write_rules.proofs.Mode1Lent as M1
-use Rattle.write_rules.proofs.Mode1Lent.{Lent}
+use Rattle.write_again.proofs.Mode1 as M1
+use Rattle.write_again.proofs.Mode1.{Lent}
 
 -- ---- from its body on
 

@@ -21,16 +21,16 @@ use Rattle.page_rules.specs.Grammar.{Stripes}
 use Rattle.body_rules.specs.Body.{last, next}
 use Rattle.body_rules.proofs.Accepted.{stripes-onward}
 use Rattle.page_rules.proofs.Parts.{closing, page-stripes, page-within}
 use Rattle.write_rules.specs.declared.Tally.{Tally}
 use Rattle.write_rules.specs.Cut.{stripesOf}
 use Rattle.write_rules.specs.Modes.{stripeBy}
 use Rattle.write_rules.specs.Sentences.{sheetMain, pageEnd}
 use Rattle.write_rules.specs.Writing.{begun, stripesBy, headBy, pageBy}
 use Rattle.write_rules.specs.Form.{Trim, UsedMask, UsedImage, Formed}
 use Rattle.write_rules.proofs.Passed.{Passed}
-use Rattle.write_rules.proofs.Mode1Lent.{Lent}
-use Rattle.write_rules.proofs.ModesLent.{stripe-opened, stripe-again}
-use Rattle.write_rules.proofs.Lent.{stripes-lent, stripes-main, stripes-front}
+use Rattle.write_again.proofs.Mode1.{Lent}
+use Rattle.write_again.proofs.Modes.{stripe-opened, stripe-again}
+use Rattle.write_again.proofs.Lent.{stripes-lent, stripes-main, stripes-front}
 
 -- ---- the stripes
 

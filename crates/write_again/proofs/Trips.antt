@@ -21,16 +21,16 @@ use Rattle.page_rules.specs.Grammar.{Page}
 use Rattle.start_rules.proofs.Start.{length-start, only-mode1}
 use Rattle.segment_rules.specs.declared.Rules.{Rules}
 use Rattle.sheet_rules.specs.Record.{sumOf}
 use Rattle.write_rules.proofs.Passed.{sizeIn}
 use Rattle.page_rules.proofs.Parts.{page-accepted}
 use Rattle.page_rules.proofs.Parts.{page-named}
 use Rattle.write_rules.specs.Layer.{layerOctets}
 use Rattle.write_rules.specs.Sentences.{Fine, Low, startSize, pageEnd, sizeOf, sheetMain}
 use Rattle.write_rules.proofs.Sizes.{size-each}
 use Rattle.write_rules.proofs.Placed.{uncoded-is}
 use Rattle.write_rules.proofs.Ready.{Sized}
-use Rattle.write_rules.proofs.Mode1Lent.{Lent}
-use Rattle.write_rules.proofs.Lent.{stripes-lent, stripes-main, stripes-size}
+use Rattle.write_again.proofs.Mode1.{Lent}
+use Rattle.write_again.proofs.Lent.{stripes-lent, stripes-main, stripes-size}
 use Rattle.sheet_rules.proofs.Cut.{sheet-back}
 
 -- the octets of a page

@@ -13,11 +13,11 @@ use Rattle.sheet_rules.proofs.Among.{sum-append}
 use Rattle.start_rules.specs.declared.Head.{Head}
 use Rattle.page_rules.specs.Grammar.{Stripes}
 use Rattle.body_rules.specs.Body.{last, next}
 use Rattle.write_rules.specs.Cut.{stripesOf, Opened}
 use Rattle.write_rules.proofs.Passed.{sizeIn}
 use Rattle.write_rules.proofs.Cut.{Next, cut-first}
-use Rattle.write_rules.proofs.Mode1Lent.{Lent}
-use Rattle.write_rules.proofs.ModesLent.{stripe-lent, second-is, stripe-opened, stripe-size}
+use Rattle.write_again.proofs.Mode1.{Lent}
+use Rattle.write_again.proofs.Modes.{stripe-lent, second-is, stripe-opened, stripe-size}
 
 pub stripes-lent : {hd : Head} {k left at : ℕ} {l : List ℕ} {rs : List Record} → Stripes hd k left at l rs → (r : Record) → Among r rs → Lent hd r
 stripes-lent (last some) r m = absurd (List·Memᴰ·not-nil m)
