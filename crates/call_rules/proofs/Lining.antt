@@ -11,9 +11,9 @@ use Rattle.answers.specs.declared.Answer.the-variants.{Done}
 use Rattle.answers_report.specs.declared.Report.{Report}
 use Rattle.answers_report.specs.Report.{reportOf, report-by-values}
 use Rattle.sheet_rules.specs.declared.Colour.{Colour}
-use Rattle.picture_rules.specs.Planes.{listOf}
-use Rattle.picture_rules.specs.Samples.{widthOf}
-use Rattle.picture_rules.specs.Content.{SeenAs}
+use Rattle.pixel_rules.specs.Planes.{listOf}
+use Rattle.pixel_rules.specs.Samples.{widthOf}
+use Rattle.pixel_rules.specs.Content.{SeenAs}
 use Rattle.picture_rules.specs.Line.{lineOf}
 use Rattle.picture_rules.specs.Sentences.{sceneOf, Gives}
 use Rattle.picture_rules.specs.Demand.{fourAt, seenIn, unseenIn, at, Shown, Reread, AllRead}

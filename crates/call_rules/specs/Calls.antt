@@ -19,7 +19,7 @@ use Rattle.sheet_rules.specs.declared.Colour.{Colour}
 use Rattle.sheet_rules.specs.Judge.{sheetAnswer}
 use Rattle.page_rules.specs.Reading.{readOf, readInto}
 use Rattle.write_rules.specs.Writing.{writeOf, writeInto}
-use Rattle.picture_rules.specs.Planes.{listOf}
+use Rattle.pixel_rules.specs.Planes.{listOf}
 use Rattle.picture_rules.specs.Line.{unseenGrey, lineOf, lineInto}
 use Rattle.picture_rules.specs.BaseLine.{baseOf, baseInto}
 

@@ -1,7 +1,7 @@
 -- Whether a sample is known.
 use mathlib.Core.Bool.{Bool, true, false}
-use Rattle.picture_rules.specs.declared.Sample.{Sample}
-use Rattle.picture_rules.specs.declared.Sample.the-variants.{Known, Unknown}
+use Rattle.pixel_rules.specs.declared.Sample.{Sample}
+use Rattle.pixel_rules.specs.declared.Sample.the-variants.{Known, Unknown}
 
 abbrev pub isKnown : Sample → Bool
 isKnown (Known c) = true

@@ -1,8 +1,8 @@
 // What two samples agree on.
 ghost use mathlib.Core.Path.{_≡_};
-ghost use Rattle.picture_rules.specs.Decide.{sameColour, agree};
+ghost use Rattle.pixel_rules.specs.Decide.{sameColour, agree};
 ghost use Rattle.line_agree.specs.Known.{isKnown};
-use picture_rules::Sample;
+use pixel_rules::Sample;
 use sheet_rules::Colour;
 
 pub fn same_colour(c: Colour, e: Colour) -> bool

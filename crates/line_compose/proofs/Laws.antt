@@ -19,12 +19,12 @@ use Rattle.sheet_rules.specs.declared.Record.{Record}
 use Rattle.sheet_rules.specs.declared.Extent.{Extent}
 use Rattle.sheet_rules.specs.declared.FoundStripe.the-variants.{Has}
 use Rattle.sheet_rules.specs.Record.{recordSize, recordAt}
-use Rattle.picture_rules.specs.declared.MainPos.{MainPos}
+use Rattle.pixel_rules.specs.declared.MainPos.{MainPos}
 use Rattle.sheet_rules.specs.declared.Colour.{Colour}
-use Rattle.picture_rules.specs.declared.Sample.{Sample}
-use Rattle.picture_rules.specs.Planes.{PlaneList, listOf}
-use Rattle.picture_rules.specs.Samples.{Scene, widthOf}
-use Rattle.picture_rules.specs.Decide.{decide}
+use Rattle.pixel_rules.specs.declared.Sample.{Sample}
+use Rattle.pixel_rules.specs.Planes.{PlaneList, listOf}
+use Rattle.pixel_rules.specs.Samples.{Scene, widthOf}
+use Rattle.pixel_rules.specs.Decide.{decide}
 use Rattle.picture_rules.specs.Line.{pixels, linePixels, Ruling, shows, refused, rulingOf, lineAnswer, lineOf, lineHolds, lineInto, Lines}
 use Rattle.picture_rules.proofs.Scenes.{Stage, shows-stage, stage-layers, scene-ratio-some, scene-res}
 use Rattle.picture_rules.proofs.First.{lines-first}

@@ -11,7 +11,7 @@ use lib.ListN.{length}
 use Rattle.answers.specs.declared.Answer.{Answer}
 use Rattle.sheet_rules.specs.declared.Colour.{Colour}
 use Rattle.sheet_rules.specs.declared.Extent.{Extent}
-use Rattle.picture_rules.specs.Samples.{Scene}
+use Rattle.pixel_rules.specs.Samples.{Scene}
 use Rattle.picture_rules.specs.Line.{shows, rulingOf, lineAnswer, lineHolds}
 use Rattle.line_planes.specs.declared.Listing.{Listing}
 use Rattle.line_planes.specs.Listing.{entriesOf}

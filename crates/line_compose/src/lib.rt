@@ -1,5 +1,5 @@
 // A line of pixels: the verdict, then the room, then the line. So a refusal changes nothing that was lent.
-ghost use Rattle.picture_rules.specs.Planes.{listOf};
+ghost use Rattle.pixel_rules.specs.Planes.{listOf};
 ghost use Rattle.picture_rules.specs.Line.{Lines};
 ghost use Rattle.line_verdict.specs.Ruled.{listFrom};
 ghost use Rattle.line_compose.specs.Composing.{sceneFrom, Showable, Composed};
@@ -8,7 +8,7 @@ use line_fetch::ROWS_SIZE;
 use line_planes::Listing;
 use line_planes::PLANE_SIZE;
 use line_verdict::Ruled;
-use picture_rules::MainPos;
+use pixel_rules::MainPos;
 use sheet_rules::Colour;
 use sheet_rules::Extent;
 

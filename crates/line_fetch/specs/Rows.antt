@@ -12,13 +12,13 @@ use mathlib.Core.Bool.{Bool, _&&_, cond}
 use mathlib.Core.List.{List, [], _∷_}
 use lib.ListN.{length, getD}
 use lib.Dec.{eqb, leb, ltb}
-use Rattle.picture_rules.specs.declared.MainPos.{MainPos}
-use Rattle.picture_rules.specs.declared.Sample.{Sample}
-use Rattle.picture_rules.specs.declared.Sample.the-variants.{Known, Unknown}
-use Rattle.picture_rules.specs.declared.Mask.{Mask}
-use Rattle.picture_rules.specs.declared.Mask.the-variants.{Hidden}
-use Rattle.picture_rules.specs.Place.{scale}
-use Rattle.picture_rules.specs.Samples.{bitOf}
+use Rattle.pixel_rules.specs.declared.MainPos.{MainPos}
+use Rattle.pixel_rules.specs.declared.Sample.{Sample}
+use Rattle.pixel_rules.specs.declared.Sample.the-variants.{Known, Unknown}
+use Rattle.pixel_rules.specs.declared.Mask.{Mask}
+use Rattle.pixel_rules.specs.declared.Mask.the-variants.{Hidden}
+use Rattle.pixel_rules.specs.Place.{scale}
+use Rattle.pixel_rules.specs.Samples.{bitOf}
 use Rattle.sheet_rules.specs.Record.{colourAt}
 use Rattle.line_fetch.specs.declared.Row.{Row}
 

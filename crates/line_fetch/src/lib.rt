@@ -3,9 +3,9 @@ ghost use mathlib.Core.Path.{_≡_};
 ghost use Prim.Native.Nat.{_*_, _≤_};
 ghost use lib.ListN.{length};
 ghost use Rattle.line_fetch.specs.Rows.{rowSize, rowAt, rowMask, rowImage, MaskFits, ImageFits};
-use picture_rules::MainPos;
-use picture_rules::Mask;
-use picture_rules::Sample;
+use pixel_rules::MainPos;
+use pixel_rules::Mask;
+use pixel_rules::Sample;
 
 // How many numbers a row has among the rows of a line.
 pub const ROW_SIZE: usize = 6;

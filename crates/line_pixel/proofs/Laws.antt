@@ -7,11 +7,11 @@ use mathlib.Core.Bool.{Bool, true, false}
 use mathlib.Core.List.{List}
 use lib.ListN.{length}
 use borrow.Author.Needs.{needs}
-use Rattle.picture_rules.specs.declared.MainPos.{MainPos}
-use Rattle.picture_rules.specs.declared.Sample.{Sample}
-use Rattle.picture_rules.specs.declared.Mask.{Mask}
-use Rattle.picture_rules.specs.declared.Mask.the-variants.{Zero, One, Hidden}
-use Rattle.picture_rules.specs.Down.{passing, candidates, MayShow}
+use Rattle.pixel_rules.specs.declared.MainPos.{MainPos}
+use Rattle.pixel_rules.specs.declared.Sample.{Sample}
+use Rattle.pixel_rules.specs.declared.Mask.{Mask}
+use Rattle.pixel_rules.specs.declared.Mask.the-variants.{Zero, One, Hidden}
+use Rattle.pixel_rules.specs.Down.{passing, candidates, MayShow}
 use Rattle.line_fetch.specs.declared.Row.{Row}
 use Rattle.line_fetch.specs.Rows.{rowSize, rowAt, rowMask, rowImage, MaskFits, ImageFits}
 use Rattle.line_pixel.specs.Rows.{rowMasks, MasksFit, RowsFit}

@@ -7,13 +7,13 @@ use mathlib.Core.Bool.{Bool, true, false, not, _&&_, cond}
 use mathlib.Core.List.{List}
 use borrow.Author.Needs.{needs}
 use Rattle.laws.proofs.Cases.{cond-both, clash}
-use Rattle.picture_rules.specs.declared.MainPos.{MainPos}
-use Rattle.picture_rules.specs.declared.Sample.{Sample}
-use Rattle.picture_rules.specs.declared.Sample.the-variants.{Known, Unknown}
-use Rattle.picture_rules.specs.Decide.{agree, Stack, decide}
-use Rattle.picture_rules.specs.Down.{Way, Among, candidates, allAgree, down, MayShow}
-use Rattle.picture_rules.proofs.Rule.{agree-assoc}
-use Rattle.picture_rules.proofs.Down.{down-is-decide}
+use Rattle.pixel_rules.specs.declared.MainPos.{MainPos}
+use Rattle.pixel_rules.specs.declared.Sample.{Sample}
+use Rattle.pixel_rules.specs.declared.Sample.the-variants.{Known, Unknown}
+use Rattle.pixel_rules.specs.Decide.{agree, Stack, decide}
+use Rattle.pixel_rules.specs.Down.{Way, Among, candidates, allAgree, down, MayShow}
+use Rattle.pixel_rules.proofs.Rule.{agree-assoc}
+use Rattle.pixel_rules.proofs.Down.{down-is-decide}
 use Rattle.line_agree.specs.Known.{isKnown}
 use Rattle.line_fetch.specs.Rows.{rowAt, rowImage}
 use Rattle.line_pixel.specs.declared.Candidate.{Candidate}

@@ -6,10 +6,10 @@ use mathlib.Core.Path.{_≡_, refl, sym, ap, subst, _∙_}
 use mathlib.Core.Logic.{inl, inr}
 use mathlib.Core.Bool.{Bool, true, false}
 use Rattle.laws.proofs.Cases.{cond-with, clash}
-use Rattle.picture_rules.specs.declared.Mask.{Mask}
-use Rattle.picture_rules.specs.declared.Mask.the-variants.{Zero, One, Hidden}
-use Rattle.picture_rules.specs.Down.{Way, last, more, Among, passing, candidates, MayShow}
-use Rattle.picture_rules.proofs.Down.{candidates-told}
+use Rattle.pixel_rules.specs.declared.Mask.{Mask}
+use Rattle.pixel_rules.specs.declared.Mask.the-variants.{Zero, One, Hidden}
+use Rattle.pixel_rules.specs.Down.{Way, last, more, Among, passing, candidates, MayShow}
+use Rattle.pixel_rules.proofs.Down.{candidates-told}
 use Rattle.line_pixel.specs.declared.Candidate.{Candidate}
 use Rattle.line_pixel.specs.Lead.{wayFrom}
 

@@ -3,8 +3,8 @@
 --   wayFrom        a candidate, and under it, unless it is sure, those of the pairs below
 use Prim.Native.Nat.{ℕ, _-_}
 use mathlib.Core.Bool.{cond}
-use Rattle.picture_rules.specs.declared.Mask.{Mask}
-use Rattle.picture_rules.specs.Down.{Way, last, more, candidates}
+use Rattle.pixel_rules.specs.declared.Mask.{Mask}
+use Rattle.pixel_rules.specs.Down.{Way, last, more, candidates}
 use Rattle.line_pixel.specs.declared.Candidate.{Candidate}
 
 unfoldable pub wayFrom : (ℕ → Mask) → Candidate → Way

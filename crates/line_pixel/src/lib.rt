@@ -1,14 +1,14 @@
 // One pixel of a line, from the highest pair down (02, 2026-06): an image layer's sample is fetched only where it may show.
 ghost use mathlib.Core.Path.{_≡_};
 ghost use Prim.Native.Nat.{_+_, _*_};
-ghost use Rattle.picture_rules.specs.Decide.{decide};
-ghost use Rattle.picture_rules.specs.Down.{candidates, MayShow};
+ghost use Rattle.pixel_rules.specs.Decide.{decide};
+ghost use Rattle.pixel_rules.specs.Down.{candidates, MayShow};
 ghost use Rattle.line_fetch.specs.Rows.{rowAt, rowImage};
 ghost use Rattle.line_pixel.specs.Rows.{rowMasks, rowStack, MasksFit, RowsFit};
 ghost use Rattle.line_pixel.specs.Lead.{wayFrom};
-use picture_rules::MainPos;
-use picture_rules::Mask;
-use picture_rules::Sample;
+use pixel_rules::MainPos;
+use pixel_rules::Mask;
+use pixel_rules::Sample;
 
 // An image layer that may show, by its pair; pair 0 is layer 1. It is sure where its mask is known to be 1, or it has none: nothing below it shows then.
 pub struct Candidate {

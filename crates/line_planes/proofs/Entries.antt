@@ -10,7 +10,7 @@ use lib.Seq.{getD-set-same, getD-set-other}
 use Rattle.octets.specs.Entries.{entriesFrom}
 use Rattle.octets.proofs.Entries.{entries-one-more, entries-same}
 use Rattle.laws.proofs.Says.{says-lt, says-else}
-use Rattle.picture_rules.specs.declared.Plane.{Plane}
+use Rattle.pixel_rules.specs.declared.Plane.{Plane}
 use Rattle.line_planes.specs.declared.Listing.{Listing}
 use Rattle.line_planes.specs.Listing.{noPlanes, gathered, entryOf, entriesOf}
 use Rattle.line_planes.proofs.Laws.{plane-kept, gather-full}

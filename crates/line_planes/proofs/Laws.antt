@@ -12,9 +12,9 @@ use borrow.Author.Needs.{needs}
 use Rattle.octets.specs.Octets.{be32At}
 use Rattle.octets.specs.Entries.{entriesFrom}
 use Rattle.octets.proofs.Entries.{entries-next, entries-none}
-use Rattle.picture_rules.specs.declared.Plane.{Plane}
-use Rattle.picture_rules.specs.Planes.{planeSize, planeAt, planeStart}
-use Rattle.picture_rules.specs.declared.Start.the-variants.{From, Unread}
+use Rattle.pixel_rules.specs.declared.Plane.{Plane}
+use Rattle.pixel_rules.specs.Planes.{planeSize, planeAt, planeStart}
+use Rattle.pixel_rules.specs.declared.Start.the-variants.{From, Unread}
 use Rattle.line_planes.specs.declared.Listing.{Listing}
 use Rattle.line_planes.specs.Listing.{noPlanes, withPlane, gathered, listingOf, entryOf, entriesOf}
 

@@ -12,8 +12,8 @@ use mathlib.Core.List.{List, [], _∷_}
 use lib.ListN.{getD, set, replicate}
 use lib.Dec.{ltb}
 use Rattle.octets.specs.Entries.{entriesFrom}
-use Rattle.picture_rules.specs.declared.Plane.{Plane}
-use Rattle.picture_rules.specs.Planes.{listOf}
+use Rattle.pixel_rules.specs.declared.Plane.{Plane}
+use Rattle.pixel_rules.specs.Planes.{listOf}
 use Rattle.line_planes.specs.declared.Listing.{Listing}
 
 abbrev pub noPlanes : Listing

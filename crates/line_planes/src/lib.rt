@@ -2,10 +2,10 @@
 ghost use mathlib.Core.Path.{_≡_};
 ghost use Prim.Native.Nat.{_*_, _<_, _/_, min};
 ghost use lib.ListN.{length};
-ghost use Rattle.picture_rules.specs.Planes.{planeSize, planeAt, planeStart};
+ghost use Rattle.pixel_rules.specs.Planes.{planeSize, planeAt, planeStart};
 ghost use Rattle.line_planes.specs.Listing.{noPlanes, withPlane, listingOf, entryOf, entriesOf};
-use picture_rules::Plane;
-use picture_rules::Start;
+use pixel_rules::Plane;
+use pixel_rules::Start;
 
 // How many octets an entry from C has: the layer, and four of start.
 pub const PLANE_SIZE: usize = 5;

@@ -10,9 +10,9 @@ use Rattle.octets.specs.Octets.{putAt}
 use Rattle.octets.proofs.Laws.{put-nothing, put-put, put-length}
 use Rattle.octets.proofs.Turns.{sets-put}
 use Rattle.sheet_rules.specs.declared.Colour.{Colour}
-use Rattle.picture_rules.specs.declared.MainPos.{MainPos}
-use Rattle.picture_rules.specs.declared.Sample.{Sample}
-use Rattle.picture_rules.specs.declared.Sample.the-variants.{Known, Unknown}
+use Rattle.pixel_rules.specs.declared.MainPos.{MainPos}
+use Rattle.pixel_rules.specs.declared.Sample.{Sample}
+use Rattle.pixel_rules.specs.declared.Sample.the-variants.{Known, Unknown}
 use Rattle.picture_rules.specs.Line.{fourOf, pixels}
 use Rattle.picture_rules.proofs.Fours.{length-four, length-pixels}
 

@@ -3,12 +3,12 @@ ghost use mathlib.Core.Path.{_≡_};
 ghost use Prim.Native.Nat.{_*_, _+_, _≤_};
 ghost use lib.ListN.{length};
 ghost use Rattle.octets.specs.Octets.{putAt};
-ghost use Rattle.picture_rules.specs.declared.MainPos.{MainPos};
-ghost use Rattle.picture_rules.specs.Decide.{decide};
+ghost use Rattle.pixel_rules.specs.declared.MainPos.{MainPos};
+ghost use Rattle.pixel_rules.specs.Decide.{decide};
 ghost use Rattle.picture_rules.specs.Line.{unseenGrey, fourOf, pixels};
 ghost use Rattle.line_pixel.specs.Rows.{rowStack, RowsFit};
-use picture_rules::MainPos;
-use picture_rules::Sample;
+use pixel_rules::MainPos;
+use pixel_rules::Sample;
 use sheet_rules::Colour;
 
 // Black looks like ink (02, 2026-01).

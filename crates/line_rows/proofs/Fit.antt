@@ -15,14 +15,14 @@ use Rattle.sheet_rules.specs.StripeTable.{layerRecord}
 use Rattle.sheet_rules.specs.declared.Record.{Record}
 use Rattle.sheet_rules.specs.Record.{recordSize}
 use Rattle.sheet_rules.specs.Judge.{coded}
-use Rattle.picture_rules.specs.declared.MainPos.{MainPos}
-use Rattle.picture_rules.specs.declared.Start.{Start}
-use Rattle.picture_rules.specs.declared.Start.the-variants.{From, Unread}
-use Rattle.picture_rules.specs.Place.{ratio, scale, covers, inside}
-use Rattle.picture_rules.specs.Planes.{PlaneList, planeStart}
-use Rattle.picture_rules.specs.Samples.{Scene, recordOf, mainOf, indexOf, maskAt, imageAt, depth, pairsOf}
-use Rattle.picture_rules.specs.Decide.{pairStep, decide, stackAt, pixelAt}
-use Rattle.picture_rules.proofs.Division.{says-covers, says-inside}
+use Rattle.pixel_rules.specs.declared.MainPos.{MainPos}
+use Rattle.pixel_rules.specs.declared.Start.{Start}
+use Rattle.pixel_rules.specs.declared.Start.the-variants.{From, Unread}
+use Rattle.pixel_rules.specs.Place.{ratio, scale, covers, inside}
+use Rattle.pixel_rules.specs.Planes.{PlaneList, planeStart}
+use Rattle.pixel_rules.specs.Samples.{Scene, recordOf, mainOf, indexOf, maskAt, imageAt, depth, pairsOf}
+use Rattle.pixel_rules.specs.Decide.{pairStep, decide, stackAt, pixelAt}
+use Rattle.pixel_rules.proofs.Division.{says-covers, says-inside}
 use Rattle.picture_rules.proofs.Scenes.{Stage, stage-layers, stage-placed, scene-ratio-some}
 use Rattle.picture_rules.proofs.Within.{mask-there, image-there}
 use Rattle.line_fetch.specs.declared.Row.{Row}

@@ -21,15 +21,15 @@ use Rattle.sheet_rules.specs.StripeTable.{layerRecord, mainRes}
 use Rattle.sheet_rules.specs.declared.Extent.{Extent}
 use Rattle.sheet_rules.specs.Record.{recordAt, recordSize}
 use Rattle.sheet_rules.specs.Judge.{coded}
-use Rattle.picture_rules.specs.declared.MainPos.{MainPos}
-use Rattle.picture_rules.specs.declared.SamplePos.{SamplePos}
-use Rattle.picture_rules.specs.declared.Start.{Start}
-use Rattle.picture_rules.specs.declared.Start.the-variants.{From, Unread}
-use Rattle.picture_rules.specs.declared.Plane.{Plane}
-use Rattle.picture_rules.specs.Planes.{planeStart}
-use Rattle.picture_rules.specs.Place.{scale, covers}
-use Rattle.picture_rules.specs.Samples.{depth}
-use Rattle.picture_rules.proofs.Division.{says-covers, scale-within}
+use Rattle.pixel_rules.specs.declared.MainPos.{MainPos}
+use Rattle.pixel_rules.specs.declared.SamplePos.{SamplePos}
+use Rattle.pixel_rules.specs.declared.Start.{Start}
+use Rattle.pixel_rules.specs.declared.Start.the-variants.{From, Unread}
+use Rattle.pixel_rules.specs.declared.Plane.{Plane}
+use Rattle.pixel_rules.specs.Planes.{planeStart}
+use Rattle.pixel_rules.specs.Place.{scale, covers}
+use Rattle.pixel_rules.specs.Samples.{depth}
+use Rattle.pixel_rules.proofs.Division.{says-covers, scale-within}
 use Rattle.line_sample.proofs.Laws.{product-small}
 use Rattle.line_planes.specs.declared.Listing.{Listing}
 use Rattle.line_planes.specs.Listing.{entriesOf}

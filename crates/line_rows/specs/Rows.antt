@@ -20,13 +20,13 @@ use Rattle.sheet_rules.specs.declared.Record.{Record}
 use Rattle.sheet_rules.specs.declared.Extent.{Extent}
 use Rattle.sheet_rules.specs.Record.{recordSize}
 use Rattle.sheet_rules.specs.Judge.{coded}
-use Rattle.picture_rules.specs.declared.MainPos.{MainPos}
-use Rattle.picture_rules.specs.declared.Plane.{Plane}
-use Rattle.picture_rules.specs.declared.Start.{Start}
-use Rattle.picture_rules.specs.declared.Start.the-variants.{From, Unread}
-use Rattle.picture_rules.specs.Place.{ratio, scale, covers}
-use Rattle.picture_rules.specs.Planes.{planeStart}
-use Rattle.picture_rules.specs.Samples.{depth}
+use Rattle.pixel_rules.specs.declared.MainPos.{MainPos}
+use Rattle.pixel_rules.specs.declared.Plane.{Plane}
+use Rattle.pixel_rules.specs.declared.Start.{Start}
+use Rattle.pixel_rules.specs.declared.Start.the-variants.{From, Unread}
+use Rattle.pixel_rules.specs.Place.{ratio, scale, covers}
+use Rattle.pixel_rules.specs.Planes.{planeStart}
+use Rattle.pixel_rules.specs.Samples.{depth}
 use Rattle.line_fetch.specs.declared.Row.{Row}
 use Rattle.line_fetch.specs.Rows.{numbersOf}
 

@@ -8,10 +8,10 @@ use mathlib.Core.Bool.{cond}
 use mathlib.Core.Logic.{_≢_}
 use borrow.Author.Tests.{eq-eqb, ne-eqb}
 use borrow.Author.Needs.{needs}
-use Rattle.picture_rules.specs.declared.MainPos.{MainPos}
-use Rattle.picture_rules.specs.declared.Mask.the-variants.{Zero, One}
-use Rattle.picture_rules.specs.Place.{scale}
-use Rattle.picture_rules.specs.Samples.{bitOf, depth}
+use Rattle.pixel_rules.specs.declared.MainPos.{MainPos}
+use Rattle.pixel_rules.specs.declared.Mask.the-variants.{Zero, One}
+use Rattle.pixel_rules.specs.Place.{scale}
+use Rattle.pixel_rules.specs.Samples.{bitOf, depth}
 
 -- ---- the scaling step: division by a constant, and by k itself
 

@@ -2,14 +2,14 @@
 ghost use mathlib.Core.Path.{_≡_};
 ghost use Prim.Native.Nat.{_+_, _*_, _<_, _≤_};
 ghost use lib.ListN.{length, getD};
-ghost use Rattle.picture_rules.specs.declared.Sample.the-variants.{Known};
-ghost use Rattle.picture_rules.specs.Place.{scale};
-ghost use Rattle.picture_rules.specs.Samples.{bitOf, depth};
+ghost use Rattle.pixel_rules.specs.declared.Sample.the-variants.{Known};
+ghost use Rattle.pixel_rules.specs.Place.{scale};
+ghost use Rattle.pixel_rules.specs.Samples.{bitOf, depth};
 ghost use Rattle.sheet_rules.specs.Record.{colourAt};
-use picture_rules::MainPos;
-use picture_rules::Mask;
-use picture_rules::Sample;
-use picture_rules::SamplePos;
+use pixel_rules::MainPos;
+use pixel_rules::Mask;
+use pixel_rules::Sample;
+use pixel_rules::SamplePos;
 use sheet_rules::Colour;
 
 // The one step from a main place to a sample's. It divides by constants: a division by the ratio would cost more than all else of a pixel.

@@ -12,11 +12,11 @@ use Rattle.octets.specs.Octets.{be32At, Octets}
 use Rattle.octets.proofs.Laws.{length-octets32, be32-there, octets-append, octets-32, be32-same}
 use Rattle.octets.specs.Entries.{joined, Entry}
 use Rattle.octets.proofs.Entries.{joined-whole, joined-rest}
-use Rattle.picture_rules.specs.declared.Plane.{Plane}
-use Rattle.picture_rules.specs.Planes.{planeAt, PlaneList, listOf, wholeList, planeStart, planeSize}
+use Rattle.pixel_rules.specs.declared.Plane.{Plane}
+use Rattle.pixel_rules.specs.Planes.{planeAt, PlaneList, listOf, wholeList, planeStart, planeSize}
 use Rattle.line_planes.specs.declared.Listing.{Listing}
 use Rattle.line_planes.specs.Listing.{noPlanes, gathered, listingOf}
-use Rattle.picture_rules.specs.declared.Start.{Start}
+use Rattle.pixel_rules.specs.declared.Start.{Start}
 use Rattle.line_slice.specs.Entries.{entryOctets, planeOctets, Fitting}
 
 -- ---- the octets of the entries, read back

@@ -7,9 +7,9 @@ use mir.Val.{Val}
 use denote.Memory.{pointee}
 use denote.Slice.{sliceTy}
 use denote.Struct.Laws as LL
-use Rattle.picture_rules.specs.declared.Plane.{Plane}
-use Rattle.picture_rules.proofs.Plane as T
-use Rattle.picture_rules.proofs.Plane.Laws as T′
+use Rattle.pixel_rules.specs.declared.Plane.{Plane}
+use Rattle.pixel_rules.proofs.Plane as T
+use Rattle.pixel_rules.proofs.Plane.Laws as T′
 
 abbrev pub none : Plane
 none = record { layer = 0; start = 0 }

@@ -7,7 +7,7 @@ use Prim.Native.Nat.{ℕ, _<_}
 use mathlib.Core.List.{List, [], _∷_}
 use Rattle.octets.specs.Octets.{octets32}
 use Rattle.octets.specs.Entries.{joined}
-use Rattle.picture_rules.specs.declared.Plane.{Plane}
+use Rattle.pixel_rules.specs.declared.Plane.{Plane}
 
 abbrev pub entryOctets : Plane → List ℕ
 entryOctets p = p .layer ∷ octets32 (p .start)

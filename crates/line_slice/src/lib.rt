@@ -1,11 +1,11 @@
 // The plane list as a lent slice of structs: gathered into parallel numbers by value, which covered code takes, and a lookup in it.
 ghost use mathlib.Core.Path.{_≡_};
-ghost use Rattle.picture_rules.specs.declared.Start.the-variants.{From, Unread};
-ghost use Rattle.picture_rules.specs.Planes.{planeStart};
+ghost use Rattle.pixel_rules.specs.declared.Start.the-variants.{From, Unread};
+ghost use Rattle.pixel_rules.specs.Planes.{planeStart};
 ghost use Rattle.line_planes.specs.Listing.{noPlanes, gathered};
 use line_planes::Listing;
-use picture_rules::Plane;
-use picture_rules::Start;
+use pixel_rules::Plane;
+use pixel_rules::Start;
 
 // The entries of the list, in their order.
 pub fn gather_planes(planes: &[Plane]) -> Listing

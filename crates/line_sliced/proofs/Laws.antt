@@ -7,8 +7,8 @@ use mathlib.Core.List.{List}
 use lib.ListN.{take}
 use Rattle.answers.specs.declared.Answer.{Answer}
 use Rattle.sheet_rules.specs.declared.Colour.{Colour}
-use Rattle.picture_rules.specs.declared.Plane.{Plane}
-use Rattle.picture_rules.specs.Planes.{PlaneList, listOf, wholeList}
+use Rattle.pixel_rules.specs.declared.Plane.{Plane}
+use Rattle.pixel_rules.specs.Planes.{PlaneList, listOf, wholeList}
 use Rattle.picture_rules.specs.Line.{Lines}
 use Rattle.picture_rules.proofs.First.{lines-first}
 use Rattle.picture_rules.proofs.Demand3.{lines-once}

@@ -1,8 +1,8 @@
 // A line of pixels of a picture whose plane list is a lent slice of structs.
-ghost use Rattle.picture_rules.specs.Planes.{wholeList};
+ghost use Rattle.pixel_rules.specs.Planes.{wholeList};
 ghost use Rattle.picture_rules.specs.Line.{Lines};
 use answers::Answer;
-use picture_rules::Plane;
+use pixel_rules::Plane;
 use sheet_rules::Colour;
 
 pub fn line_of_planes(

@@ -21,11 +21,11 @@ use Rattle.sheet_rules.specs.declared.Verdict.{Verdict}
 use Rattle.sheet_rules.specs.Record.{recordSize, recordAt, records}
 use Rattle.sheet_rules.specs.Judge.{coded, judgeOf, answerOf}
 use Rattle.sheet_rules.specs.StripeTable.{findStripe, layerRecord}
-use Rattle.picture_rules.specs.declared.Plane.{Plane}
+use Rattle.pixel_rules.specs.declared.Plane.{Plane}
 use Rattle.picture_rules.specs.declared.ListVerdict.{ListVerdict}
 use Rattle.picture_rules.specs.declared.ListVerdict.the-variants.{Fine}
-use Rattle.picture_rules.specs.Planes.{PlaneList}
-use Rattle.picture_rules.specs.Samples.{depth, planeSpan}
+use Rattle.pixel_rules.specs.Planes.{PlaneList}
+use Rattle.pixel_rules.specs.Samples.{depth, planeSpan}
 use Rattle.picture_rules.specs.Line.{planeOk, planesJudged, planeRuling, sceneRuling, stripeRuling, sheetRuling, rulingOf}
 use Rattle.line_planes.specs.declared.Listing.{Listing}
 use Rattle.line_sample.proofs.Laws.{product-small}

@@ -9,8 +9,8 @@ use mathlib.Core.Bool.{Bool}
 use mathlib.Core.List.{List, []}
 use Rattle.sheet_rules.specs.declared.Extent.{Extent}
 use Rattle.sheet_rules.specs.declared.FoundStripe.the-variants.{Has}
-use Rattle.picture_rules.specs.Planes.{PlaneList}
-use Rattle.picture_rules.specs.Samples.{Scene}
+use Rattle.pixel_rules.specs.Planes.{PlaneList}
+use Rattle.pixel_rules.specs.Samples.{Scene}
 use Rattle.picture_rules.specs.Line.{Ruling, shows, refused, stripeRuling}
 use Rattle.line_planes.specs.declared.Listing.{Listing}
 use Rattle.line_planes.specs.Listing.{entriesOf}

@@ -18,15 +18,15 @@ use Rattle.sheet_rules.specs.declared.Verdict.{Verdict}
 use Rattle.sheet_rules.specs.declared.Verdict.the-variants.{Good}
 use Rattle.sheet_rules.specs.Judge.{judgeOf}
 use Rattle.sheet_rules.specs.StripeTable.{findStripe}
-use Rattle.picture_rules.specs.declared.MainPos.{MainPos}
-use Rattle.picture_rules.specs.declared.Plane.{Plane}
+use Rattle.pixel_rules.specs.declared.MainPos.{MainPos}
+use Rattle.pixel_rules.specs.declared.Plane.{Plane}
 use Rattle.picture_rules.specs.declared.ListVerdict.{ListVerdict}
 use Rattle.picture_rules.specs.declared.ListVerdict.the-variants.{Fine}
-use Rattle.picture_rules.specs.declared.Sample.{Sample}
-use Rattle.picture_rules.specs.declared.Sample.the-variants.{Known, Unknown}
-use Rattle.picture_rules.specs.Planes.{PlaneList}
-use Rattle.picture_rules.specs.Samples.{Scene, widthOf}
-use Rattle.picture_rules.specs.Decide.{pixelAt}
+use Rattle.pixel_rules.specs.declared.Sample.{Sample}
+use Rattle.pixel_rules.specs.declared.Sample.the-variants.{Known, Unknown}
+use Rattle.pixel_rules.specs.Planes.{PlaneList}
+use Rattle.pixel_rules.specs.Samples.{Scene, widthOf}
+use Rattle.pixel_rules.specs.Decide.{pixelAt}
 use Rattle.picture_rules.specs.Line.{fourOf, pixels, linePixels, planeOk, planesJudged, planeRuling, sceneRuling, stripeRuling, sheetRuling, rulingOf, Ruling, shows, refused, lineAnswer, lineOf, lineHolds, lineInto, Lines}
 use Rattle.picture_rules.specs.BaseLine.{baseFour, basePixels, basePlaneOk, basePlanesJudged, basePlaneRuling, baseStripeRuling, baseSheetRuling, baseRuling, baseAnswer, baseHolds, baseOf, baseInto, BaseLines}
 

@@ -16,18 +16,18 @@ use Rattle.octets.proofs.Laws.{put-rest, put-length}
 use Rattle.answers.specs.declared.Answer.{Answer}
 use Rattle.answers.specs.declared.Answer.the-variants.{Done}
 use Rattle.sheet_rules.specs.declared.Colour.{Colour}
-use Rattle.picture_rules.specs.declared.Sample.{Sample}
-use Rattle.picture_rules.specs.declared.Sample.the-variants.{Known, Unknown}
-use Rattle.picture_rules.specs.Planes.{PlaneList}
-use Rattle.picture_rules.specs.Samples.{Scene, widthOf}
-use Rattle.picture_rules.specs.Content.{SeenAs}
-use Rattle.picture_rules.specs.Decide.{pixelAt}
+use Rattle.pixel_rules.specs.declared.Sample.{Sample}
+use Rattle.pixel_rules.specs.declared.Sample.the-variants.{Known, Unknown}
+use Rattle.pixel_rules.specs.Planes.{PlaneList}
+use Rattle.pixel_rules.specs.Samples.{Scene, widthOf}
+use Rattle.pixel_rules.specs.Content.{SeenAs}
+use Rattle.pixel_rules.specs.Decide.{pixelAt}
 use Rattle.picture_rules.specs.Line.{unseenGrey, fourOf, linePixels, Ruling, shows, refused, rulingOf, lineAnswer, lineOf, lineHolds, lineInto, Lines}
 use Rattle.picture_rules.specs.Demand.{fourAt, seenIn, unseenIn, at, Tells, Shown}
 use Rattle.picture_rules.specs.Sentences.{HasLine, sceneOf, AllFine}
 use Rattle.sheet_rules.specs.Sentences.{Accepted}
 use Rattle.picture_rules.proofs.Ruled.{ruling-cases}
-use Rattle.picture_rules.proofs.Seen.{seen-known-as, unseen-unknown}
+use Rattle.pixel_rules.proofs.Seen.{seen-known-as, unseen-unknown}
 use Rattle.picture_rules.proofs.Fours.{four-known, known-four, four-unknown, unknown-four, length-line, put-four}
 
 -- ---- the octets of a decided pixel

@@ -16,8 +16,8 @@ use Rattle.sheet_rules.specs.Record.{recordSize, records, rest}
 use Rattle.sheet_rules.specs.Sentences.{Accepted, BadSheetAt}
 use Rattle.sheet_rules.proofs.Judged.{fault-once, fault-no-sheet}
 use Rattle.sheet_rules.proofs.Theorems.{sheet-refused, refused-few}
-use Rattle.picture_rules.specs.Planes.{PlaneList}
-use Rattle.picture_rules.specs.Samples.{Scene, widthOf}
+use Rattle.pixel_rules.specs.Planes.{PlaneList}
+use Rattle.pixel_rules.specs.Samples.{Scene, widthOf}
 use Rattle.picture_rules.specs.Line.{lineAnswer, lineOf}
 use Rattle.picture_rules.specs.Sentences.{sceneOf, PlaneAt, Gives, no-sheet, no-line, no-plane, no-room, lined}
 use Rattle.picture_rules.proofs.Ruled.{plane-once, plane-none, ruling-cases}

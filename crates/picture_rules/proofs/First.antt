@@ -23,11 +23,11 @@ use Rattle.sheet_rules.specs.Judge.{judgeOf}
 use Rattle.sheet_rules.specs.StripeTable.{extentOf, findStripe, layerRecord}
 use Rattle.sheet_rules.proofs.Theorems.{sheet-accepted}
 use Rattle.sheet_rules.proofs.Table.{sheet-table, stripe-found, stripe-missing}
-use Rattle.picture_rules.specs.declared.Plane.{Plane}
+use Rattle.pixel_rules.specs.declared.Plane.{Plane}
 use Rattle.picture_rules.specs.declared.ListVerdict.{ListVerdict}
 use Rattle.picture_rules.specs.declared.ListVerdict.the-variants.{Fine}
-use Rattle.picture_rules.specs.Planes.{PlaneList}
-use Rattle.picture_rules.specs.Samples.{Scene}
+use Rattle.pixel_rules.specs.Planes.{PlaneList}
+use Rattle.pixel_rules.specs.Samples.{Scene}
 use Rattle.picture_rules.specs.Line.{planeOk, planesJudged, shows, planeRuling, sceneRuling, stripeRuling, sheetRuling, rulingOf, lineAnswer, lineOf, lineHolds, lineInto, Lines}
 
 -- ---- the entries of one stripe, judged

@@ -10,12 +10,12 @@ use lib.Seq.{take-all, take-append-le, drop-append-le, drop-at}
 use Rattle.laws.proofs.Cases.{clash}
 use Rattle.laws.proofs.Says.{says-lt, says-else}
 use Rattle.octets.specs.Octets.{putAt}
-use Rattle.picture_rules.specs.declared.MainPos.{MainPos}
+use Rattle.pixel_rules.specs.declared.MainPos.{MainPos}
 use Rattle.sheet_rules.specs.declared.Colour.{Colour}
-use Rattle.picture_rules.specs.declared.Sample.{Sample}
-use Rattle.picture_rules.specs.declared.Sample.the-variants.{Known, Unknown}
-use Rattle.picture_rules.specs.Samples.{Scene, widthOf}
-use Rattle.picture_rules.specs.Decide.{pixelAt}
+use Rattle.pixel_rules.specs.declared.Sample.{Sample}
+use Rattle.pixel_rules.specs.declared.Sample.the-variants.{Known, Unknown}
+use Rattle.pixel_rules.specs.Samples.{Scene, widthOf}
+use Rattle.pixel_rules.specs.Decide.{pixelAt}
 use Rattle.picture_rules.specs.Line.{fourOf, pixels, linePixels}
 use Rattle.picture_rules.specs.Demand.{fourAt, seenIn, unseenIn, at}
 

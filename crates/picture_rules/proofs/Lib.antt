@@ -1,14 +1,8 @@
-pub mod Division
-pub mod Down
 pub mod Scenes
-pub mod Places
-pub mod Rule
-pub mod Seen
 pub mod Fours
 pub mod Ruled
 pub mod Demand3
 pub mod Exactly
-pub mod Highest
 pub mod Lists
 pub mod Starts
 pub mod Within

@@ -6,7 +6,7 @@ use mathlib.Core.List.{List}
 use lib.ListN.{length}
 use Rattle.octets.proofs.Entries.{length-entries, entry-of}
 use Rattle.laws.proofs.Says.{Says, says-eq, says-not}
-use Rattle.picture_rules.specs.Planes.{planeSize, planeAt, listOf}
+use Rattle.pixel_rules.specs.Planes.{planeSize, planeAt, listOf}
 use Rattle.picture_rules.specs.Sentences.{noPlane, plane}
 
 -- five octets an entry; what is left over is a part

@@ -12,25 +12,25 @@ use Rattle.laws.proofs.Cases.{cond-with, cond-both, clash}
 use Rattle.laws.proofs.Says.{says-and, says-true, says-not, says-eq}
 use Rattle.answers.specs.declared.Answer.the-variants.{Done}
 use Rattle.sheet_rules.specs.Judge.{coded}
-use Rattle.picture_rules.specs.declared.MainPos.{MainPos}
+use Rattle.pixel_rules.specs.declared.MainPos.{MainPos}
 use Rattle.sheet_rules.specs.declared.Colour.{Colour}
-use Rattle.picture_rules.specs.declared.Plane.{Plane}
-use Rattle.picture_rules.specs.declared.Sample.{Sample}
-use Rattle.picture_rules.specs.declared.Sample.the-variants.{Known, Unknown}
-use Rattle.picture_rules.specs.declared.Mask.{Mask}
-use Rattle.picture_rules.specs.declared.Mask.the-variants.{Zero, One, Hidden}
-use Rattle.picture_rules.specs.Place.{inside}
-use Rattle.picture_rules.specs.declared.Start.{Start}
-use Rattle.picture_rules.specs.declared.Start.the-variants.{From, Unread}
-use Rattle.picture_rules.specs.Planes.{PlaneList, planeStart}
-use Rattle.picture_rules.specs.Samples.{Scene, recordOf, mainOf, widthOf, indexOf, bitOf, virtual, maskRead, imageRead, maskAt, imageAt, planeSpan, pairsOf}
-use Rattle.picture_rules.specs.Decide.{sameColour, agree, pairStep, Stack, decide, stackAt, pixelAt}
+use Rattle.pixel_rules.specs.declared.Plane.{Plane}
+use Rattle.pixel_rules.specs.declared.Sample.{Sample}
+use Rattle.pixel_rules.specs.declared.Sample.the-variants.{Known, Unknown}
+use Rattle.pixel_rules.specs.declared.Mask.{Mask}
+use Rattle.pixel_rules.specs.declared.Mask.the-variants.{Zero, One, Hidden}
+use Rattle.pixel_rules.specs.Place.{inside}
+use Rattle.pixel_rules.specs.declared.Start.{Start}
+use Rattle.pixel_rules.specs.declared.Start.the-variants.{From, Unread}
+use Rattle.pixel_rules.specs.Planes.{PlaneList, planeStart}
+use Rattle.pixel_rules.specs.Samples.{Scene, recordOf, mainOf, widthOf, indexOf, bitOf, virtual, maskRead, imageRead, maskAt, imageAt, planeSpan, pairsOf}
+use Rattle.pixel_rules.specs.Decide.{sameColour, agree, pairStep, Stack, decide, stackAt, pixelAt}
 use Rattle.picture_rules.specs.Line.{fourOf, lineOf, lineInto}
 use Rattle.picture_rules.specs.Sentences.{sceneOf, AllFine}
 use Rattle.picture_rules.specs.Demand.{fourAt, at, Reread, AllRead}
-use Rattle.picture_rules.proofs.Division.{mask-within, image-within}
+use Rattle.pixel_rules.proofs.Division.{mask-within, image-within}
 use Rattle.picture_rules.proofs.Scenes.{Stage, shows-stage, stage-layers, stage-placed}
-use Rattle.picture_rules.proofs.Rule.{same-true, same-self}
+use Rattle.pixel_rules.proofs.Rule.{same-true, same-self}
 use Rattle.picture_rules.proofs.Fours.{known-four}
 use Rattle.picture_rules.proofs.Starts.{start-among, start-some, start-entry}
 use Rattle.picture_rules.proofs.Demand3.{done-line, done-four}

@@ -21,11 +21,11 @@ use Rattle.sheet_rules.specs.Sentences.{Coded, BadSheetAt}
 use Rattle.sheet_rules.specs.StripeTable.{extentOf, findStripe}
 use Rattle.sheet_rules.proofs.Theorems.{sheet-accepted, sheet-refused}
 use Rattle.sheet_rules.proofs.Table.{stripe-found, stripe-missing}
-use Rattle.picture_rules.specs.declared.Plane.{Plane}
+use Rattle.pixel_rules.specs.declared.Plane.{Plane}
 use Rattle.picture_rules.specs.declared.ListVerdict.{ListVerdict}
 use Rattle.picture_rules.specs.declared.ListVerdict.the-variants.{Fine}
-use Rattle.picture_rules.specs.Planes.{PlaneList}
-use Rattle.picture_rules.specs.Samples.{Scene, recordOf, planeSpan}
+use Rattle.pixel_rules.specs.Planes.{PlaneList}
+use Rattle.pixel_rules.specs.Samples.{Scene, recordOf, planeSpan}
 use Rattle.picture_rules.specs.Line.{planeOk, planesJudged, Ruling, shows, refused, planeRuling, sceneRuling, stripeRuling, sheetRuling, rulingOf}
 use Rattle.picture_rules.specs.Sentences.{HasLine, sceneOf, plane, FineEntry, AllFine, PlaneAt}
 use Rattle.sheet_rules.specs.Sentences.{Accepted}

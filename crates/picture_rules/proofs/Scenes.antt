@@ -26,11 +26,11 @@ use Rattle.sheet_rules.proofs.Cut.{records-count, record-nth}
 use Rattle.sheet_rules.proofs.Extents.{LayerCount}
 use Rattle.sheet_rules.proofs.Theorems.{sheet-accepted}
 use Rattle.sheet_rules.proofs.Table.{sheet-table, stripe-found, stripe-missing, layer-found}
-use Rattle.picture_rules.specs.Place.{ratio}
+use Rattle.pixel_rules.specs.Place.{ratio}
 use Rattle.picture_rules.specs.declared.ListVerdict.{ListVerdict}
 use Rattle.picture_rules.specs.declared.ListVerdict.the-variants.{Fine}
-use Rattle.picture_rules.specs.Planes.{PlaneList}
-use Rattle.picture_rules.specs.Samples.{Scene, recordOf, mainOf, widthOf}
+use Rattle.pixel_rules.specs.Planes.{PlaneList}
+use Rattle.pixel_rules.specs.Samples.{Scene, recordOf, mainOf, widthOf}
 use Rattle.picture_rules.specs.Line.{planesJudged, shows, planeRuling, sceneRuling, stripeRuling, sheetRuling, rulingOf}
 
 -- the sheet is accepted, it has stripe k with line y, and the plane list is judged fine: the scene is of these octets, entries and samples

@@ -10,11 +10,11 @@ use lib.ListN.{length}
 use lib.Dec.{eqb}
 use borrow.Author.Tests.{eqb-true, eq-eqb, ne-eqb}
 use Rattle.laws.proofs.Cases.{cond-with, clash}
-use Rattle.picture_rules.specs.declared.Plane.{Plane}
-use Rattle.picture_rules.specs.declared.Start.{Start}
-use Rattle.picture_rules.specs.declared.Start.the-variants.{From}
-use Rattle.picture_rules.specs.Planes.{PlaneList, planeStart}
-use Rattle.picture_rules.specs.Samples.{Scene}
+use Rattle.pixel_rules.specs.declared.Plane.{Plane}
+use Rattle.pixel_rules.specs.declared.Start.{Start}
+use Rattle.pixel_rules.specs.declared.Start.the-variants.{From}
+use Rattle.pixel_rules.specs.Planes.{PlaneList, planeStart}
+use Rattle.pixel_rules.specs.Samples.{Scene}
 use Rattle.picture_rules.specs.Sentences.{plane, FineEntry, AllFine}
 
 -- ---- an entry of the layer

@@ -11,16 +11,16 @@ use lib.ListN.{length}
 use Rattle.laws.proofs.Cases.{clash}
 use Rattle.sheet_rules.specs.declared.Record.{Record}
 use Rattle.sheet_rules.specs.Sentences.{Coded}
-use Rattle.picture_rules.specs.declared.MainPos.{MainPos}
-use Rattle.picture_rules.specs.declared.Plane.{Plane}
+use Rattle.pixel_rules.specs.declared.MainPos.{MainPos}
+use Rattle.pixel_rules.specs.declared.Plane.{Plane}
 use Rattle.picture_rules.specs.declared.ListVerdict.the-variants.{Fine}
-use Rattle.picture_rules.specs.declared.Start.the-variants.{From}
-use Rattle.picture_rules.specs.Place.{inside, alongOf, downOf}
-use Rattle.picture_rules.specs.Planes.{PlaneList, planeStart}
-use Rattle.picture_rules.specs.Samples.{Scene, recordOf, mainOf, indexOf, planeSpan}
+use Rattle.pixel_rules.specs.declared.Start.the-variants.{From}
+use Rattle.pixel_rules.specs.Place.{inside, alongOf, downOf}
+use Rattle.pixel_rules.specs.Planes.{PlaneList, planeStart}
+use Rattle.pixel_rules.specs.Samples.{Scene, recordOf, mainOf, indexOf, planeSpan}
 use Rattle.picture_rules.specs.Line.{planesJudged}
 use Rattle.picture_rules.specs.Sentences.{plane, layerBefore, AllFine}
-use Rattle.picture_rules.proofs.Division.{mask-within, image-within}
+use Rattle.pixel_rules.proofs.Division.{mask-within, image-within}
 use Rattle.picture_rules.proofs.Scenes.{Stage, stage-placed}
 use Rattle.picture_rules.proofs.Ruled.{planes-answers}
 use Rattle.picture_rules.proofs.Starts.{start-among}

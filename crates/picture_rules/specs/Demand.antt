@@ -14,12 +14,12 @@ use mathlib.Core.Logic.{_↔_, _⊎_}
 use mathlib.Core.List.{List, [], _∷_, List·Memᴰ}
 use lib.ListN.{length, getD, take, drop}
 use Rattle.sheet_rules.specs.Sentences.{Coded}
-use Rattle.picture_rules.specs.declared.MainPos.{MainPos}
+use Rattle.pixel_rules.specs.declared.MainPos.{MainPos}
 use Rattle.sheet_rules.specs.declared.Colour.{Colour}
-use Rattle.picture_rules.specs.declared.Plane.{Plane}
-use Rattle.picture_rules.specs.Planes.{PlaneList}
-use Rattle.picture_rules.specs.Samples.{Scene, recordOf, widthOf, planeSpan}
-use Rattle.picture_rules.specs.Content.{SeenAs}
+use Rattle.pixel_rules.specs.declared.Plane.{Plane}
+use Rattle.pixel_rules.specs.Planes.{PlaneList}
+use Rattle.pixel_rules.specs.Samples.{Scene, recordOf, widthOf, planeSpan}
+use Rattle.pixel_rules.specs.Content.{SeenAs}
 use Rattle.picture_rules.specs.Sentences.{HasLine, sceneOf, AllFine}
 use Rattle.sheet_rules.specs.Sentences.{Accepted}
 

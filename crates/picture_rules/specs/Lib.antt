@@ -1,10 +1,4 @@
-pub mod Place
-pub mod Planes
-pub mod Samples
 pub mod Sentences
-pub mod Content
 pub mod Demand
-pub mod Down
-pub mod Decide
 pub mod Line
 pub mod BaseLine

@@ -19,9 +19,9 @@ use Rattle.answers.specs.declared.Answer.the-variants.{Done, NoRoom, BadSheet, 
 use Rattle.sheet_rules.specs.Record.{records}
 use Rattle.sheet_rules.specs.Sentences.{Coded, stripeCount, Accepted, BadSheetAt}
 use Rattle.sheet_rules.specs.StripeTable.{extentOf}
-use Rattle.picture_rules.specs.declared.Plane.{Plane}
-use Rattle.picture_rules.specs.Planes.{PlaneList}
-use Rattle.picture_rules.specs.Samples.{Scene, recordOf, widthOf, planeSpan}
+use Rattle.pixel_rules.specs.declared.Plane.{Plane}
+use Rattle.pixel_rules.specs.Planes.{PlaneList}
+use Rattle.pixel_rules.specs.Samples.{Scene, recordOf, widthOf, planeSpan}
 
 pub record HasLine (s : List ℕ) (k y : ℕ) : Type 0 where
   pub stripe : k < stripeCount (records s)

@@ -18,9 +18,9 @@ use Rattle.sheet_rules.specs.Judge.{keeps, after, after1, after2, after3, stepO
 use Rattle.sheet_rules.specs.StripeTable.{findStripe, layerRecord}
 use Rattle.sheet_rules.proofs.Make.{made}
 use Rattle.sheet_rules.specs.declared.Colour.{Colour}
-use Rattle.picture_rules.specs.Planes.{planeAt, listOf}
-use Rattle.picture_rules.specs.Samples.{maskAt, imageAt}
-use Rattle.picture_rules.specs.Place.{scale}
+use Rattle.pixel_rules.specs.Planes.{planeAt, listOf}
+use Rattle.pixel_rules.specs.Samples.{maskAt, imageAt}
+use Rattle.pixel_rules.specs.Place.{scale}
 use Rattle.picture_rules.specs.Line.{lineOf, lineInto}
 use Rattle.picture_rules.proofs.Demand3.{line-length, line-anywhere}
 use Rattle.picture_rules.specs.Demand.{fourAt, seenIn}

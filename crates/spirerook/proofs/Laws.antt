@@ -11,7 +11,7 @@ use Rattle.sheet_rules.specs.declared.Colour.{Colour}
 use Rattle.sheet_rules.specs.Judge.{sheetAnswer}
 use Rattle.page_rules.specs.Reading.{Reads}
 use Rattle.write_rules.specs.Writing.{Writes}
-use Rattle.picture_rules.specs.Planes.{listOf}
+use Rattle.pixel_rules.specs.Planes.{listOf}
 use Rattle.picture_rules.specs.Line.{unseenGrey, Lines}
 use Rattle.data_rules.specs.declared.Found.{Found}
 use Rattle.data_rules.specs.Data.{foundOf}

@@ -2,7 +2,7 @@ use Rattle.line_pixel.proofs.Laws.{leading, fits-mask, lead-sure, lead-
 use Prim.Native.Nat.{_≤_}
 use native.Mathlib.Omega.{arith}
 use mathlib.Core.Path.{_≡_, refl}
-use Rattle.picture_rules.specs.Down.{candidates}
+use Rattle.pixel_rules.specs.Down.{candidates}
 use Rattle.line_pixel.specs.Rows.{rowMasks}
 use Rattle.line_pixel.proofs.candidate_from.Statement.{statement}
 use Rattle.line_pixel.proofs.candidate_from.Tie as tie

@@ -1,6 +1,6 @@
 use Prim.Native.Nat.{_-_}
-use Rattle.picture_rules.specs.declared.MainPos.{MainPos}
-use Rattle.picture_rules.specs.Decide.{decide}
+use Rattle.pixel_rules.specs.declared.MainPos.{MainPos}
+use Rattle.pixel_rules.specs.Decide.{decide}
 use Rattle.line_pixel.specs.Rows.{rowStack}
 use Rattle.line_put.proofs.Laws.{Painting, painting}
 use Rattle.line_put.proofs.put_pixels.Statement.{statement}

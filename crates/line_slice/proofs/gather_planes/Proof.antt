@@ -46,9 +46,9 @@ use denote.Triple.Spec.{Meets, tripleOf}
 use denote.Triple.Table.{entered, cited}
 use denote.Triple.Walked.{says, Stays, stay-none-slice, walkOf, goes-none-slice, Walks, ends-at, walked, walk-meets}
 use denote.Exit.{yes}
-use Rattle.picture_rules.specs.declared.Plane.{Plane}
-use Rattle.picture_rules.proofs.Plane as T
-use Rattle.picture_rules.proofs.Plane.Laws as T′
+use Rattle.pixel_rules.specs.declared.Plane.{Plane}
+use Rattle.pixel_rules.proofs.Plane as T
+use Rattle.pixel_rules.proofs.Plane.Laws as T′
 use Rattle.line_planes.specs.declared.Listing.{Listing}
 use Rattle.line_planes.specs.Listing.{noPlanes, withPlane, gathered}
 use Rattle.line_planes.proofs.Listing as S

@@ -49,14 +49,14 @@ use denote.Triple.Spec.{Meets, tripleOf}
 use denote.Triple.Table.{entered, cited}
 use denote.Triple.Walked.{says, Stays, stay-none, stay-none-slice, walkOf, goes-none, goes-none-slice, Walks, ends-at, walked, walk-meets}
 use denote.Exit.{yes}
-use Rattle.picture_rules.specs.declared.Plane.{Plane}
-use Rattle.picture_rules.specs.Planes.{planeStart}
-use Rattle.picture_rules.proofs.Plane as T
-use Rattle.picture_rules.proofs.Plane.Laws as T′
-use Rattle.picture_rules.specs.declared.Start.{Start}
-use Rattle.picture_rules.specs.declared.Start.the-variants.{From, Unread}
-use Rattle.picture_rules.proofs.Start as E
-use Rattle.picture_rules.proofs.Start.Laws as E′
+use Rattle.pixel_rules.specs.declared.Plane.{Plane}
+use Rattle.pixel_rules.specs.Planes.{planeStart}
+use Rattle.pixel_rules.proofs.Plane as T
+use Rattle.pixel_rules.proofs.Plane.Laws as T′
+use Rattle.pixel_rules.specs.declared.Start.{Start}
+use Rattle.pixel_rules.specs.declared.Start.the-variants.{From, Unread}
+use Rattle.pixel_rules.proofs.Start as E
+use Rattle.pixel_rules.proofs.Start.Laws as E′
 use Rattle.line_slice.proofs.start_in as start-in
 use Rattle.line_slice.proofs.start_in.Symbol as start-in-def
 use Rattle.line_slice.proofs.start_in.Symbol.{name as #line-slice·start-in}

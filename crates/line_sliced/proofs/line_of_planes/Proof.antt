@@ -47,8 +47,8 @@ use Rattle.answers.proofs.Answer.Laws as E′
 use Rattle.sheet_rules.specs.declared.Colour.{Colour}
 use Rattle.sheet_rules.proofs.Colour as U
 use Rattle.sheet_rules.proofs.Colour.Laws as U′
-use Rattle.picture_rules.specs.declared.Plane.{Plane}
-use Rattle.picture_rules.proofs.Plane as T
+use Rattle.pixel_rules.specs.declared.Plane.{Plane}
+use Rattle.pixel_rules.proofs.Plane as T
 use Rattle.line_planes.specs.declared.Listing.{Listing}
 use Rattle.line_planes.specs.Listing.{noPlanes, gathered}
 use Rattle.line_planes.proofs.Listing as S
@@ -57,7 +57,7 @@ use Rattle.line_slice.proofs.gather_planes as gather
 use Rattle.line_slice.proofs.gather_planes.Symbol as gather-def
 use Rattle.line_slice.proofs.gather_planes.Symbol.{name as #line-slice·gather-planes}
 use Rattle.line_slice.proofs.gather_planes.Met as gather-thm
-use Rattle.picture_rules.specs.Planes.{wholeList}
+use Rattle.pixel_rules.specs.Planes.{wholeList}
 use Rattle.picture_rules.specs.Line.{Lines}
 use Rattle.line_verdict.specs.Ruled.{listFrom}
 use Rattle.line_sliced.proofs.Laws.{planes-lined}

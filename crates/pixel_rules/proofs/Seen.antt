@@ -9,17 +9,17 @@ use mathlib.Core.Bool.{Bool, true, false, cond}
 use lib.Dec.{eqb, lit<}
 use borrow.Author.Tests.{eq-eqb, ne-eqb}
 use Rattle.laws.proofs.Cases.{clash}
-use Rattle.picture_rules.specs.declared.MainPos.{MainPos}
+use Rattle.pixel_rules.specs.declared.MainPos.{MainPos}
 use Rattle.sheet_rules.specs.declared.Colour.{Colour}
-use Rattle.picture_rules.specs.declared.Sample.{Sample}
-use Rattle.picture_rules.specs.declared.Sample.the-variants.{Known, Unknown}
-use Rattle.picture_rules.specs.declared.Mask.{Mask}
-use Rattle.picture_rules.specs.declared.Mask.the-variants.{Zero, One, Hidden}
-use Rattle.picture_rules.specs.Place.{alongOf, downOf}
-use Rattle.picture_rules.specs.Samples.{Scene, recordOf, mainOf, maskAt, imageAt, pairsOf}
-use Rattle.picture_rules.specs.Decide.{sameColour, agree, pairStep, Stack, decide, pixelAt}
-use Rattle.picture_rules.specs.Content.{Content, IsColour, Within, maskWith, imageWith, colourFrom, colourUnder, SeenAs}
-use Rattle.picture_rules.proofs.Rule.{same-true, same-false}
+use Rattle.pixel_rules.specs.declared.Sample.{Sample}
+use Rattle.pixel_rules.specs.declared.Sample.the-variants.{Known, Unknown}
+use Rattle.pixel_rules.specs.declared.Mask.{Mask}
+use Rattle.pixel_rules.specs.declared.Mask.the-variants.{Zero, One, Hidden}
+use Rattle.pixel_rules.specs.Place.{alongOf, downOf}
+use Rattle.pixel_rules.specs.Samples.{Scene, recordOf, mainOf, maskAt, imageAt, pairsOf}
+use Rattle.pixel_rules.specs.Decide.{sameColour, agree, pairStep, Stack, decide, pixelAt}
+use Rattle.pixel_rules.specs.Content.{Content, IsColour, Within, maskWith, imageWith, colourFrom, colourUnder, SeenAs}
+use Rattle.pixel_rules.proofs.Rule.{same-true, same-false}
 
 -- every content whose colours are of this kind gives the colour
 abbrev pub SeenAsIn : (ℕ → Colour → Type 0) → Scene → MainPos → MainPos → Colour → Type 0

@@ -7,10 +7,10 @@ use mathlib.Core.Logic.{_⊎_, inl, inr, ⊎-elim}
 use mathlib.Core.Bool.{Bool, true, false}
 use Rattle.laws.proofs.Cases.{bool-else}
 use Rattle.laws.proofs.Says.{says-eq, says-else}
-use Rattle.picture_rules.specs.declared.MainPos.{MainPos}
+use Rattle.pixel_rules.specs.declared.MainPos.{MainPos}
 use Rattle.sheet_rules.specs.declared.Colour.{Colour}
-use Rattle.picture_rules.specs.Samples.{Scene, pairsOf}
-use Rattle.picture_rules.specs.Content.{Content, maskUnder, imageUnder, colourFrom, colourUnder}
+use Rattle.pixel_rules.specs.Samples.{Scene, pairsOf}
+use Rattle.pixel_rules.specs.Content.{Content, maskUnder, imageUnder, colourFrom, colourUnder}
 
 -- of the masks 2, 4, up to 2n: mask 2j is 1, and every higher one is 0
 pub record Highest (mask : ℕ → Bool) (n j : ℕ) : Type 0 where

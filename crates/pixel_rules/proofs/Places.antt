@@ -11,13 +11,13 @@ use Rattle.laws.proofs.Says.{says-and, says-true}
 use Rattle.sheet_rules.specs.declared.Record.{Record}
 use Rattle.sheet_rules.specs.Judge.{coded}
 use Rattle.sheet_rules.specs.Sentences.{Coded, Uncoded}
-use Rattle.picture_rules.specs.declared.MainPos.{MainPos}
-use Rattle.picture_rules.specs.declared.Sample.the-variants.{Known, Unknown}
-use Rattle.picture_rules.specs.declared.Mask.the-variants.{Zero, One, Hidden}
-use Rattle.picture_rules.specs.Place.{inside}
-use Rattle.picture_rules.specs.declared.Start.the-variants.{From, Unread}
-use Rattle.picture_rules.specs.Planes.{planeStart}
-use Rattle.picture_rules.specs.Samples.{Scene, recordOf, mainOf, indexOf, bitOf, baseOf, virtual, maskRead, imageRead, maskAt, imageAt}
+use Rattle.pixel_rules.specs.declared.MainPos.{MainPos}
+use Rattle.pixel_rules.specs.declared.Sample.the-variants.{Known, Unknown}
+use Rattle.pixel_rules.specs.declared.Mask.the-variants.{Zero, One, Hidden}
+use Rattle.pixel_rules.specs.Place.{inside}
+use Rattle.pixel_rules.specs.declared.Start.the-variants.{From, Unread}
+use Rattle.pixel_rules.specs.Planes.{planeStart}
+use Rattle.pixel_rules.specs.Samples.{Scene, recordOf, mainOf, indexOf, bitOf, baseOf, virtual, maskRead, imageRead, maskAt, imageAt}
 use Rattle.sheet_rules.specs.Record.{colourAt}
 
 pub coded-true : (r : Record) → Coded r → coded r ≡ true

@@ -12,9 +12,9 @@ use lib.ListN.{length, getD}
 use lib.Dec.{eqb}
 use Rattle.octets.specs.Octets.{be32At}
 use Rattle.octets.specs.Entries.{wholeEntries}
-use Rattle.picture_rules.specs.declared.Plane.{Plane}
-use Rattle.picture_rules.specs.declared.Start.{Start}
-use Rattle.picture_rules.specs.declared.Start.the-variants.{From, Unread}
+use Rattle.pixel_rules.specs.declared.Plane.{Plane}
+use Rattle.pixel_rules.specs.declared.Start.{Start}
+use Rattle.pixel_rules.specs.declared.Start.the-variants.{From, Unread}
 
 abbrev pub planeSize : ℕ
 planeSize = 5

@@ -8,17 +8,17 @@ use mathlib.Core.Bool.{Bool, true, false, cond}
 use Rattle.laws.proofs.Cases.{clash}
 use Rattle.laws.proofs.Says.{says-eq, says-else}
 use Rattle.sheet_rules.specs.declared.Colour.{Colour}
-use Rattle.picture_rules.specs.declared.MainPos.{MainPos}
-use Rattle.picture_rules.specs.declared.Sample.{Sample}
-use Rattle.picture_rules.specs.declared.Sample.the-variants.{Known, Unknown}
-use Rattle.picture_rules.specs.declared.Mask.{Mask}
-use Rattle.picture_rules.specs.declared.Mask.the-variants.{Zero, One, Hidden}
-use Rattle.picture_rules.specs.Samples.{Scene, pairsOf}
-use Rattle.picture_rules.specs.Content.{SeenAs}
-use Rattle.picture_rules.specs.Decide.{sameColour, agree, pairStep, Stack, decide, stackAt, pixelAt}
-use Rattle.picture_rules.specs.Down.{Way, last, more, Among, passing, candidates, allAgree, down, MayShow}
-use Rattle.picture_rules.proofs.Rule.{agree-self, agree-comm, decide-none, decide-highest}
-use Rattle.picture_rules.proofs.Seen.{seen-known-as}
+use Rattle.pixel_rules.specs.declared.MainPos.{MainPos}
+use Rattle.pixel_rules.specs.declared.Sample.{Sample}
+use Rattle.pixel_rules.specs.declared.Sample.the-variants.{Known, Unknown}
+use Rattle.pixel_rules.specs.declared.Mask.{Mask}
+use Rattle.pixel_rules.specs.declared.Mask.the-variants.{Zero, One, Hidden}
+use Rattle.pixel_rules.specs.Samples.{Scene, pairsOf}
+use Rattle.pixel_rules.specs.Content.{SeenAs}
+use Rattle.pixel_rules.specs.Decide.{sameColour, agree, pairStep, Stack, decide, stackAt, pixelAt}
+use Rattle.pixel_rules.specs.Down.{Way, last, more, Among, passing, candidates, allAgree, down, MayShow}
+use Rattle.pixel_rules.proofs.Rule.{agree-self, agree-comm, decide-none, decide-highest}
+use Rattle.pixel_rules.proofs.Seen.{seen-known-as}
 
 -- ---- the same pixel
 

@@ -7,10 +7,10 @@ use borrow.Author.Tests.{eq-eqb}
 use Rattle.laws.proofs.Cases.{clash}
 use Rattle.laws.proofs.Says.{Says, says-eq, says-and}
 use Rattle.sheet_rules.specs.declared.Colour.{Colour}
-use Rattle.picture_rules.specs.declared.Sample.{Sample}
-use Rattle.picture_rules.specs.declared.Sample.the-variants.{Known, Unknown}
-use Rattle.picture_rules.specs.declared.Mask.the-variants.{Zero, One, Hidden}
-use Rattle.picture_rules.specs.Decide.{sameColour, agree, pairStep, Stack, decide}
+use Rattle.pixel_rules.specs.declared.Sample.{Sample}
+use Rattle.pixel_rules.specs.declared.Sample.the-variants.{Known, Unknown}
+use Rattle.pixel_rules.specs.declared.Mask.the-variants.{Zero, One, Hidden}
+use Rattle.pixel_rules.specs.Decide.{sameColour, agree, pairStep, Stack, decide}
 
 -- ---- two colours
 

@@ -9,10 +9,10 @@ use mathlib.Core.Bool.{Bool, true, cond}
 use borrow.Author.Tests.{eq-eqb, ne-eqb}
 use Rattle.laws.proofs.Says.{Says, says-le, says-lt, says-and, says-eq, says-else}
 use Rattle.sheet_rules.specs.declared.Record.{Record}
-use Rattle.picture_rules.specs.declared.MainPos.{MainPos}
-use Rattle.picture_rules.specs.declared.SamplePos.{SamplePos}
-use Rattle.picture_rules.specs.Place.{ratio, scale, covers, inside, alongOf, downOf}
-use Rattle.picture_rules.specs.Samples.{indexOf, depth, planeSpan}
+use Rattle.pixel_rules.specs.declared.MainPos.{MainPos}
+use Rattle.pixel_rules.specs.declared.SamplePos.{SamplePos}
+use Rattle.pixel_rules.specs.Place.{ratio, scale, covers, inside, alongOf, downOf}
+use Rattle.pixel_rules.specs.Samples.{indexOf, depth, planeSpan}
 
 -- ---- along one side
 

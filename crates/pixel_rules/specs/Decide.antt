@@ -11,13 +11,13 @@
 use Prim.Native.Nat.{ℕ, zero, suc, _+_, _*_}
 use mathlib.Core.Bool.{Bool, _&&_, cond}
 use lib.Dec.{eqb}
-use Rattle.picture_rules.specs.declared.MainPos.{MainPos}
+use Rattle.pixel_rules.specs.declared.MainPos.{MainPos}
 use Rattle.sheet_rules.specs.declared.Colour.{Colour}
-use Rattle.picture_rules.specs.declared.Sample.{Sample}
-use Rattle.picture_rules.specs.declared.Sample.the-variants.{Known, Unknown}
-use Rattle.picture_rules.specs.declared.Mask.{Mask}
-use Rattle.picture_rules.specs.declared.Mask.the-variants.{Zero, One, Hidden}
-use Rattle.picture_rules.specs.Samples.{Scene, maskAt, imageAt, pairsOf}
+use Rattle.pixel_rules.specs.declared.Sample.{Sample}
+use Rattle.pixel_rules.specs.declared.Sample.the-variants.{Known, Unknown}
+use Rattle.pixel_rules.specs.declared.Mask.{Mask}
+use Rattle.pixel_rules.specs.declared.Mask.the-variants.{Zero, One, Hidden}
+use Rattle.pixel_rules.specs.Samples.{Scene, maskAt, imageAt, pairsOf}
 
 unfoldable pub sameColour : Colour → Colour → Bool
 sameColour c d = eqb (c .c0) (d .c0) && eqb (c .c1) (d .c1) && eqb (c .c2) (d .c2)

@@ -21,17 +21,17 @@ use Rattle.sheet_rules.specs.declared.Extent.{Extent}
 use Rattle.sheet_rules.specs.Record.{colourAt}
 use Rattle.sheet_rules.specs.StripeTable.{layerRecord, mainRes}
 use Rattle.sheet_rules.specs.Judge.{coded}
-use Rattle.picture_rules.specs.declared.MainPos.{MainPos}
-use Rattle.picture_rules.specs.declared.Plane.{Plane}
-use Rattle.picture_rules.specs.declared.Start.{Start}
-use Rattle.picture_rules.specs.declared.Start.the-variants.{From, Unread}
+use Rattle.pixel_rules.specs.declared.MainPos.{MainPos}
+use Rattle.pixel_rules.specs.declared.Plane.{Plane}
+use Rattle.pixel_rules.specs.declared.Start.{Start}
+use Rattle.pixel_rules.specs.declared.Start.the-variants.{From, Unread}
 use Rattle.sheet_rules.specs.declared.Colour.{Colour}
-use Rattle.picture_rules.specs.declared.Sample.{Sample}
-use Rattle.picture_rules.specs.declared.Sample.the-variants.{Known, Unknown}
-use Rattle.picture_rules.specs.declared.Mask.{Mask}
-use Rattle.picture_rules.specs.declared.Mask.the-variants.{Zero, One, Hidden}
-use Rattle.picture_rules.specs.Place.{inside, alongOf, downOf}
-use Rattle.picture_rules.specs.Planes.{planeStart}
+use Rattle.pixel_rules.specs.declared.Sample.{Sample}
+use Rattle.pixel_rules.specs.declared.Sample.the-variants.{Known, Unknown}
+use Rattle.pixel_rules.specs.declared.Mask.{Mask}
+use Rattle.pixel_rules.specs.declared.Mask.the-variants.{Zero, One, Hidden}
+use Rattle.pixel_rules.specs.Place.{inside, alongOf, downOf}
+use Rattle.pixel_rules.specs.Planes.{planeStart}
 
 pub record Scene : Type 0 where
   pub sheet : List ℕ

@@ -1,0 +1,6 @@
+pub mod Division
+pub mod Places
+pub mod Rule
+pub mod Seen
+pub mod Highest
+pub mod Down
