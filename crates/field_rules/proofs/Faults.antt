@@ -35,7 +35,7 @@ module _ {table : List Field} {before : List ℕ} {at : ℕ} {x : Answer} where
         broken = subst (λ (p : ℕ). Broken row before p l x) (sym (add-zero at)) b;
       }
 
-  pub fault-behind : {row : Field} (m then l : List ℕ) (n : ℕ) → n ≡ at + length m
+  fault-behind : {row : Field} (m then l : List ℕ) (n : ℕ) → n ≡ at + length m
       → ((early : List Field) (known k : List ℕ) → Stands early then known k → Stands (row ∷ early) before known (m ++ k))
       → Faulted table then n l x → Faulted (row ∷ table) before at (m ++ l) x
   fault-behind {row} m then l n e step f =

@@ -5,7 +5,7 @@ use native.Mathlib.Omega.{arith}
 use native.Mathlib.Nat.{add-zero}
 use mathlib.Core.Path.{_≡_, refl, sym, ap, ap₂, subst, _∙_}
 use mathlib.Core.Bool.{Bool, true}
-use mathlib.Core.List.{List, [], _∷_, _++_, append-assoc}
+use mathlib.Core.List.{List, [], _∷_, _++_, append-assoc, append-nil}
 use lib.ListN.{length, drop, length-append, length-drop}
 use lib.Dec.{ltb}
 use borrow.Author.Tests.{le-ltb, ltb-false}
@@ -68,21 +68,21 @@ numbers-stand (w ∷ ws) s at o h =
       (a .1, b .1),
     )
 
--- ---- reading what stands there
+-- ---- reading what stands there: the rows in front are read, and reading goes on with the others
 
-pub fields-there : {table : List Field} {before out l : List ℕ} → Stands table before out l → (s r : List ℕ) (at : ℕ) → at ≤ length s → drop at s ≡ l ++ r
-    → fields table before s at ≡ ok out (at + length l)
+pub fields-past : {early : List Field} {before known l : List ℕ} → Stands early before known l → (more : List Field) (s r : List ℕ) (at : ℕ) → at ≤ length s → drop at s ≡ l ++ r
+    → fields (early ++ more) before s at ≡ fields more known s (at + length l)
 unfolding fields
-fields-there {before = before} at-end s r at h e = ap (ok before) (sym (add-zero at))
-fields-there (marked {m = m} {out = out} {l = l} more) s r at h e =
+fields-past {before = before} at-end more s r at h e = ap (fields more before s) (sym (add-zero at))
+fields-past {known = known} (marked {m = m} {l = l} st) more s r at h e =
     let q : drop at s ≡ m ++ (l ++ r) = e ∙ append-assoc m l r in
     let n : length s - at ≡ length m + length (l ++ r) = sym (length-drop at s) ∙ ap length q ∙ length-append m (l ++ r) in
     let a : at + length m ≤ length s = omega arith in
     let x = length-append m l in
     let z : at + length m + length l ≡ at + length (m ++ l) = omega arith in
     simp (le-ltb (length s) (at + length m) a, stands-there s at m (l ++ r) h q)
-    (fields-there more s r (at + length m) a (drop-next s m (l ++ r) at q) ∙ ap (ok out) z)
-fields-there (valued {ws = ws} {out = out} {l = l} vs sized good more) s r at h e =
+    (fields-past st more s r (at + length m) a (drop-next s m (l ++ r) at q) ∙ ap (fields more known s) z)
+fields-past {known = known} (valued {ws = ws} {l = l} vs sized good st) more s r at h e =
     let q : drop at s ≡ put ws vs ++ (l ++ r) = e ∙ append-assoc (put ws vs) l r in
     let n : length s - at ≡ length (put ws vs) + length (l ++ r) = sym (length-drop at s) ∙ ap length q ∙ length-append (put ws vs) (l ++ r) in
     let k = length-put ws vs sized in
@@ -91,8 +91,13 @@ fields-there (valued {ws = ws} {out = out} {l = l} vs sized good more) s r at h 
     let z : at + widths ws + length l ≡ at + length (put ws vs ++ l) = omega arith in
     let d : drop (at + widths ws) s ≡ l ++ r = ap (λ (j : ℕ). drop (at + j) s) (sym k) ∙ drop-next s (put ws vs) (l ++ r) at q in
     simp (le-ltb (length s) (at + widths ws) a, numbers-there ws vs sized s (l ++ r) at q, good)
-    (fields-there more s r (at + widths ws) a d ∙ ap (ok out) z)
-fields-there (held good more) s r at h e = simp good (fields-there more s r at h e)
+    (fields-past st more s r (at + widths ws) a d ∙ ap (fields more known s) z)
+fields-past (held good st) more s r at h e = simp good (fields-past st more s r at h e)
+
+pub fields-there : {table : List Field} {before out l : List ℕ} → Stands table before out l → (s r : List ℕ) (at : ℕ) → at ≤ length s → drop at s ≡ l ++ r
+    → fields table before s at ≡ ok out (at + length l)
+unfolding fields
+fields-there {table} {before} st s r at h e = ap (λ (rows : List Field). fields rows before s at) (sym (append-nil table)) ∙ fields-past st [] s r at h e
 
 -- ---- what was read stands there
 

@@ -1,7 +1,7 @@
 pub mod Laws
 pub mod Refused
 pub mod Values
+pub mod Faults
 pub mod Tables
 pub mod Parts
-pub mod Faults
 pub mod Named

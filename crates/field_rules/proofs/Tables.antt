@@ -2,11 +2,10 @@
 -- Assumes nothing.
 use Prim.Native.Nat.{ℕ, _+_, _-_, _≤_, _<_}
 use native.Mathlib.Omega.{arith}
-use native.Mathlib.Nat.{add-zero}
 use mathlib.Core.Path.{_≡_, refl, sym, ap, ap₂, subst, _∙_}
 use mathlib.Core.Logic.{_↔_, ⊎-elim, _≢_}
 use mathlib.Core.Bool.{true, false, false≢true}
-use mathlib.Core.List.{List, [], _∷_, _++_, append-assoc}
+use mathlib.Core.List.{List, [], _∷_, _++_}
 use lib.ListN.{length, take, drop, length-append, length-drop, take-append-drop}
 use lib.Seq.{length-take-le}
 use lib.Dec.{ltb}
@@ -17,35 +16,9 @@ use Rattle.laws.proofs.Cases.{cond-with, clash, bool-else}
 use Rattle.octets.specs.Octets.{Octets, standsAt}
 use Rattle.octets.proofs.Laws.{drop-next, stands-there, stands-split}
 use Rattle.field_rules.specs.Field.{Res, no, widths, numbers, Field, mark, val, again, fields, put}
-use Rattle.field_rules.specs.Stands.{Stands, at-end, marked, valued, held}
-use Rattle.field_rules.proofs.Laws.{length-put, numbers-there, numbers-stand}
+use Rattle.field_rules.proofs.Laws.{length-put, numbers-there, numbers-stand, fields-past}
+use Rattle.field_rules.proofs.Faults.{fault-here, past-mark, past-val, past-again}
 use Rattle.field_rules.specs.Fault.{sizeOf, Broken, cut, other, wrong, late, Faulted}
-
--- ---- the rows that stand in front are read, and reading goes on with the others
-
-pub fields-past : {early : List Field} {before known l : List ℕ} → Stands early before known l → (more : List Field) (s r : List ℕ) (at : ℕ) → at ≤ length s → drop at s ≡ l ++ r
-    → fields (early ++ more) before s at ≡ fields more known s (at + length l)
-unfolding fields
-fields-past {before = before} at-end more s r at h e = ap (fields more before s) (sym (add-zero at))
-fields-past {known = known} (marked {m = m} {l = l} st) more s r at h e =
-    let q : drop at s ≡ m ++ (l ++ r) = e ∙ append-assoc m l r in
-    let n : length s - at ≡ length m + length (l ++ r) = sym (length-drop at s) ∙ ap length q ∙ length-append m (l ++ r) in
-    let a : at + length m ≤ length s = omega arith in
-    let x = length-append m l in
-    let z : at + length m + length l ≡ at + length (m ++ l) = omega arith in
-    simp (le-ltb (length s) (at + length m) a, stands-there s at m (l ++ r) h q)
-    (fields-past st more s r (at + length m) a (drop-next s m (l ++ r) at q) ∙ ap (fields more known s) z)
-fields-past {known = known} (valued {ws = ws} {l = l} vs sized good st) more s r at h e =
-    let q : drop at s ≡ put ws vs ++ (l ++ r) = e ∙ append-assoc (put ws vs) l r in
-    let n : length s - at ≡ length (put ws vs) + length (l ++ r) = sym (length-drop at s) ∙ ap length q ∙ length-append (put ws vs) (l ++ r) in
-    let k = length-put ws vs sized in
-    let a : at + widths ws ≤ length s = omega arith in
-    let x = length-append (put ws vs) l in
-    let z : at + widths ws + length l ≡ at + length (put ws vs ++ l) = omega arith in
-    let d : drop (at + widths ws) s ≡ l ++ r = ap (λ (j : ℕ). drop (at + j) s) (sym k) ∙ drop-next s (put ws vs) (l ++ r) at q in
-    simp (le-ltb (length s) (at + widths ws) a, numbers-there ws vs sized s (l ++ r) at q, good)
-    (fields-past st more s r (at + widths ws) a d ∙ ap (fields more known s) z)
-fields-past (held good st) more s r at h e = simp good (fields-past st more s r at h e)
 
 -- ---- a broken row in front is refused
 
@@ -94,39 +67,8 @@ faulted-refused {before = before} {at = at} s h f =
 -- ---- and a refused table has a broken row behind rows that stand
 
 module _ (s : List ℕ) (o : Octets s) (x : Answer) where
-  here : {row : Field} {rows : List Field} {before : List ℕ} {at : ℕ} → Broken row before at (drop at s) x → Faulted (row ∷ rows) before at (drop at s) x
-  here {row} {rows} {before} {at} b =
-      record {
-        early = [];
-        row = row;
-        later = rows;
-        table = refl;
-        known = before;
-        octets = [];
-        rest = drop at s;
-        split = refl;
-        stands = at-end;
-        broken = subst (λ (p : ℕ). Broken row before p (drop at s) x) (sym (add-zero at)) b;
-      }
-
-  behind : {row : Field} {rows : List Field} {before : List ℕ} {at : ℕ} (m : List ℕ) (n : ℕ) (then : List ℕ)
-      → ((early : List Field) (known l : List ℕ) → Stands early then known l → Stands (row ∷ early) before known (m ++ l))
-      → drop at s ≡ m ++ drop n s → n ≡ at + length m → Faulted rows then n (drop n s) x → Faulted (row ∷ rows) before at (drop at s) x
-  behind {row} {rows} {before} {at} m n then step d e f =
-      let a = length-append m (f .octets) in
-      let z : n + length (f .octets) ≡ at + length (m ++ f .octets) = omega arith in
-      record {
-        early = row ∷ f .early;
-        row = f .row;
-        later = f .later;
-        table = ap (λ (r : List Field). row ∷ r) (f .table);
-        known = f .known;
-        octets = m ++ f .octets;
-        rest = f .rest;
-        split = d ∙ ap (λ (k : List ℕ). m ++ k) (f .split) ∙ sym (append-assoc m (f .octets) (f .rest));
-        stands = step (f .early) (f .known) (f .octets) (f .stands);
-        broken = subst (λ (p : ℕ). Broken (f .row) (f .known) p (f .rest) x) z (f .broken);
-      }
+  placed : {rows : List Field} {before l : List ℕ} {at : ℕ} → drop at s ≡ l → Faulted rows before at l x → Faulted rows before at (drop at s) x
+  placed {rows} {before} {at = at} d f = subst (λ (k : List ℕ). Faulted rows before at k x) (sym d) f
 
   cut-here : {row : Field} {before : List ℕ} {at : ℕ} → at ≤ length s → length s < at + sizeOf row → _≡_ {A = Res (List ℕ)} (no (Short at)) (no x) → Broken row before at (drop at s) x
   cut-here {row} {before} {at} h c e =
@@ -139,34 +81,34 @@ module _ (s : List ℕ) (o : Octets s) (x : Answer) where
   refused-faulted [] before at h = λ e. clash cc
   refused-faulted (mark m refusal ∷ rows) before at h =
       cond-with (λ y. y ≡ no x → Faulted (mark m refusal ∷ rows) before at (drop at s) x) (ltb (length s) (at + length m))
-      (λ t e. here (cut-here h (ltb-true (length s) (at + length m) t) e)) λ t.
+      (λ t e. fault-here (cut-here h (ltb-true (length s) (at + length m) t) e)) λ t.
       let g = ltb-false (length s) (at + length m) t in
       let len : length (take (length m) (drop at s)) ≡ length m = length-take-le (length m) (drop at s) (let u = length-drop at s in omega arith) in
       cond-with (λ y. y ≡ no x → Faulted (mark m refusal ∷ rows) before at (drop at s) x) (standsAt s at m)
-      (λ u e. behind m (at + length m) before (λ es kn l st. marked st) (stands-split s at m u .1) refl (refused-faulted rows before (at + length m) g e))
+      (λ u e. placed (stands-split s at m u .1) (past-mark (refused-faulted rows before (at + length m) g e)))
       (λ u e.
       let z : refusal at ≡ x = cc in
-      here (subst (Broken (mark m refusal) before at (drop at s)) z
+      fault-here (subst (Broken (mark m refusal) before at (drop at s)) z
       (subst (λ (l : List ℕ). Broken (mark m refusal) before at l (refusal at)) (take-append-drop (length m) (drop at s))
       (other (take (length m) (drop at s)) (drop (length m) (drop at s)) len
       (λ q. false≢true (sym u ∙ stands-there s at m (drop (length m) (drop at s)) h (sym (take-append-drop (length m) (drop at s)) ∙ ap (λ (l : List ℕ). l ++ drop (length m) (drop at s)) q)))))))
   refused-faulted (val ws good refusal ∷ rows) before at h =
       cond-with (λ y. y ≡ no x → Faulted (val ws good refusal ∷ rows) before at (drop at s) x) (ltb (length s) (at + widths ws))
-      (λ t e. here (cut-here h (ltb-true (length s) (at + widths ws) t) e)) λ t.
+      (λ t e. fault-here (cut-here h (ltb-true (length s) (at + widths ws) t) e)) λ t.
       let g = ltb-false (length s) (at + widths ws) t in
       let d = numbers-stand ws s at o g in
       let k = length-put ws (numbers ws s at) (d .1) in
       cond-with (λ y. y ≡ no x → Faulted (val ws good refusal ∷ rows) before at (drop at s) x) (good before (numbers ws s at))
-      (λ u e. behind (put ws (numbers ws s at)) (at + widths ws) (before ++ numbers ws s at) (λ es kn l st. valued (numbers ws s at) (d .1) u st) (d .0) (omega arith) (refused-faulted rows (before ++ numbers ws s at) (at + widths ws) g e))
+      (λ u e. placed (d .0) (past-val (numbers ws s at) (d .1) u (refused-faulted rows (before ++ numbers ws s at) (at + widths ws) g e)))
       (λ u e.
       let z : refusal at ≡ x = cc in
-      here (subst (Broken (val ws good refusal) before at (drop at s)) z
+      fault-here (subst (Broken (val ws good refusal) before at (drop at s)) z
       (subst (λ (l : List ℕ). Broken (val ws good refusal) before at l (refusal at)) (sym (d .0))
       (wrong (numbers ws s at) (drop (at + widths ws) s) (d .1) u))))
   refused-faulted (again back good refusal ∷ rows) before at h =
       cond-with (λ y. y ≡ no x → Faulted (again back good refusal ∷ rows) before at (drop at s) x) (good before)
-      (λ u e. behind [] at before (λ es kn l st. held u st) refl (sym (add-zero at)) (refused-faulted rows before at h e))
-      (λ u e. let z : refusal (at - back) ≡ x = cc in here (subst (Broken (again back good refusal) before at (drop at s)) z (late u)))
+      (λ u e. past-again u (refused-faulted rows before at h e))
+      (λ u e. let z : refusal (at - back) ≡ x = cc in fault-here (subst (Broken (again back good refusal) before at (drop at s)) z (late u)))
 
 -- ---- the theorem
 

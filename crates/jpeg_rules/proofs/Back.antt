@@ -197,10 +197,8 @@ pub record Walked (s : List ℕ) (start main e w h r : ℕ) : Type 0 where
   pub inside : e ≤ length s
 
 module _ (s : List ℕ) (o : Octets s) (start main e w h r : ℕ) where
-  walked : start + 2 ≤ length s → getD s start 0 ≡ 0xFF → getD s (start + 1) 0 ≡ 0xD8 → walkFrom (length s) s main (begun (start + 2)) ≡ Ends e w h r
-      → Walked s start main e w h r
-  walked l a b q =
-      let k = head-back s o main e w h r (walks-from s main (length s) (begun (start + 2)) (omega arith)) q refl refl in
+  walked : start + 2 ≤ length s → getD s start 0 ≡ 0xFF → getD s (start + 1) 0 ≡ 0xD8 → Head s main (begun (start + 2)) e w h r → Walked s start main e w h r
+  walked l a b k =
       let lay : List ℕ = 0xFF ∷ 0xD8 ∷ piecesOf (k .before) ++ (lengthed (k .code) (k .body) ++ (piecesOf (k .after) ++ (0xFF ∷ 0xD9 ∷ []))) in
       let l1 = length-append (piecesOf (k .before)) (lengthed (k .code) (k .body) ++ (piecesOf (k .after) ++ (0xFF ∷ 0xD9 ∷ []))) in
       let l2 = length-append (lengthed (k .code) (k .body)) (piecesOf (k .after) ++ (0xFF ∷ 0xD9 ∷ [])) in
@@ -251,5 +249,6 @@ module _ (s : List ℕ) (o : Octets s) (start main e w h r : ℕ) where
       cond-with (λ x. x ≡ Ends e w h r → Walked s start main e w h r) (eqb (getD s start 0) 0xFF && eqb (getD s (start + 1) 0) 0xD8)
       (λ t q.
       let k = says-and (says-eq (getD s start 0) 0xFF) (says-eq (getD s (start + 1) 0) 0xD8) .told t in
-      walked (ltb-false (length s) (start + 2) l) (k .0) (k .1) q)
+      walked (ltb-false (length s) (start + 2) l) (k .0) (k .1)
+      (head-back s o main e w h r (walks-from s main (length s) (begun (start + 2)) (omega arith)) q refl refl))
       (λ t q. clash cc)

@@ -135,6 +135,35 @@ record Cuts (r : Record) (k l : ℕ) (rs : List Record) : Type 0 where
   here : Upward k l q
   further : Numbered (suc k) qs
 
+-- the layer above the record before it stands in that one's stripe, and one that opens a stripe stands in its own
+module _ {r x : Record} {rs : List Record} (c : Cuts x (x .stripe) (x .layer) rs) where
+  upward : Above r x → 1 ≤ r .layer → Cuts r (r .stripe) (r .layer) (x ∷ rs)
+  unfolding stripesOf
+  upward a h =
+      let e = a .1 in
+      record {
+        q = x ∷ c .q;
+        qs = c .qs;
+        is = ap (joining r) (c .is) ∙ joins r x (c .q) (c .qs) (λ z. omega arith);
+        here = up (a .0) e (subst (λ (j : ℕ). Upward (r .stripe) j (c .q)) e (subst (λ (j : ℕ). Upward j (x .layer) (c .q)) (a .0) (c .here)));
+        further = subst (λ (j : ℕ). Numbered (suc j) (c .qs)) (a .0) (c .further);
+      }
+
+  opened : Opening r x → Cuts r (r .stripe) (r .layer) (x ∷ rs)
+  unfolding stripesOf
+  opened o =
+      let e = o .1 in
+      let z : x .stripe ≡ suc (r .stripe) = let f = o .0 in omega arith in
+      record {
+        q = [];
+        qs = (x ∷ c .q) ∷ c .qs;
+        is = ap (joining r) (c .is) ∙ parts r x (c .q) (c .qs) e;
+        here = top (o .2);
+        further =
+            some (up z e (subst (λ (j : ℕ). Upward (suc (r .stripe)) j (c .q)) e (subst (λ (j : ℕ). Upward j (x .layer) (c .q)) z (c .here))))
+            (subst (λ (j : ℕ). Numbered (suc j) (c .qs)) z (c .further));
+      }
+
 -- each record is the layer above the one before it, or opens the next stripe; the last one may close its own
 goes : (rs : List Record) (r : Record) → 1 ≤ r .layer → ((i : ℕ) → i + 1 < length (r ∷ rs) → Above (nth (r ∷ rs) i) (nth (r ∷ rs) (i + 1)) ⊎ Opening (nth (r ∷ rs) i) (nth (r ∷ rs) (i + 1)))
     → ((i : ℕ) → i + 1 ≡ length (r ∷ rs) → Closing (nth (r ∷ rs) i)) → Cuts r (r .stripe) (r .layer) rs
@@ -147,31 +176,7 @@ goes (x ∷ rs) r h next end =
     let z : suc i + 1 ≡ suc (i + 1) = omega arith in
     subst (λ (j : ℕ). Above (nth (x ∷ rs) i) (nth (r ∷ x ∷ rs) j) ⊎ Opening (nth (x ∷ rs) i) (nth (r ∷ x ∷ rs) j)) z (next (suc i) (omega arith)))
     (λ i e. end (suc i) (omega arith)) in
-    ⊎-elim
-    (λ (a : Above r x).
-    let e = a .1 in
-    let c = more (omega arith) in
-    record {
-      q = x ∷ c .q;
-      qs = c .qs;
-      is = ap (joining r) (c .is) ∙ joins r x (c .q) (c .qs) (λ z. omega arith);
-      here = up (a .0) e (subst (λ (j : ℕ). Upward (r .stripe) j (c .q)) e (subst (λ (j : ℕ). Upward j (x .layer) (c .q)) (a .0) (c .here)));
-      further = subst (λ (j : ℕ). Numbered (suc j) (c .qs)) (a .0) (c .further);
-    })
-    (λ (o : Opening r x).
-    let e = o .1 in
-    let z : x .stripe ≡ suc (r .stripe) = let f = o .0 in omega arith in
-    let c = more (omega arith) in
-    record {
-      q = [];
-      qs = (x ∷ c .q) ∷ c .qs;
-      is = ap (joining r) (c .is) ∙ parts r x (c .q) (c .qs) e;
-      here = top (o .2);
-      further =
-          some (up z e (subst (λ (j : ℕ). Upward (suc (r .stripe)) j (c .q)) e (subst (λ (j : ℕ). Upward j (x .layer) (c .q)) z (c .here))))
-          (subst (λ (j : ℕ). Numbered (suc j) (c .qs)) z (c .further));
-    })
-    (next 0 (omega arith))
+    ⊎-elim (λ (a : Above r x). let e = a .1 in upward (more (omega arith)) a h) (λ (o : Opening r x). let e = o .1 in opened (more (omega arith)) o) (next 0 (omega arith))
 
 -- a stripe of a sheet's records: its number, its layers, and so much of the height left for it
 pub record Lot (rs : List Record) (k left : ℕ) (q : List Record) : Type 0 where
