@@ -52,7 +52,7 @@ fn data_passes(page: &[u8], pencil: &[u8], layer: u32, r: Record) -> bool
     ensures { λ b. ⌜ b ≡ ltb (length (octetsIn (now (page .entry)) (now (pencil .entry)) (sourceOf layer))) (r .start + r .len) ⌝ }
 {
     let n = source_len(page, pencil, layer);
-    (n as u64) < octets::end_of(r.start, r.len)
+    (n as u64) < octets_get::end_of(r.start, r.len)
 }
 
 // The record of a layer: its data are there whole, or it is at fault.

@@ -16,11 +16,11 @@ fn frame_body(s: &[u8], st: Reach, n: usize, next: usize) -> Turn
     requires { ⌜ Room (now s) n 8 next ⌝ }
     ensures { λ r. ⌜ r ≡ frameBodyOf (now (s .entry)) st n next ⌝ }
 {
-    let height = octets::be16(s, n + 3);
+    let height = octets_get::be16(s, n + 3);
     if height == 0 {
         return Turn::Stop(Walk::Refused(Fault::BadLayer(n + 3)));
     }
-    let width = octets::be16(s, n + 5);
+    let width = octets_get::be16(s, n + 5);
     if width == 0 {
         return Turn::Stop(Walk::Refused(Fault::BadLayer(n + 5)));
     }

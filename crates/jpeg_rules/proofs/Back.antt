@@ -23,7 +23,7 @@ use Rattle.jpeg_rules.specs.declared.Walk.{Walk}
 use Rattle.jpeg_rules.specs.declared.Walk.the-variants.{Ends}
 use Rattle.jpeg_rules.specs.Marker.{classOf, markerOf}
 use Rattle.jpeg_rules.specs.Grammar.{Piece, alone, segment, lengthed, octetsOf, piecesOf, Fits, Good, isScan, tagged, resolution, Each, Scanned, Layer}
-use Rattle.jpeg_rules.specs.Walk.{segOf, resolves, tagOf, framed, moved, begun, walkFrom, walkOf}
+use Rattle.jpeg_rules.specs.Walk.{segOf, resolves, tagOf, framed, moved, begun, walkOf}
 use Rattle.laws.proofs.Cases.{cond-with, clash}
 use Rattle.jpeg_rules.proofs.Leaves.{marker-back, two-stand}
 use Rattle.jpeg_rules.proofs.Turns.{number-is}

@@ -20,7 +20,7 @@ pub fn seg_at(s: &[u8], n: usize, least: u16) -> Seg
     if s.len() - n < 2 {
         return Seg::Refused(Fault::Short(n));
     }
-    let size = octets::be16(s, n);
+    let size = octets_get::be16(s, n);
     if size < least {
         return Seg::Refused(Fault::BadLength(n));
     }
@@ -58,8 +58,8 @@ fn tag_of(s: &[u8], st: Reach, code: u8, n: usize, next: usize) -> Tag
     if next - n < 12 {
         return Tag::Plain;
     }
-    if octets::stands_at(s, n + 2, &G3FAX) {
-        Tag::Gives(octets::be16(s, n + 10))
+    if octets_get::stands_at(s, n + 2, &G3FAX) {
+        Tag::Gives(octets_get::be16(s, n + 10))
     } else {
         Tag::Plain
     }

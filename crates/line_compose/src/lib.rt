@@ -26,7 +26,7 @@ pub fn show_line(
     ensures { λ a. ⌜ Composed (sceneFrom (now (sheet .entry)) extent list (now (samples .entry))) y unseen (now (out .entry)) a (now (out .exit)) ⌝ }
 {
     let second = sheet_record::record_at(sheet, extent.first as usize + 1);
-    let width = octets::wide16(second.width);
+    let width = octets_get::wide16(second.width);
     if out.len() < width * 4 {
         return Answer::NoRoom;
     }

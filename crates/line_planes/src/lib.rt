@@ -50,7 +50,7 @@ pub fn plane_at(s: &[u8], i: usize) -> Plane
     let at = i * PLANE_SIZE;
     Plane {
         layer: s[at],
-        start: octets::be32(s, at + 1),
+        start: octets_get::be32(s, at + 1),
     }
 }
 

@@ -40,7 +40,7 @@ pub fn row_start(a: u32, width: u16, layer: u8, down: SamplePos) -> usize
     requires { ⌜ down .0 < 65536 ⌝ }
     ensures { λ r. ⌜ r ≡ a + down .0 * width * depth layer ⌝ }
 {
-    let n = down.0 * octets::wide16(width);
+    let n = down.0 * octets_get::wide16(width);
     a as usize + line_sample::sample_octets(n, layer)
 }
 
@@ -49,8 +49,8 @@ pub fn row_in(r: Record, ratio: usize, y: MainPos, p: Start, other: usize) -> Ro
     requires { ⌜ Covered r ratio y ⌝ }
     ensures { λ w. ⌜ w ≡ rowIn r ratio y p other ⌝ }
 {
-    let from = octets::wide16(r.x);
-    let to = area_end(from, octets::wide16(r.width), ratio);
+    let from = octets_get::wide16(r.x);
+    let to = area_end(from, octets_get::wide16(r.width), ratio);
     match p {
         Start::Unread => Row {
             from: from,
@@ -69,7 +69,7 @@ pub fn row_in(r: Record, ratio: usize, y: MainPos, p: Start, other: usize) -> Ro
                 a,
                 r.width,
                 r.layer,
-                line_sample::scale_pos(ratio, octets::wide16(r.y), y),
+                line_sample::scale_pos(ratio, octets_get::wide16(r.y), y),
             ),
             other: other,
         },
@@ -97,7 +97,12 @@ pub fn row_by(r: Record, ratio: usize, y: MainPos, p: Start, other: usize) -> Ro
     if r.len == 0 {
         return row_out(other);
     }
-    if line_covers(octets::wide16(r.y), octets::wide16(r.height), ratio, y) {
+    if line_covers(
+        octets_get::wide16(r.y),
+        octets_get::wide16(r.height),
+        ratio,
+        y,
+    ) {
         row_in(r, ratio, y, p, other)
     } else {
         row_out(other)
@@ -126,7 +131,7 @@ pub fn ratio_of(main: u16, res: u16) -> usize
     requires { ⌜ 0 < res ⌝ }
     ensures { λ ratio. ⌜ (ratio ≡ main / res) × (ratio < 65536) ⌝ }
 {
-    octets::wide16(main / res)
+    octets_get::wide16(main / res)
 }
 
 // The row of layer l, the main resolution and whether layer 3 is coded being known.

@@ -28,7 +28,7 @@ pub enum Ruled {
 pub fn plane_span(width: u16, height: u16, layer: u8) -> usize
     ensures { λ n. ⌜ (n ≡ width * height * depth layer) × (n < 12884901888) ⌝ }
 {
-    let n = octets::wide16(width) * octets::wide16(height);
+    let n = octets_get::wide16(width) * octets_get::wide16(height);
     line_sample::sample_octets(n, layer)
 }
 

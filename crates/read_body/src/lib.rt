@@ -97,7 +97,7 @@ fn body_turn(out: &mut [u8], s: &[u8], hd: Head, p: Place) -> Turn
     ensures { λ r. ⌜ Turned hd p (now (s .entry)) (now (out .entry)) r (now (out .exit)) ⌝ }
 {
     if read_field::fits(s, p.at, 2) {
-        if octets::stands_at(s, p.at as usize, &EOI) {
+        if octets_get::stands_at(s, p.at as usize, &EOI) {
             return Turn::Stop(body_end(p));
         }
         let rules = hd.rules;

@@ -26,7 +26,7 @@ pub fn judge_end(s: &[u8], at: u32) -> Judged
     requires { ⌜ length (now s) ≤ longestPage ⌝ }
     ensures { λ r. ⌜ r ≡ closeOf (now (s .entry)) at ⌝ }
 {
-    let mark = octets::stands_at(s, at as usize, &EOI);
+    let mark = octets_get::stands_at(s, at as usize, &EOI);
     match read_field::field(s, Judged::Fine, at, 2, mark, Answer::BadMark(at)) {
         Judged::Refused(a) => Judged::Refused(a),
         Judged::Fine => trailing(s, at as usize + 2),

@@ -25,7 +25,7 @@ pub fn two(s: &[u8], at: u32) -> u16
     requires { ⌜ at < 4294967294 ⌝ }
     ensures { λ r. ⌜ r ≡ be16At (now (s .entry)) at ⌝ }
 {
-    octets::wide(octet(s, at)) * 256 + octets::wide(octet(s, at + 1))
+    octets_get::wide(octet(s, at)) * 256 + octets_get::wide(octet(s, at + 1))
 }
 
 pub fn four(s: &[u8], at: u32) -> u32

@@ -34,7 +34,7 @@ fn is_optional(s: &[u8], k: u16, at: u32) -> bool
     ensures { λ r. ⌜ r ≡ optionalAt k (now (s .entry)) at ⌝ }
 {
     let n = read_field::octet(s, at + 3);
-    octets::stands_at(s, at as usize, &MRC) & ((k == 0) & ((3 <= n) & (n <= 0xFE)))
+    octets_get::stands_at(s, at as usize, &MRC) & ((k == 0) & ((3 <= n) & (n <= 0xFE)))
 }
 
 // The body of an optional segment is skipped, whatever it holds.
@@ -69,7 +69,7 @@ fn by_ident(s: &[u8], k: u16, body: u16, at: u32, size: u16) -> Segment
     ensures { λ r. ⌜ r ≡ identOf k body (now (s .entry)) at size ⌝ }
 {
     if read_field::fits(s, at, 4) {
-        if octets::stands_at(s, at as usize, &STRIPE) {
+        if octets_get::stands_at(s, at as usize, &STRIPE) {
             return stripe_at(k, body, at, size);
         }
         if is_optional(s, k, at) {
@@ -104,7 +104,7 @@ pub fn segment_at(s: &[u8], version: Version, k: u16, body: u16, at: u32) -> Seg
     requires { ⌜ Marked (now s) at ⌝ }
     ensures { λ r. ⌜ r ≡ viewOf (segmentOf version (dueWith body k) (now (s .entry)) at) ⌝ }
 {
-    if octets::stands_at(s, at as usize, &APP13) {
+    if octets_get::stands_at(s, at as usize, &APP13) {
         by_length(s, version, k, body, at + 2)
     } else {
         Segment::Refused(Answer::BadMark(at))

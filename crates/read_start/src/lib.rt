@@ -44,7 +44,7 @@ pub fn judge_start(s: &[u8]) -> Judged
         Judged::Fine,
         0,
         2,
-        octets::stands_at(s, 0, &SOI),
+        octets_get::stands_at(s, 0, &SOI),
         Answer::BadMark(0),
     );
     let r = read_field::field(
@@ -52,7 +52,7 @@ pub fn judge_start(s: &[u8]) -> Judged
         r,
         2,
         2,
-        octets::stands_at(s, 2, &APP13),
+        octets_get::stands_at(s, 2, &APP13),
         Answer::BadMark(2),
     );
     let r = read_field::field(s, r, 4, 2, 6 <= size, Answer::BadLength(4));
@@ -61,7 +61,7 @@ pub fn judge_start(s: &[u8]) -> Judged
         r,
         6,
         4,
-        octets::stands_at(s, 6, &START),
+        octets_get::stands_at(s, 6, &START),
         Answer::BadMark(6),
     );
     let r = read_field::held(r, size == 16, Answer::BadLength(4));
@@ -118,7 +118,7 @@ pub fn judge_start(s: &[u8]) -> Judged
         r,
         20,
         2,
-        octets::stands_at(s, 20, &EOI),
+        octets_get::stands_at(s, 20, &EOI),
         Answer::BadMark(20),
     )
 }

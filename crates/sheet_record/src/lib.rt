@@ -13,21 +13,21 @@ pub fn record_from(s: &[u8], at: usize) -> Record
     ensures { λ r. ⌜ r ≡ recordFrom (now (s .entry)) at ⌝ }
 {
     Record {
-        stripe: octets::be16(s, at),
+        stripe: octets_get::be16(s, at),
         layer: s[at + 2],
         coder: s[at + 3],
-        x: octets::be16(s, at + 4),
-        y: octets::be16(s, at + 6),
-        width: octets::be16(s, at + 8),
-        height: octets::be16(s, at + 10),
-        res: octets::be16(s, at + 12),
+        x: octets_get::be16(s, at + 4),
+        y: octets_get::be16(s, at + 6),
+        width: octets_get::be16(s, at + 8),
+        height: octets_get::be16(s, at + 10),
+        res: octets_get::be16(s, at + 12),
         base0: s[at + 14],
         base1: s[at + 15],
         base2: s[at + 16],
         octet17: s[at + 17],
-        start: octets::be32(s, at + 18),
-        len: octets::be32(s, at + 22),
-        octets26: octets::be16(s, at + 26),
+        start: octets_get::be32(s, at + 18),
+        len: octets_get::be32(s, at + 22),
+        octets26: octets_get::be16(s, at + 26),
     }
 }
 

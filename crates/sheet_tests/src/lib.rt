@@ -51,7 +51,7 @@ pub fn coded_ok(r: Record) -> bool
     coder_ok(r.layer, r.coder)
         & (r.width != 0)
         & (r.height != 0)
-        & (octets::end_of(r.start, r.len) < 4294967296)
+        & (octets_get::end_of(r.start, r.len) < 4294967296)
 }
 
 pub fn uncoded_ok(r: Record) -> bool

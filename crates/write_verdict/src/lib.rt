@@ -98,7 +98,7 @@ fn data_matches(d: &[u8], main: u16, tally: Tally, r: Record) -> bool
 fn data_there(d: &[u8], r: Record) -> bool
     ensures { λ b. ⌜ b ≡ leb (r .start + r .len) (length (now (d .entry))) ⌝ }
 {
-    octets::end_of(r.start, r.len) <= d.len() as u64
+    octets_get::end_of(r.start, r.len) <= d.len() as u64
 }
 
 fn pass_record(mode: Mode, d: &[u8], main: u16, tally: Tally, i: u32, r: Record) -> Pass

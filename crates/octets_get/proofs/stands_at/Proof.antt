@@ -3,10 +3,10 @@ use borrow.Author.Needs.{needs}
 use mathlib.Core.Path.{_≡_}
 use Prim.Native.Nat.{_+_, _-_, _≤_}
 use lib.ListN.{length, drop}
 use Rattle.octets.specs.Octets.{begins, standsAt}
 use Rattle.octets.proofs.Turns.{turns}
-use Rattle.octets.proofs.stands_at.Statement.{statement}
-use Rattle.octets.proofs.stands_at.Tie as tie
+use Rattle.octets_get.proofs.stands_at.Statement.{statement}
+use Rattle.octets_get.proofs.stands_at.Tie as tie
 
 abbrev Inv-loop : tie.InvT-loop
 Inv-loop s at want i₀ i = (i ≤ length want) × (at + length want ≤ length s) × (standsAt s at want ≡ begins (drop (at + i) s) (drop i want))

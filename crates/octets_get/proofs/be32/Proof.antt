@@ -1,8 +1,8 @@
 -- `be32` meets its contract: by its definition. Assumes nothing.
 use Rattle.octets.specs.Octets.{be32At}
 use borrow.Author.Needs.{needs}
-use Rattle.octets.proofs.be32.Statement.{statement}
-use Rattle.octets.proofs.be32.Tie as tie
+use Rattle.octets_get.proofs.be32.Statement.{statement}
+use Rattle.octets_get.proofs.be32.Tie as tie
 
 be16-requires : tie.Need-be16-requires
 be16-requires c κs = search needs

@@ -1,8 +1,8 @@
 -- `be16` meets its contract: by its definition. Assumes nothing.
 use Rattle.octets.specs.Octets.{be16At}
 use borrow.Author.Needs.{needs}
-use Rattle.octets.proofs.be16.Statement.{statement}
-use Rattle.octets.proofs.be16.Tie as tie
+use Rattle.octets_get.proofs.be16.Statement.{statement}
+use Rattle.octets_get.proofs.be16.Tie as tie
 
 shared-slice-read-wide : tie.Need-shared-slice-read-wide
 shared-slice-read-wide c = search needs
