@@ -104,6 +104,8 @@ said 'crates/one/src/lib.rt:2: more is brought in and not used'
 fresh; echo 'one: other' >crates.txt; gate 'a crate that is not used' 1 '10 passed, 1 failed'; said 'FAILED leftovers: crates.txt: one names other and does not use it'
 fresh; printf -- '--   there   a name\n--   gone    another\n\nthere : Type\n' | file crates/one/specs/A.antt; gate 'a name that is explained and not there' 1 '10 passed, 1 failed'
 said 'the glossary explains gone, which the file does not define'
+fresh; echo 'pub fn f() {}' | file crates/one/src/lib.rt; printf 'file: src/lib.rt\nold: fn f\nnew: fn g\nfile: src/lib.rt\nold: fn f\nnew: fn h\n' >crates/one/must-fail/a.edit
+gate 'an edit that no longer fits' 1 '10 passed, 1 failed'; said 'crates/one/must-fail/a.edit: its old text does not stand once in crates/one/src/lib.rt'
 
 # packages: apt-get is a stub that installs nothing, or the command asked for
 need() { PATH="$room/bin:$PATH" bash tests/need "$@" >out 2>&1 </dev/null; }
