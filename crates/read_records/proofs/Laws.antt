@@ -44,25 +44,7 @@ module _ (c : LayerData) (x y : ℕ) (p : Placed c x y) {start size width height
 
 module _ (hd : Head) (k layer : ℕ) (base : Colour) (x y : ℕ) (c : LayerData) where
   pub image-there : {start size width height res u v : ℕ} → c ≡ There start size width height res → u ≡ x → v ≡ y
-      → _≡_ {A = Record}
-      (record {
-        stripe = k;
-        layer = layer;
-        coder = 1;
-        x = u;
-        y = v;
-        width = width;
-        height = height;
-        res = res;
-        base0 = base .c0;
-        base1 = base .c1;
-        base2 = base .c2;
-        octet17 = 0;
-        start = start;
-        len = size;
-        octets26 = 0;
-      })
-      (imageRecord hd k layer base x y c)
+      → imageRecord hd k layer base u v (There start size width height res) ≡ imageRecord hd k layer base x y c
   unfolding imageRecord
   image-there z d f = rw (z, d, f) refl
 
