@@ -188,7 +188,7 @@ void damage(struct work *w)
     case 1: w->sheet_size = any((uint32_t)w->sheet_size + 1); break;
     case 2: w->stripe = any(4); break;
     case 3: w->line = any(5); break;
-    case 4: w->room = any(2) == 0 ? any(170) : w->room - 1; break;
+    case 4: w->room = any(2) == 0 ? any(170) : w->room - (w->room != 0); break;
     case 5: w->samples_size = any((uint32_t)w->samples_size + 1); break;
     case 6: w->samples_size -= w->samples_size != 0; break;
     case 7: w->planes_size = any((uint32_t)w->planes_size + 5); break;
