@@ -32,7 +32,8 @@ use Rattle.pixel_rules.proofs.Division.{mask-within, image-within}
 use Rattle.picture_rules.proofs.Scenes.{Stage, shows-stage, stage-layers, stage-placed}
 use Rattle.pixel_rules.proofs.Rule.{same-true, same-self}
 use Rattle.picture_rules.proofs.Fours.{known-four}
-use Rattle.picture_rules.proofs.Starts.{start-among, start-some, start-entry}
+use Rattle.pixel_rules.proofs.Starts.{start-among, start-some}
+use Rattle.picture_rules.proofs.Starts.{start-entry}
 use Rattle.picture_rules.proofs.Demand3.{done-line, done-four}
 
 -- ---- samples that become known

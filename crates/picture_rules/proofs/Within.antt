@@ -23,7 +23,7 @@ use Rattle.picture_rules.specs.Sentences.{plane, layerBefore, AllFine}
 use Rattle.pixel_rules.proofs.Division.{mask-within, image-within}
 use Rattle.picture_rules.proofs.Scenes.{Stage, stage-placed}
 use Rattle.picture_rules.proofs.Ruled.{planes-answers}
-use Rattle.picture_rules.proofs.Starts.{start-among}
+use Rattle.pixel_rules.proofs.Starts.{start-among}
 
 -- ---- a sample's number, row by row: the row's first, and how far along
 

@@ -4,3 +4,4 @@ pub mod Rule
 pub mod Seen
 pub mod Highest
 pub mod Down
+pub mod Starts
