@@ -32,22 +32,23 @@ use Rattle.jpeg_rules.specs.declared.Turn.{Turn}
 use Rattle.jpeg_rules.specs.declared.Turn.the-variants.{Go, Stop}
 use Rattle.jpeg_rules.specs.Marker.{classOf, markerOf}
 use Rattle.jpeg_rules.specs.Walk.{segOf, scanOf, resolves, tagOf, framed, passed, moved, refused, onBody, onFound, onTag, frameBodyOf, frameOf, scanStepOf, segmentOf, endOf, markOf, onMarker, turnOf, onTurn, walkFrom, begun, walkOf}
-use Rattle.jpeg_looks.proofs.Look.{bodyLook, whole, foundLook, markLook, markerLook, turnLook, onwardLook, walkLookFrom, walkLook, walkBeyond}
-use Rattle.jpeg_rules.proofs.Leaves.{marker-back}
+use Rattle.jpeg_looks.proofs.Look.{bodyLook, whole, foundLook, markLook, markerLook, markEnd, turnLook, onwardLook, walkLookFrom, walkLook, walkBeyond}
+use Rattle.jpeg_rules.proofs.Runs.{fillEnd, Marked, marker-back, marker-is, fill-marked}
+use Rattle.jpeg_rules.proofs.Scans.{scan-back}
 use Rattle.jpeg_rules.proofs.Walks.{turn-told, ahead}
 use Rattle.jpeg_rules.proofs.Within.{placeOf, tag-long}
-use Rattle.jpeg_looks.proofs.Leaves.{Whole, seg-whole, seg-bad, marker-hangs, scan-hangs, tag-hangs, frame-hangs}
+use Rattle.jpeg_looks.proofs.Leaves.{Whole, seg-whole, seg-bad, code-hangs, missing-hangs, scan-hangs, tag-hangs, frame-hangs}
 
 -- ---- how near the end or the place of a refusal
 
 -- where the walk ends it looked up to its end; where it is refused, past the place and not far beyond
-unfoldable pub NearWalk : ℕ → Walk → Type 0
-NearWalk look (Ends e w h r) = look ≡ e
-NearWalk look (Walk.Refused f) = (placeOf f < look) × (look ≤ placeOf f + walkBeyond f)
+unfoldable pub NearWalk : List ℕ → ℕ → Walk → Type 0
+NearWalk s look (Ends e w h r) = look ≡ e
+NearWalk s look (Walk.Refused f) = (placeOf f < look) × (look ≤ placeOf f + walkBeyond s f)
 
 pub record Looked (look : ℕ) (read : List ℕ → Walk) (s : List ℕ) (at : ℕ) : Type 0 where
   pub hangs : Hangs look read s at
-  pub near : NearWalk look (read s)
+  pub near : NearWalk s look (read s)
 
 -- not Short
 abbrev pub UncutWalk : Walk → Type 0
@@ -57,24 +58,39 @@ abbrev Uncut : Turn → Type 0
 Uncut x = (p : ℕ) → x ≡ refused (Short p) → ⊥
 
 -- where a turn goes on it looked at most at the marker there
-unfoldable NearTurn : ℕ → Turn → Type 0
+unfoldable NearTurn : List ℕ → ℕ → Turn → Type 0
 unfolding NearWalk
-NearTurn look (Go t) = (t .at ≤ look) × (look ≤ t .at + 2)
-NearTurn look (Stop w) = NearWalk look w
+NearTurn s look (Go t) = (t .at ≤ look) × (look ≤ markEnd s (t .at))
+NearTurn s look (Stop w) = NearWalk s look w
+
+-- a marker ends after its place
+mark-ahead : (s : List ℕ) (at : ℕ) → at ≤ markEnd s at
+unfolding markEnd
+mark-ahead s at = by (markerOf s at) refl
+  where
+    by : (x : Marker) → markerOf s at ≡ x → at ≤ markerLook x at (λ (c n : ℕ). n)
+    by (Code c n) e = let k = marker-back s at c n e .ends in omega arith
+    by Missing e = omega arith
+    by Cut e = omega arith
+
+-- and with its code, after its fill
+code-end : (s : List ℕ) (at c n : ℕ) → markerOf s at ≡ Code c n → markEnd s at ≡ n
+unfolding markEnd
+code-end s at c n e = ap (λ (x : Marker). markerLook x at (λ (c n : ℕ). n)) e
 
 -- ---- one marker
 
 module _ (s : List ℕ) (o : Octets s) (main : ℕ) where
   record Turned (look : ℕ) (read : List ℕ → Turn) (at : ℕ) : Type 0 where
     hangs : Hangs look read s at
-    near : NearTurn look (read s)
+    near : NearTurn s look (read s)
 
   turned-then : {B : Type 0} (part : List ℕ → B) (on : B → List ℕ → Turn) (b : B) (d look at : ℕ) → part s ≡ b → Hangs d part s at → Turned look (on b) d
       → Turned look (λ (t : List ℕ). on (part t) t) at
   turned-then part on b d look at e p x =
-      record { hangs = hangs-then s part on b d look at e p (x .hangs); near = subst (λ c. NearTurn look (on c s)) (sym e) (x .near) }
+      record { hangs = hangs-then s part on b d look at e p (x .hangs); near = subst (λ c. NearTurn s look (on c s)) (sym e) (x .near) }
 
-  turned-none : (x : Turn) (at : ℕ) → at ≤ length s → NearTurn at x → Turned at (λ (t : List ℕ). x) at
+  turned-none : (x : Turn) (at : ℕ) → at ≤ length s → NearTurn s at x → Turned at (λ (t : List ℕ). x) at
   turned-none x at h k = record { hangs = hangs-none s x at at (omega arith) h; near = k }
 
   -- a marker with a length, and then its body
@@ -94,13 +110,20 @@ module _ (s : List ℕ) (o : Octets s) (main : ℕ) where
           let w = seg-bad s n least f e (λ p q. u p (ap refused q)) in
           let i = w .1 .inside in
           turned-then (λ (t : List ℕ). segOf t n least) (λ (g : Seg) (t : List ℕ). onBody g (λ (m : ℕ). go m t)) (Seg.Refused f) (n + 2) (n + 2) n e (w .1)
-          (turned-none (refused f) (n + 2) i (subst (λ (g : Fault). NearTurn (n + 2) (refused g)) (sym (w .0)) (let y : (n < n + 2) × (n + 2 ≤ n + 2) = (omega arith, omega arith) in y)))
+          (turned-none (refused f) (n + 2) i (subst (λ (g : Fault). NearTurn s (n + 2) (refused g)) (sym (w .0)) (let y : (n < n + 2) × (n + 2 ≤ n + 2) = (omega arith, omega arith) in y)))
 
-  module _ (st : Reach) (c n : ℕ) (z : n ≡ st .at + 2) (b : n ≤ length s) where
+  module _ (st : Reach) (c n : ℕ) (k : Marked s (st .at) c n) where
+    -- its last octet is the code, behind octets FF from its place on
+    fill-end : fillEnd s (st .at) + 1 ≡ n
+    fill-end = fill-marked s (st .at) c n k
+
     -- a marker that may not stand there
     turned-wrong : Turned n (λ (t : List ℕ). refused (BadLayer (st .at))) n
     unfolding NearTurn placeOf walkBeyond
-    turned-wrong = turned-none (refused (BadLayer (st .at))) n b (omega arith, omega arith)
+    turned-wrong =
+        let e = k .ends in
+        let f = fill-end in
+        turned-none (refused (BadLayer (st .at))) n (k .inside) (omega arith, omega arith)
 
     turned-frame : Uncut (frameOf s st n) → Turned (markLook s st n Frame) (λ (t : List ℕ). frameOf t st n) n
     unfolding frameOf frameBodyOf markLook NearTurn placeOf walkBeyond
@@ -114,9 +137,9 @@ module _ (s : List ℕ) (o : Octets s) (main : ℕ) where
             record {
               hangs = frame-hangs s st c n next e (w .hangs .inside) l;
               near =
-                  cond-with (NearTurn next) (eqb (be16At s (n + 3)) 0) (λ q. let y : (n + 3 < next) × (next ≤ n + 3 + 65532) = (omega arith, omega arith) in y) λ q.
-                  cond-with (NearTurn next) (eqb (be16At s (n + 5)) 0) (λ q. let y : (n + 5 < next) × (next ≤ n + 5 + 65532) = (omega arith, omega arith) in y) λ q.
-                  let y : (next ≤ next) × (next ≤ next + 2) = (omega arith, omega arith) in y;
+                  cond-with (NearTurn s next) (eqb (be16At s (n + 3)) 0) (λ q. let y : (n + 3 < next) × (next ≤ n + 3 + (fillEnd s (n + 3) - (n + 3) + 65532)) = (omega arith, omega arith) in y) λ q.
+                  cond-with (NearTurn s next) (eqb (be16At s (n + 5)) 0) (λ q. let y : (n + 5 < next) × (next ≤ n + 5 + (fillEnd s (n + 5) - (n + 5) + 65532)) = (omega arith, omega arith) in y) λ q.
+                  let y : (next ≤ next) × (next ≤ markEnd s next) = (omega arith, mark-ahead s next) in y;
             }
 
         by : (f d : Bool)
@@ -132,21 +155,24 @@ module _ (s : List ℕ) (o : Octets s) (main : ℕ) where
     turned-scan = by (st .framed)
       where
         found : (next : ℕ) → (x : Found) → scanOf s next ≡ x → Uncut (onFound x next (λ (p : ℕ). Go (passed st p)))
-            → Turned (foundLook x next) (λ (t : List ℕ). onFound (scanOf t next) next (λ (p : ℕ). Go (passed st p))) next
+            → Turned (foundLook s x next) (λ (t : List ℕ). onFound (scanOf t next) next (λ (p : ℕ). Go (passed st p))) next
         found next (At p) e u =
-            let h = scan-hangs s next p e in
-            let i = h .inside in
-            turned-then (λ (t : List ℕ). scanOf t next) (λ (x : Found) (t : List ℕ). onFound x next (λ (q : ℕ). Go (passed st q))) (At p) (p + 2) (p + 2) next e h
-            (turned-none (Go (passed st p)) (p + 2) i (let y : (p ≤ p + 2) × (p + 2 ≤ p + 2) = (omega arith, omega arith) in y))
+            let b = scan-back s next p e in
+            let m = b .marked in
+            let q = m .ends in
+            let z = code-end s p (b .code) (b .next) (marker-is s p (b .code) (b .next) m) in
+            let h = subst (λ (j : ℕ). Hangs j (λ (t : List ℕ). scanOf t next) s next) (sym z) (scan-hangs s next p (b .code) (b .next) e (marker-is s p (b .code) (b .next) m)) in
+            turned-then (λ (t : List ℕ). scanOf t next) (λ (x : Found) (t : List ℕ). onFound x next (λ (q : ℕ). Go (passed st q))) (At p) (markEnd s p) (markEnd s p) next e h
+            (turned-none (Go (passed st p)) (markEnd s p) (h .inside) (let y : (p ≤ markEnd s p) × (markEnd s p ≤ markEnd s p) = (mark-ahead s p, omega arith) in y))
         found next Nothing e u = absurd (u next refl)
 
         by : (f : Bool)
             → Uncut (cond f (onBody (segOf s n 2) (λ (next : ℕ). onFound (scanOf s next) next (λ (p : ℕ). Go (passed st p)))) (refused (BadLayer (st .at))))
-            → Turned (cond f (bodyLook (segOf s n 2) n (λ (next : ℕ). foundLook (scanOf s next) next)) n)
+            → Turned (cond f (bodyLook (segOf s n 2) n (λ (next : ℕ). foundLook s (scanOf s next) next)) n)
             (λ (t : List ℕ). cond f (onBody (segOf t n 2) (λ (next : ℕ). onFound (scanOf t next) next (λ (p : ℕ). Go (passed st p)))) (refused (BadLayer (st .at)))) n
         by true u =
             turned-body n 2 (λ (next : ℕ) (t : List ℕ). onFound (scanOf t next) next (λ (p : ℕ). Go (passed st p)))
-            (λ (next : ℕ). foundLook (scanOf s next) next) (omega arith) (λ next w v. found next (scanOf s next) refl v) u
+            (λ (next : ℕ). foundLook s (scanOf s next) next) (omega arith) (λ next w v. found next (scanOf s next) refl v) u
         by false u = turned-wrong
 
     -- what a segment's tag leads to
@@ -163,30 +189,34 @@ module _ (s : List ℕ) (o : Octets s) (main : ℕ) where
         (hangs-from s (λ (t : List ℕ). tagOf t st c n) next n next (omega arith) (tag-hangs s st c n next e (w .hangs .inside) l))
         (turned-none (judged next (tagOf s st c n)) next (w .hangs .inside) (near next (tagOf s st c n) refl e))
       where
-        near : (next : ℕ) (x : Tag) → tagOf s st c n ≡ x → next ≡ n + be16At s n → NearTurn next (judged next x)
-        near next Plain q e = let y : (next ≤ next) × (next ≤ next + 2) = (omega arith, omega arith) in y
+        near : (next : ℕ) (x : Tag) → tagOf s st c n ≡ x → next ≡ n + be16At s n → NearTurn s next (judged next x)
+        near next Plain q e = let y : (next ≤ next) × (next ≤ markEnd s next) = (omega arith, mark-ahead s next) in y
         near next (Gives v) q e =
             let l = tag-long s st c n v q in
             let m = be16-bound s n o in
-            cond-with (NearTurn next) (resolves main v) (λ g. let y : (next ≤ next) × (next ≤ next + 2) = (omega arith, omega arith) in y)
+            cond-with (NearTurn s next) (resolves main v) (λ g. let y : (next ≤ next) × (next ≤ markEnd s next) = (omega arith, mark-ahead s next) in y)
             (λ g. let y : (n + 10 < next) × (next ≤ n + 10 + 65525) = (omega arith, omega arith) in y)
 
     turned-end : Turned n (λ (t : List ℕ). endOf st n) n
     unfolding endOf NearTurn placeOf walkBeyond
     turned-end =
-        turned-none (endOf st n) n b (cond-with (NearTurn n) (st .scanned) (λ d. refl) (λ d. let y : (st .at < n) × (n ≤ st .at + 65532) = (omega arith, omega arith) in y))
+        let e = k .ends in
+        let f = fill-end in
+        turned-none (endOf st n) n (k .inside)
+        (cond-with (NearTurn s n) (st .scanned) (λ d. refl)
+        (λ d. let y : (st .at < n) × (n ≤ st .at + (fillEnd s (st .at) - st .at + 65532)) = (omega arith, omega arith) in y))
 
     turned-mark : (x : Class) → Uncut (markOf s main st c n x) → Turned (markLook s st n x) (λ (t : List ℕ). markOf t main st c n x) n
     unfolding markOf markLook NearTurn
-    turned-mark Alone u = turned-none (Go (moved st n (st .res))) n b (let y : (n ≤ n) × (n ≤ n + 2) = (omega arith, omega arith) in y)
+    turned-mark Alone u = turned-none (Go (moved st n (st .res))) n (k .inside) (let y : (n ≤ n) × (n ≤ markEnd s n) = (omega arith, mark-ahead s n) in y)
     turned-mark Frame u = turned-frame u
     turned-mark Scan u = turned-scan u
     turned-mark End u = turned-end
     turned-mark Wrong u = turned-wrong
     turned-mark Segment u = turned-segment u
 
-  turn-hangs : (st : Reach) → Uncut (turnOf s main st) → Turned (turnLook s st) (λ (t : List ℕ). turnOf t main st) (st .at + 2)
-  unfolding turnOf turnLook NearTurn placeOf walkBeyond
+  turn-hangs : (st : Reach) → Uncut (turnOf s main st) → Turned (turnLook s st) (λ (t : List ℕ). turnOf t main st) (markEnd s (st .at))
+  unfolding turnOf turnLook NearTurn placeOf walkBeyond markEnd
   turn-hangs st = by (markerOf s (st .at)) refl
     where
       on : Marker → List ℕ → Turn
@@ -194,27 +224,23 @@ module _ (s : List ℕ) (o : Octets s) (main : ℕ) where
 
       by : (x : Marker) → markerOf s (st .at) ≡ x → Uncut (onMarker x (st .at) (λ (c n : ℕ). markOf s main st c n (classOf c)))
           → Turned (markerLook x (st .at) (λ (c n : ℕ). markLook s st n (classOf c)))
-          (λ (t : List ℕ). onMarker (markerOf t (st .at)) (st .at) (λ (c n : ℕ). markOf t main st c n (classOf c))) (st .at + 2)
+          (λ (t : List ℕ). onMarker (markerOf t (st .at)) (st .at) (λ (c n : ℕ). markOf t main st c n (classOf c))) (markerLook x (st .at) (λ (c n : ℕ). n))
       by (Code c n) e u =
-          let k = marker-back s (st .at) c n e in
-          let z = k .0 in
-          let i = k .1 in
-          let h = marker-hangs s (st .at) (λ q. clash cc) in
-          let y = turned-mark st c n z (omega arith) (classOf c) u in
-          turned-then (λ (t : List ℕ). markerOf t (st .at)) on (Code c n) (st .at + 2) (markLook s st n (classOf c)) (st .at + 2) e h
-          (subst (Turned (markLook s st n (classOf c)) (λ (t : List ℕ). markOf t main st c n (classOf c))) z y)
+          turned-then (λ (t : List ℕ). markerOf t (st .at)) on (Code c n) n (markLook s st n (classOf c)) n e (code-hangs s (st .at) c n e)
+          (turned-mark st c n (marker-back s (st .at) c n e) (classOf c) u)
       by Missing e u =
-          let h = marker-hangs s (st .at) (λ q. clash cc) in
+          let h = missing-hangs s (st .at) e in
           turned-then (λ (t : List ℕ). markerOf t (st .at)) on Missing (st .at + 2) (st .at + 2) (st .at + 2) e h
-          (turned-none (refused (BadLayer (st .at))) (st .at + 2) (h .inside) (let y : (st .at < st .at + 2) × (st .at + 2 ≤ st .at + 65532) = (omega arith, omega arith) in y))
+          (turned-none (refused (BadLayer (st .at))) (st .at + 2) (h .inside)
+          (let y : (st .at < st .at + 2) × (st .at + 2 ≤ st .at + (fillEnd s (st .at) - st .at + 65532)) = (omega arith, omega arith) in y))
       by Cut e u = absurd (u (st .at) refl)
 
   -- ---- the walk, whatever its count: one for each list that is enough for it
 
   -- a turn, and then the walk after it
   walk-turn : (k : ℕ) (count : List ℕ → ℕ) (st : Reach) → count s ≡ suc k → ((t : List ℕ) → length t < count t + st .at)
-      → ((x : Reach) → st .at + 2 ≤ x .at → UncutWalk (walkFrom k s main x) → Looked (walkLookFrom k s main x) (λ (t : List ℕ). walkFrom (count t - 1) t main x) s (x .at + 2))
-      → UncutWalk (walkFrom (suc k) s main st) → Looked (walkLookFrom (suc k) s main st) (λ (t : List ℕ). walkFrom (count t) t main st) s (st .at + 2)
+      → ((x : Reach) → st .at + 2 ≤ x .at → UncutWalk (walkFrom k s main x) → Looked (walkLookFrom k s main x) (λ (t : List ℕ). walkFrom (count t - 1) t main x) s (markEnd s (x .at)))
+      → UncutWalk (walkFrom (suc k) s main st) → Looked (walkLookFrom (suc k) s main st) (λ (t : List ℕ). walkFrom (count t) t main st) s (markEnd s (st .at))
   unfolding walkFrom walkLookFrom NearTurn
   walk-turn k count st e enough rest = by (turnOf s main st) refl
     where
@@ -224,36 +250,37 @@ module _ (s : List ℕ) (o : Octets s) (main : ℕ) where
       unrolled : (t : List ℕ) → st .at ≤ length t → walkFrom (count t) t main st ≡ on (turnOf t main st) t
       unrolled t h = let g = enough t in let z : count t ≡ suc (count t - 1) = omega arith in ap (λ (j : ℕ). walkFrom j t main st) z
 
-      made : (x : Turn) (look : ℕ) → turnOf s main st ≡ x → Turned (turnLook s st) (λ (t : List ℕ). turnOf t main st) (st .at + 2)
-          → Hangs look (on x) s (turnLook s st) → NearWalk look (on x s) → Looked look (λ (t : List ℕ). walkFrom (count t) t main st) s (st .at + 2)
+      made : (x : Turn) (look : ℕ) → turnOf s main st ≡ x → Turned (turnLook s st) (λ (t : List ℕ). turnOf t main st) (markEnd s (st .at))
+          → Hangs look (on x) s (turnLook s st) → NearWalk s look (on x s) → Looked look (λ (t : List ℕ). walkFrom (count t) t main st) s (markEnd s (st .at))
       made x look q y h n =
           let a = y .hangs .ahead in
           let b = h .ahead in
           let i = h .inside in
+          let m = mark-ahead s (st .at) in
           record {
             hangs =
-                hangs-as s (λ (t : List ℕ). on (turnOf t main st) t) (λ (t : List ℕ). walkFrom (count t) t main st) look (st .at + 2)
+                hangs-as s (λ (t : List ℕ). on (turnOf t main st) t) (λ (t : List ℕ). walkFrom (count t) t main st) look (markEnd s (st .at))
                 (λ t l. unrolled t (omega arith))
-                (hangs-then s (λ (t : List ℕ). turnOf t main st) on x (turnLook s st) look (st .at + 2) q (y .hangs) h);
-            near = subst (NearWalk look) (sym (unrolled s (omega arith) ∙ ap (λ (z : Turn). on z s) q)) n;
+                (hangs-then s (λ (t : List ℕ). turnOf t main st) on x (turnLook s st) look (markEnd s (st .at)) q (y .hangs) h);
+            near = subst (NearWalk s look) (sym (unrolled s (omega arith) ∙ ap (λ (z : Turn). on z s) q)) n;
           }
 
       by : (x : Turn) → turnOf s main st ≡ x → UncutWalk (onTurn x (λ (y : Reach). walkFrom k s main y))
-          → Looked (onwardLook x (turnLook s st) (λ (y : Reach). walkLookFrom k s main y)) (λ (t : List ℕ). walkFrom (count t) t main st) s (st .at + 2)
+          → Looked (onwardLook x (turnLook s st) (λ (y : Reach). walkLookFrom k s main y)) (λ (t : List ℕ). walkFrom (count t) t main st) s (markEnd s (st .at))
       by (Stop w) q u =
           let y = turn-hangs st (λ p z. u p cc) in
-          made (Stop w) (turnLook s st) q y (hangs-none s w (turnLook s st) (turnLook s st) (omega arith) (y .hangs .inside)) (subst (NearTurn (turnLook s st)) q (y .near))
+          made (Stop w) (turnLook s st) q y (hangs-none s w (turnLook s st) (turnLook s st) (omega arith) (y .hangs .inside)) (subst (NearTurn s (turnLook s st)) q (y .near))
       by (Go x) q u =
           let y = turn-hangs st (λ p z. clash cc) in
-          let n = subst (NearTurn (turnLook s st)) q (y .near) in
+          let n = subst (NearTurn s (turnLook s st)) q (y .near) in
           let n1 = n .1 in
           let r = rest x (ahead s main st x (turn-told s main st .0 x q)) u in
           let ra = r .hangs .ahead in
           made (Go x) (walkLookFrom k s main x) q y
-          (hangs-from s (λ (t : List ℕ). walkFrom (count t - 1) t main x) (walkLookFrom k s main x) (x .at + 2) (turnLook s st) (omega arith) (r .hangs)) (r .near)
+          (hangs-from s (λ (t : List ℕ). walkFrom (count t - 1) t main x) (walkLookFrom k s main x) (markEnd s (x .at)) (turnLook s st) (omega arith) (r .hangs)) (r .near)
 
   walk-turns : (k : ℕ) (count : List ℕ → ℕ) (st : Reach) → count s ≡ k → ((t : List ℕ) → length t < count t + st .at) → UncutWalk (walkFrom k s main st)
-      → Looked (walkLookFrom k s main st) (λ (t : List ℕ). walkFrom (count t) t main st) s (st .at + 2)
+      → Looked (walkLookFrom k s main st) (λ (t : List ℕ). walkFrom (count t) t main st) s (markEnd s (st .at))
   unfolding walkFrom
   walk-turns zero count st e enough u = absurd (u (st .at) refl)
   walk-turns (suc k) count st e enough u =
@@ -286,7 +313,7 @@ walk-hangs s o start main =
                     ap₂ (λ (x y : ℕ). eqb x 0xFF && eqb y 0xD8) (sym (octet-agree (start + 2) s t a start (omega arith))) (sym (octet-agree (start + 2) s t a (start + 1) (omega arith)));
               })
               (h .hangs));
-          near = subst (NearWalk look) (sym (ap₂ (λ (c d : Bool). cond c (Walk.Refused (Short start)) (on d s)) l e)) (h .near);
+          near = subst (NearWalk s look) (sym (ap₂ (λ (c d : Bool). cond c (Walk.Refused (Short start)) (on d s)) l e)) (h .near);
         }
 
     by : ltb (length s) (start + 2) ≡ false → (b : Bool) → opens s ≡ b → UncutWalk (on b s)
@@ -294,11 +321,12 @@ walk-hangs s o start main =
     by l true e u =
         let y = walk-turns s o main (length s) length (begun (start + 2)) refl (λ t. omega arith) u in
         let i = y .hangs .ahead in
+        let m = mark-ahead s (start + 2) in
         made true (walkLookFrom (length s) s main (begun (start + 2))) e l
-        (record { hangs = hangs-from s (on true) (walkLookFrom (length s) s main (begun (start + 2))) (start + 2 + 2) (start + 2) (omega arith) (y .hangs); near = y .near })
+        (record { hangs = hangs-from s (on true) (walkLookFrom (length s) s main (begun (start + 2))) (markEnd s (start + 2)) (start + 2) (omega arith) (y .hangs); near = y .near })
     by l false e u =
         made false (start + 2) e l
         (record {
           hangs = hangs-none s (Walk.Refused (BadLayer start)) (start + 2) (start + 2) (omega arith) (ltb-false (length s) (start + 2) l);
-          near = let y : (start < start + 2) × (start + 2 ≤ start + 65532) = (omega arith, omega arith) in y;
+          near = let y : (start < start + 2) × (start + 2 ≤ start + (fillEnd s start - start + 65532)) = (omega arith, omega arith) in y;
         })

@@ -1,29 +1,29 @@
 -- The leaves of the walk depend on their octets: a marker, a segment's length, scan data up to the next marker, a tag, a frame's body.
 -- Assumes nothing.
-use Prim.Native.Nat.{ℕ, zero, suc, _+_, _-_, _≤_}
+use Prim.Native.Nat.{ℕ, _+_, _-_, _≤_}
 use native.Mathlib.Omega.{arith}
 use mathlib.Core.Path.{_≡_, refl, sym, ap, ap₂, subst, _∙_}
 use mathlib.Core.Logic.{_≢_, ⊎-elim}
 use mathlib.Core.Bool.{Bool, true, false, _&&_}
-use mathlib.Core.List.{List}
-use lib.ListN.{length, getD}
+use mathlib.Core.List.{List, _++_}
+use lib.ListN.{length, getD, take, drop, length-drop, take-append-drop}
+use lib.Seq.{length-take-le, take-add, take-at, drop-at, drop-drop}
 use lib.Dec.{leb, ltb}
-use borrow.Author.Tests.{le-ltb, ltb-false, leb-true}
+use borrow.Author.Tests.{le-ltb, ne-eqb, ltb-false, leb-true}
 use Rattle.octets.specs.Octets.{be16At, standsAt}
-use Rattle.octets.proofs.Agree.{octet-agree, be16-agree, stands-agree, Hangs}
+use Rattle.octets.proofs.Agree.{Agree, agree-less, octet-agree, be16-agree, stands-agree, Hangs}
 use Rattle.laws.proofs.Cases.{cond-with, bool-else, clash}
-use Rattle.laws.proofs.Says.{says-eq, says-else}
-use Rattle.jpeg_rules.specs.declared.Marker.the-variants.{Cut}
+use Rattle.jpeg_rules.specs.declared.Marker.the-variants.{Code, Missing}
 use Rattle.jpeg_rules.specs.declared.Fault.{Fault}
 use Rattle.jpeg_rules.specs.declared.Fault.the-variants.{Short, BadLength}
 use Rattle.jpeg_rules.specs.declared.Seg.the-variants.{Body, Refused}
 use Rattle.jpeg_rules.specs.declared.Found.the-variants.{At}
 use Rattle.jpeg_rules.specs.declared.Reach.{Reach}
 use Rattle.jpeg_rules.specs.Marker.{markerOf}
-use Rattle.jpeg_rules.specs.Grammar.{g3fax}
-use Rattle.jpeg_rules.specs.Walk.{segOf, stopsOf, scanOf, tagOf, frameBodyOf}
-use Rattle.jpeg_rules.proofs.Scans.{stopsAt, scan-here, scan-next, Passed, scan-back}
-use Rattle.jpeg_rules.proofs.Walks.{ahead}
+use Rattle.jpeg_rules.specs.Grammar.{marker, g3fax}
+use Rattle.jpeg_rules.specs.Walk.{segOf, scanOf, tagOf, frameBodyOf}
+use Rattle.jpeg_rules.proofs.Runs.{length-marker, marker-there, marker-is, marker-by, marker-back}
+use Rattle.jpeg_rules.proofs.Scans.{scan-there, scan-back, scan-split}
 
 -- what a length test says
 module _ (s : List ℕ) (n : ℕ) where
@@ -76,46 +76,77 @@ module _ (s : List ℕ) (n : ℕ) where
       )) λ f2.
       cond-with (λ x. x ≡ Refused f → SegBad least f) (ltb (length s) (n + be16At s n)) (λ t e u. absurd (u (n + 2) cc)) (λ t e. clash cc)
 
-pub marker-hangs : (s : List ℕ) (at : ℕ) → (markerOf s at ≡ Cut → ⊥) → Hangs (at + 2) (λ (t : List ℕ). markerOf t at) s (at + 2)
-unfolding markerOf
-marker-hangs s at =
-    cond-with (λ x. (x ≡ Cut → ⊥) → Hangs (at + 2) (λ (t : List ℕ). markerOf t at) s (at + 2)) (ltb (length s) (at + 2)) (λ l u. absurd (u refl)) λ l u.
+-- ---- a marker, and scan data up to the next one
+
+module _ (s t : List ℕ) (e : ℕ) (a : Agree e s t) where
+  taken : (i n : ℕ) → i + n ≤ e → take n (drop i t) ≡ take n (drop i s)
+  taken i n h =
+      let b = agree-less (i + n) e s t h a in
+      let l = b .left in
+      let r = b .right in
+      sym (drop-at (take i t) (take n (drop i t)) i (length-take-le i t (omega arith)))
+      ∙ ap (drop i) (sym (take-add i n t) ∙ sym (b .same) ∙ take-add i n s)
+      ∙ drop-at (take i s) (take n (drop i s)) i (length-take-le i s (omega arith))
+
+  -- what stands at a place stands there in both
+  stands-both : (i n : ℕ) (l : List ℕ) → n ≡ i + length l → n ≤ e → drop i s ≡ l ++ drop n s → drop i t ≡ l ++ drop n t
+  stands-both i n l q h d =
+      sym (take-append-drop (length l) (drop i t))
+      ∙ ap₂ (λ (x y : List ℕ). x ++ y) (taken i (length l) (omega arith) ∙ ap (take (length l)) d ∙ take-at l (drop n s) (length l) refl)
+      (drop-drop (length l) i t ∙ ap (λ (k : ℕ). drop k t) (sym q))
+
+pub code-hangs : (s : List ℕ) (at c n : ℕ) → markerOf s at ≡ Code c n → Hangs n (λ (t : List ℕ). markerOf t at) s n
+code-hangs s at c n e =
+    let k = marker-back s at c n e in
+    let q = k .ends in
+    let m = length-marker (k .fill) c in
     record {
       ahead = omega arith;
-      inside = ltb-false (length s) (at + 2) l;
+      inside = k .inside;
       same = λ t a.
-          let x : getD t at 0 ≡ getD s at 0 = sym (octet-agree (at + 2) s t a at (omega arith)) in
-          let y : getD t (at + 1) 0 ≡ getD s (at + 1) 0 = sym (octet-agree (at + 2) s t a (at + 1) (omega arith)) in
-          simp (l, x, y, le-ltb (length t) (at + 2) (a .right));
+          marker-there t at (k .fill) c (drop n t) (k .other) (stands-both s t n a at n (marker (k .fill) c) (omega arith) (omega arith) (k .stands))
+          ∙ ap (Code c) (sym q)
+          ∙ sym e;
     }
 
--- the marker after scan data is found in any list where the same octets lead up to it
-scan-along : (t : List ℕ) (m i p : ℕ) → p - i ≤ m → Passed t i p → scanOf t i ≡ At p
-scan-along t zero i p l k =
-    let a = k .after in let b = k .inside in let z : i ≡ p = omega arith in scan-here t i (omega arith) (ap (stopsAt t) z ∙ k .stop) ∙ ap At z
-scan-along t (suc m) i p l k =
-    let a = k .after in
-    let b = k .inside in
-    ⊎-elim (λ (z : i ≡ p). scan-here t i (omega arith) (ap (stopsAt t) z ∙ k .stop) ∙ ap At z)
-    (λ (z : i ≢ p).
-    scan-next t i (k .before i (omega arith) (omega arith))
-    ∙ scan-along t m (i + 1) p (omega arith)
-    (record { after = omega arith; inside = b; stop = k .stop; before = λ q c d. k .before q (omega arith) d }))
-    (says-else (says-eq i p))
+missing : (t : List ℕ) (at : ℕ) → at + 2 ≤ length t → getD t at 0 ≢ 0xFF → markerOf t at ≡ Missing
+unfolding markerOf
+missing t at h x = simp (le-ltb (length t) (at + 2) h, ne-eqb (getD t at 0) 0xFF x)
 
-pub scan-hangs : (s : List ℕ) (i p : ℕ) → scanOf s i ≡ At p → Hangs (p + 2) (λ (t : List ℕ). scanOf t i) s i
-scan-hangs s i p e =
-    let k = scan-back s i p e in
-    let a = k .after in
-    let b = k .inside in
+pub missing-hangs : (s : List ℕ) (at : ℕ) → markerOf s at ≡ Missing → Hangs (at + 2) (λ (t : List ℕ). markerOf t at) s (at + 2)
+missing-hangs s at =
+    marker-by s at (λ x. x ≡ Missing → Hangs (at + 2) (λ (t : List ℕ). markerOf t at) s (at + 2)) (λ l e. clash cc)
+    (λ h x e.
+    record {
+      ahead = omega arith;
+      inside = h;
+      same = λ t a. missing t at (a .right) (λ q. x (octet-agree (at + 2) s t a at (omega arith) ∙ q)) ∙ sym (missing s at h x);
+    })
+    (λ h x l e. clash cc) (λ h x l e. clash cc)
+
+-- scan data and the marker after it are found in any list where the same octets stand
+pub scan-hangs : (s : List ℕ) (i p c n : ℕ) → scanOf s i ≡ At p → markerOf s p ≡ Code c n → Hangs n (λ (t : List ℕ). scanOf t i) s i
+scan-hangs s i p c n e m =
+    let b = scan-back s i p e in
+    let k = b .marked in
+    let z : Code (b .code) (b .next) ≡ Code c n = sym (marker-is s p (b .code) (b .next) k) ∙ m in
+    let y : b .next ≡ n = cc in
+    let h = b .after in
+    let q = k .ends in
+    let g = k .inside in
+    let l = length-marker (k .fill) (b .code) in
+    let coded : List ℕ = take (p - i) (drop i s) in
+    let size : length coded ≡ p - i = length-take-le (p - i) (drop i s) (let d = length-drop i s in omega arith) in
     record {
       ahead = omega arith;
       inside = omega arith;
-      same = λ t g.
-          let r = g .right in
-          let on : (q : ℕ) → q ≤ p → stopsAt s q ≡ stopsAt t q = λ q h. ap₂ stopsOf (octet-agree (p + 2) s t g q (omega arith)) (octet-agree (p + 2) s t g (q + 1) (omega arith)) in
-          scan-along t (p - i) i p (omega arith)
-          (record { after = a; inside = omega arith; stop = sym (on p (omega arith)) ∙ k .stop; before = λ q c d. sym (on q (omega arith)) ∙ k .before q c d })
+      same = λ t a.
+          let w : i + length coded ≡ p = omega arith in
+          let mark : drop p t ≡ marker (k .fill) (b .code) ++ drop (b .next) t =
+          stands-both s t n a p (b .next) (marker (k .fill) (b .code)) (omega arith) (omega arith) (k .stands) in
+          scan-there t coded (b .coded) i (drop p t) (stands-both s t n a i p coded (omega arith) (omega arith) (scan-split s i p h))
+          (record { fill = k .fill; code = b .code; rest = drop (b .next) t; is = mark; other = k .other; stop = b .stop })
+          ∙ ap At w
           ∙ sym e;
     }
 

@@ -4,11 +4,13 @@
 --   bodyLook g n go         a segment whose length stands at n: to the end of the length where that is at fault, else what `go` says of the body
 --   markLook s st n c       a marker of a class, after which n stands
 --   turnLook s st           one marker, with its length and its body
+--   markerLook, markEnd     what stands where a marker is due: to the end of its code, past its fill
 --   walkLook s start main   the walk: as far as its last marker
---   walkBeyond f                at most so many octets from a refusal's place on were looked at
+--   fillAt s p              how many octets FF stand from a place on
+--   walkBeyond s f          at most so many octets from a refusal's place on were looked at
 --
 -- Where the walk is Short, that depends on the end of the list as well, and these say nothing.
-use Prim.Native.Nat.{ℕ, zero, suc, _+_}
+use Prim.Native.Nat.{ℕ, zero, suc, _+_, _-_}
 use mathlib.Core.Bool.{_&&_, cond}
 use mathlib.Core.List.{List}
 use lib.ListN.{length, getD}
@@ -28,6 +30,7 @@ use Rattle.jpeg_rules.specs.declared.Turn.{Turn}
 use Rattle.jpeg_rules.specs.declared.Turn.the-variants.{Go, Stop}
 use Rattle.jpeg_rules.specs.Marker.{classOf, markerOf}
 use Rattle.jpeg_rules.specs.Walk.{segOf, scanOf, turnOf, begun}
+use Rattle.jpeg_rules.proofs.Runs.{fillEnd}
 
 abbrev pub bodyLook : Seg → ℕ → (ℕ → ℕ) → ℕ
 bodyLook (Body next) n go = go next
@@ -37,24 +40,28 @@ bodyLook (Refused f) n go = n + 2
 abbrev pub whole : ℕ → ℕ
 whole next = next
 
--- scan data is looked through up to the end of the next marker
-abbrev pub foundLook : Found → ℕ → ℕ
-foundLook (At p) from = p + 2
-foundLook Nothing from = from
-
--- a marker that may not stand there is decided by its own two octets, whatever follows
-unfoldable pub markLook : List ℕ → Reach → ℕ → Class → ℕ
-markLook s st n Alone = n
-markLook s st n Frame = cond (st .framed) n (cond (eqb (st .res) 0) n (bodyLook (segOf s n 8) n whole))
-markLook s st n Scan = cond (st .framed) (bodyLook (segOf s n 2) n (λ (next : ℕ). foundLook (scanOf s next) next)) n
-markLook s st n End = n
-markLook s st n Wrong = n
-markLook s st n Segment = bodyLook (segOf s n 2) n whole
-
 abbrev pub markerLook : Marker → ℕ → (ℕ → ℕ → ℕ) → ℕ
 markerLook (Code c n) at go = go c n
 markerLook Missing at go = at + 2
 markerLook Cut at go = at
+
+-- to the end of the marker
+unfoldable pub markEnd : List ℕ → ℕ → ℕ
+markEnd s at = markerLook (markerOf s at) at (λ (c n : ℕ). n)
+
+-- scan data is looked through up to the end of the next marker
+abbrev pub foundLook : List ℕ → Found → ℕ → ℕ
+foundLook s (At p) from = markEnd s p
+foundLook s Nothing from = from
+
+-- a marker that may not stand there is decided by its own octets, whatever follows
+unfoldable pub markLook : List ℕ → Reach → ℕ → Class → ℕ
+markLook s st n Alone = n
+markLook s st n Frame = cond (st .framed) n (cond (eqb (st .res) 0) n (bodyLook (segOf s n 8) n whole))
+markLook s st n Scan = cond (st .framed) (bodyLook (segOf s n 2) n (λ (next : ℕ). foundLook s (scanOf s next) next)) n
+markLook s st n End = n
+markLook s st n Wrong = n
+markLook s st n Segment = bodyLook (segOf s n 2) n whole
 
 unfoldable pub turnLook : List ℕ → Reach → ℕ
 unfolding markLook
@@ -76,10 +83,14 @@ unfolding walkLookFrom
 walkLook s start main =
     cond (eqb (getD s start 0) 0xFF && eqb (getD s (start + 1) 0) 0xD8) (walkLookFrom (length s) s main (begun (start + 2))) (start + 2)
 
+-- octets FF from a place on, which may be fill
+abbrev pub fillAt : List ℕ → ℕ → ℕ
+fillAt s p = fillEnd s p - p
+
 -- a length has two octets; a body ends at most 65,535 octets after its length's first, where a resolution stands 10 and a frame's height 3
--- octets after that
-unfoldable pub walkBeyond : Fault → ℕ
-walkBeyond (Short p) = 0
-walkBeyond (BadLength p) = 2
-walkBeyond (BadRes p) = 65525
-walkBeyond (BadLayer p) = 65532
+-- octets after that; a marker ends with its code, after its fill
+unfoldable pub walkBeyond : List ℕ → Fault → ℕ
+walkBeyond s (Short p) = 0
+walkBeyond s (BadLength p) = 2
+walkBeyond s (BadRes p) = 65525
+walkBeyond s (BadLayer p) = fillAt s p + 65532

@@ -20,12 +20,12 @@ pub walk-decided : (s : List ℕ) → Octets s → (start main : ℕ) → ((p : 
     → Agree (walkLook s start main) s t → walkOf t start main ≡ walkOf s start main
 walk-decided s o start main u = walk-hangs s o start main u .hangs .same
 
--- where it ended, that is its end; where it was refused, past the place and not far beyond
+-- where it ended, that is its end; where it was refused, past the place and not far beyond, fill apart
 pub look-end : (s : List ℕ) → Octets s → (start main e w h r : ℕ) → walkOf s start main ≡ Ends e w h r → walkLook s start main ≡ e
 unfolding NearWalk
-look-end s o start main e w h r q = subst (NearWalk (walkLook s start main)) q (walk-hangs s o start main (λ p z. clash cc) .near)
+look-end s o start main e w h r q = subst (NearWalk s (walkLook s start main)) q (walk-hangs s o start main (λ p z. clash cc) .near)
 
 pub look-near : (s : List ℕ) → Octets s → (start main : ℕ) (f : Fault) → walkOf s start main ≡ Refused f → ((p : ℕ) → f ≡ Short p → ⊥)
-    → (placeOf f < walkLook s start main) × (walkLook s start main ≤ placeOf f + walkBeyond f)
+    → (placeOf f < walkLook s start main) × (walkLook s start main ≤ placeOf f + walkBeyond s f)
 unfolding NearWalk
-look-near s o start main f q u = subst (NearWalk (walkLook s start main)) q (walk-hangs s o start main (λ p z. u p cc) .near)
+look-near s o start main f q u = subst (NearWalk s (walkLook s start main)) q (walk-hangs s o start main (λ p z. u p cc) .near)

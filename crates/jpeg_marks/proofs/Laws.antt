@@ -3,21 +3,27 @@
 use Prim.Native.Nat.{ℕ, _+_}
 use mathlib.Core.Bool.{true, false}
 use mathlib.Core.List.{List}
-use mathlib.Core.Path.{_≡_, sym, _∙_}
+use mathlib.Core.Path.{_≡_, sym, subst, _∙_}
 use borrow.Author.Tests.{eq-eqb, ne-eqb}
 use Rattle.octets.specs.Octets.{be16At}
 use Rattle.jpeg_rules.specs.declared.Fault.{Fault}
 use Rattle.jpeg_rules.specs.declared.Fault.the-variants.{Short, BadLayer}
-use Rattle.jpeg_rules.specs.declared.Found.{Found}
 use Rattle.jpeg_rules.specs.declared.Found.the-variants.{At, Nothing}
+use Rattle.jpeg_rules.specs.declared.Marker.the-variants.{Code}
 use Rattle.jpeg_rules.specs.declared.Reach.{Reach}
 use Rattle.jpeg_rules.specs.declared.Seg.{Seg}
 use Rattle.jpeg_rules.specs.declared.Seg.the-variants.{Body, Refused}
 use Rattle.jpeg_rules.specs.declared.Turn.{Turn}
 use Rattle.jpeg_rules.specs.declared.Turn.the-variants.{Go, Stop}
+use Rattle.jpeg_rules.specs.declared.Walk.{Walk}
 use Rattle.jpeg_rules.specs.declared.Walk.the-variants.{Ends}
+use Rattle.jpeg_rules.specs.Marker.{markerOf}
 use Rattle.jpeg_rules.specs.Walk.{segOf, scanOf, framed, passed, refused, frameBodyOf, frameOf, scanStepOf, endOf}
+use Rattle.jpeg_scan.specs.declared.Next.{Next}
+use Rattle.jpeg_scan.specs.Search.{Shows}
 use Rattle.jpeg_segment.proofs.Whole.{room}
+use Rattle.jpeg_marks.specs.declared.Step.{Step}
+use Rattle.jpeg_marks.specs.Step.{Steps}
 
 -- ---- frame_body and frame_step
 module _ (s : List ℕ) (st : Reach) (n next : ℕ) {h : ℕ} (e : h ≡ be16At s (n + 3)) where
@@ -59,23 +65,25 @@ pub ruleset frame-laws = (room, frame-again, frame-early, frame-bad, frame-whole
 
 -- ---- scan_step
 module _ (s : List ℕ) (st : Reach) (n : ℕ) where
-  pub scan-early : st .framed ≡ false → refused (BadLayer (st .at)) ≡ scanStepOf s st n
-  unfolding scanStepOf
+  pub scan-early : st .framed ≡ false → Steps s (Step.Stop (Walk.Refused (BadLayer (st .at)))) (scanStepOf s st n)
+  unfolding scanStepOf Steps
   scan-early f = simp f
 
   module _ (f : st .framed ≡ true) {g : Seg} (z : g ≡ segOf s n 2) where
-    pub scan-bad : {x : Fault} → g ≡ Refused x → refused x ≡ scanStepOf s st n
-    unfolding scanStepOf
+    pub scan-bad : {x : Fault} → g ≡ Refused x → Steps s (Step.Stop (Walk.Refused x)) (scanStepOf s st n)
+    unfolding scanStepOf Steps
     scan-bad b = simp (f, sym z ∙ b)
 
-    module _ {next : ℕ} (b : g ≡ Body next) {r : Found} (y : r ≡ scanOf s next) where
-      pub scan-open : r ≡ Nothing → refused (Short next) ≡ scanStepOf s st n
-      unfolding scanStepOf
-      scan-open e = simp (f, sym z ∙ b, sym y ∙ e)
+    module _ {from : ℕ} (b : g ≡ Body from) {r : Next} (y : Shows s r (scanOf s from)) where
+      pub scan-open : r ≡ Next.Nothing → Steps s (Step.Stop (Walk.Refused (Short from))) (scanStepOf s st n)
+      unfolding scanStepOf Steps Shows
+      scan-open e = let w : scanOf s from ≡ Nothing = subst (λ (x : Next). Shows s x (scanOf s from)) e y in simp (f, sym z ∙ b, w)
 
-      pub scan-whole : {p : ℕ} → r ≡ At p → Go (passed st p) ≡ scanStepOf s st n
-      unfolding scanStepOf
-      scan-whole e = simp (f, sym z ∙ b, sym y ∙ e)
+      pub scan-whole : {p c next : ℕ} → r ≡ Next.At p c next → Steps s (Step.Go (passed st p) (Code c next)) (scanStepOf s st n)
+      unfolding scanStepOf Steps Shows
+      scan-whole {p} {c} {next} e =
+          let w : (scanOf s from ≡ At p) × (markerOf s p ≡ Code c next) = subst (λ (x : Next). Shows s x (scanOf s from)) e y in
+          (simp (f, sym z ∙ b, w .0), sym (w .1))
 
 pub ruleset scan-laws = (scan-early, scan-bad, scan-open, scan-whole)
 

@@ -3,13 +3,15 @@ ghost use mathlib.Core.Path.{_≡_};
 ghost use Prim.Native.Nat.{_≤_};
 ghost use lib.ListN.{length};
 ghost use Rattle.jpeg_rules.specs.Walk.{frameBodyOf, frameOf, scanStepOf, endOf};
+ghost use Rattle.jpeg_marks.specs.Step.{Steps};
 ghost use Rattle.jpeg_segment.specs.Room.{Room};
 use jpeg_rules::Fault;
-use jpeg_rules::Found;
+use jpeg_rules::Marker;
 use jpeg_rules::Reach;
 use jpeg_rules::Seg;
 use jpeg_rules::Turn;
 use jpeg_rules::Walk;
+use jpeg_scan::Next;
 
 // T.81 B.2.2: a precision octet stands before the number of lines, and that before the samples a line.
 fn frame_body(s: &[u8], st: Reach, n: usize, next: usize) -> Turn
@@ -51,28 +53,37 @@ pub fn frame_step(s: &[u8], st: Reach, n: usize) -> Turn
     }
 }
 
-// T.81 B.2.3: the scan header's components are not read; the data after it ends at the next marker.
-pub fn scan_step(s: &[u8], st: Reach, n: usize) -> Turn
+// One marker on, with the marker that is due there; or the walk's answer.
+pub enum Step {
+    Go { st: Reach, mark: Marker },
+    Stop(Walk),
+}
+
+// T.81 B.2.3: the scan header's components are not read; the data after it ends at the next marker, which is not looked for again.
+pub fn scan_step(s: &[u8], st: Reach, n: usize) -> Step
     requires { ⌜ n ≤ length (now s) ⌝ }
-    ensures { λ r. ⌜ r ≡ scanStepOf (now (s .entry)) st n ⌝ }
+    ensures { λ r. ⌜ Steps (now (s .entry)) r (scanStepOf (now (s .entry)) st n) ⌝ }
 {
     if st.framed {
         match jpeg_segment::seg_at(s, n, 2) {
-            Seg::Refused(f) => Turn::Stop(Walk::Refused(f)),
-            Seg::Body(next) => match jpeg_marker::next_marker(s, next) {
-                Found::Nothing => Turn::Stop(Walk::Refused(Fault::Short(next))),
-                Found::At(p) => Turn::Go(Reach {
-                    at: p,
-                    framed: true,
-                    scanned: true,
-                    res: st.res,
-                    width: st.width,
-                    height: st.height,
-                }),
+            Seg::Refused(f) => Step::Stop(Walk::Refused(f)),
+            Seg::Body(from) => match jpeg_scan::next_marker(s, from) {
+                Next::Nothing => Step::Stop(Walk::Refused(Fault::Short(from))),
+                Next::At { place, code, next } => Step::Go {
+                    st: Reach {
+                        at: place,
+                        framed: true,
+                        scanned: true,
+                        res: st.res,
+                        width: st.width,
+                        height: st.height,
+                    },
+                    mark: Marker::Code { code, next },
+                },
             },
         }
     } else {
-        Turn::Stop(Walk::Refused(Fault::BadLayer(st.at)))
+        Step::Stop(Walk::Refused(Fault::BadLayer(st.at)))
     }
 }
 

@@ -22,10 +22,11 @@ use Rattle.jpeg_rules.specs.declared.Turn.the-variants.{Stop}
 use Rattle.jpeg_rules.specs.declared.Walk.{Walk}
 use Rattle.jpeg_rules.specs.declared.Walk.the-variants.{Ends}
 use Rattle.jpeg_rules.specs.Marker.{classOf, markerOf}
-use Rattle.jpeg_rules.specs.Grammar.{Piece, alone, segment, lengthed, octetsOf, piecesOf, Fits, Good, isScan, tagged, resolution, Each, Scanned, Layer}
+use Rattle.jpeg_rules.specs.Grammar.{marker, Piece, alone, segment, lengthed, octetsOf, piecesOf, Fits, Good, isScan, tagged, resolution, Each, Scanned, Layer}
 use Rattle.jpeg_rules.specs.Walk.{segOf, resolves, tagOf, framed, moved, begun, walkOf}
 use Rattle.laws.proofs.Cases.{cond-with, clash}
-use Rattle.jpeg_rules.proofs.Leaves.{marker-back, two-stand}
+use Rattle.jpeg_rules.proofs.Leaves.{two-stand}
+use Rattle.jpeg_rules.proofs.Runs.{length-marker, marker-back}
 use Rattle.jpeg_rules.proofs.Turns.{number-is}
 use Rattle.jpeg_rules.proofs.Walks.{Onward, by-alone, by-frame, by-scan, by-plain, by-tag, turn-told, Walks, stops, goes, walks-from}
 use Rattle.jpeg_rules.proofs.Tail.{Stood, stood, Over, alone-over, segment-over, plain-test, gives-test, Tail, tail-back}
@@ -35,10 +36,12 @@ use Rattle.jpeg_rules.proofs.There.{length-lengthed, says-resolves, res
 
 pub record Head (s : List ℕ) (main : ℕ) (st : Reach) (e w h r : ℕ) : Type 0 where
   pub before : List Piece
+  pub fill : ℕ
   pub code : ℕ
   pub body : List ℕ
   pub after : List Piece
-  pub octets : drop (st .at) s ≡ piecesOf before ++ (lengthed code body ++ (piecesOf after ++ (0xFF ∷ 0xD9 ∷ drop e s)))
+  pub last : ℕ
+  pub octets : drop (st .at) s ≡ piecesOf before ++ (lengthed fill code body ++ (piecesOf after ++ (marker last 0xD9 ++ drop e s)))
   pub early : Each (λ p. Good p × (isScan p ≡ false)) before
   pub late : Each Good after
   pub frame : classOf code ≡ Frame
@@ -49,7 +52,7 @@ pub record Head (s : List ℕ) (main : ℕ) (st : Reach) (e w h r : ℕ) : Type 
   pub scanned : Scanned after
   pub res : r ≡ cond (eqb (st .res) 0) (resolution before) (st .res)
   pub found : (st .res ≢ 0) ⊎ (resolves main r ≡ true)
-  pub ends : e ≡ st .at + (length (piecesOf before) + (2 + (length body + 2) + (length (piecesOf after) + 2)))
+  pub ends : e ≡ st .at + (length (piecesOf before) + (fill + 2 + (length body + 2) + (length (piecesOf after) + (last + 2))))
   pub inside : e ≤ length s
 
 module _ (s : List ℕ) (o : Octets s) (main e w h r : ℕ) where
@@ -65,12 +68,14 @@ module _ (s : List ℕ) (o : Octets s) (main e w h r : ℕ) where
       let z = k .ends in
       record {
         before = p ∷ k .before;
+        fill = k .fill;
         code = k .code;
         body = k .body;
         after = k .after;
+        last = k .last;
         octets =
             y .stands ∙ ap (λ (x : List ℕ). octetsOf p ++ x) (k .octets)
-            ∙ sym (append-assoc (octetsOf p) (piecesOf (k .before)) (lengthed (k .code) (k .body) ++ (piecesOf (k .after) ++ (0xFF ∷ 0xD9 ∷ drop e s))));
+            ∙ sym (append-assoc (octetsOf p) (piecesOf (k .before)) (lengthed (k .fill) (k .code) (k .body) ++ (piecesOf (k .after) ++ (marker (k .last) 0xD9 ++ drop e s))));
         early = ((y .good, ns), k .early);
         late = k .late;
         frame = k .frame;
@@ -99,24 +104,26 @@ module _ (s : List ℕ) (o : Octets s) (main e w h r : ℕ) where
   head-frame st t c n next m k ns d g nh nw q y =
       let x = stood s o (st .at) c n 8 next (omega arith) m g in
       let a : t .at ≡ next = at-of q in
-      let b : n ≡ st .at + 2 = marker-back s (st .at) c n m .0 in
+      let b = x .after in
       let en = x .enough in
       let ends = x .ends in
       let z = y .ends in
       let h1 : be16At s (n + 3) ≡ be16At (x .body) 1 =
-      number-is s main st c (x .body) (drop next s) (x .stands) 1 (n + 3) (let u : st .at + 2 + 2 + 1 ≡ n + 3 = omega arith in u) (omega arith) in
+      number-is s main st (x .fill) c (x .body) (drop next s) (x .other) (x .stands) 1 (n + 3) (let u : st .at + x .fill + 2 + 2 + 1 ≡ n + 3 = omega arith in u) (omega arith) in
       let w1 : be16At s (n + 5) ≡ be16At (x .body) 3 =
-      number-is s main st c (x .body) (drop next s) (x .stands) 3 (n + 5) (let u : st .at + 2 + 2 + 3 ≡ n + 5 = omega arith in u) (omega arith) in
+      number-is s main st (x .fill) c (x .body) (drop next s) (x .other) (x .stands) 3 (n + 5) (let u : st .at + x .fill + 2 + 2 + 3 ≡ n + 5 = omega arith in u) (omega arith) in
       let th : h ≡ be16At s (n + 3) = sym (y .height) ∙ ap (λ (v : Reach). v .height) (sym q) in
       let tw : w ≡ be16At s (n + 5) = sym (y .width) ∙ ap (λ (v : Reach). v .width) (sym q) in
       let ts : t .scanned ≡ false = ap (λ (v : Reach). v .scanned) (sym q) ∙ ns in
       let tr : st .res ≡ r = sym (res-of q) ∙ y .res in
       record {
         before = [];
+        fill = x .fill;
         code = c;
         body = x .body;
         after = y .after;
-        octets = x .stands ∙ ap (λ (l : List ℕ). lengthed c (x .body) ++ l) (ap (λ (j : ℕ). drop j s) (sym a) ∙ y .octets);
+        last = y .last;
+        octets = x .stands ∙ ap (λ (l : List ℕ). lengthed (x .fill) c (x .body) ++ l) (ap (λ (j : ℕ). drop j s) (sym a) ∙ y .octets);
         early = tt;
         late = y .good;
         frame = k;
@@ -134,16 +141,16 @@ module _ (s : List ℕ) (o : Octets s) (main e w h r : ℕ) where
   found-same : (st t : Reach) → t .res ≡ st .res → Head s main t e w h r → (st .res ≢ 0) ⊎ (resolves main r ≡ true)
   found-same st t q k = ⊎-map (λ (d : t .res ≢ 0) z. d (q ∙ z)) (λ (v : resolves main r ≡ true). v) (k .found)
 
-  head-tag : (st t : Reach) (c next v : ℕ) (x : Stood s (st .at) c 2 next) → classOf c ≡ Segment → tagOf s st c (st .at + 2) ≡ Gives v → resolves main v ≡ true
+  head-tag : (st t : Reach) (c n next v : ℕ) (x : Stood s (st .at) c n 2 next) → classOf c ≡ Segment → tagOf s st c n ≡ Gives v → resolves main v ≡ true
       → moved st next v ≡ t → Head s main t e w h r → Head s main st e w h r
   unfolding octetsOf Good isScan resolution
-  head-tag st t c next v x k gv ok q y =
-      let g = gives-test s main st c next x v gv in
+  head-tag st t c n next v x k gv ok q y =
+      let g = gives-test s main st c n next x v gv in
       let b = says-and (says-eq (st .res) 0) (says-true (tagged c (x .body))) .told (g .0) in
       let vb : v ≡ be16At (x .body) 8 = g .1 in
       let nz = resolves-nonzero s main v ok in
       let tr : t .res ≡ v = res-of q in
-      head-more st t (segment c (x .body)) (segment-over s st t c next x k (at-of q)) refl
+      head-more st t (segment (x .fill) c (x .body)) (segment-over s st t c n next x k (at-of q)) refl
       (λ ps.
       ap (λ (m : ℕ). cond (eqb m 0) (resolution ps) m) tr
       ∙ ap (λ (z : Bool). cond z (resolution ps) v) (ne-eqb v 0 nz)
@@ -161,7 +168,8 @@ module _ (s : List ℕ) (o : Octets s) (main e w h r : ℕ) where
   unfolding octetsOf Good isScan resolution
   head-onward st t f ns (by-alone c n m k q) go frame =
       let tr : t .res ≡ st .res = res-of q in
-      head-more st t alone (alone-over s st t c n m k (at-of q)) refl
+      let x = marker-back s (st .at) c n m in
+      head-more st t (alone (x .fill)) (alone-over s st t c n x k (at-of q)) refl
       (λ ps. ap (λ (m : ℕ). cond (eqb m 0) (resolution ps) m) tr) (found-same st t tr)
       (go (ap (λ (v : Reach). v .framed) (sym q) ∙ f) (ap (λ (v : Reach). v .scanned) (sym q) ∙ ns))
   head-onward st t f ns (by-frame c n next m k nf nr g nh nw q) go frame =
@@ -169,17 +177,15 @@ module _ (s : List ℕ) (o : Octets s) (main e w h r : ℕ) where
   head-onward st t f ns (by-scan c n next p m k fr g fo q) go frame = absurd (false≢true (sym f ∙ fr))
   head-onward st t f ns (by-plain c n next m k g pl q) go frame =
       let x = stood s o (st .at) c n 2 next (omega arith) m g in
-      let b : n ≡ st .at + 2 = marker-back s (st .at) c n m .0 in
       let tr : t .res ≡ st .res = res-of q in
-      let pt = plain-test s main st c next x (ap (tagOf s st c) (sym b) ∙ pl) in
-      head-more st t (segment c (x .body)) (segment-over s st t c next x k (at-of q)) refl
-      (λ ps. ap (λ (m : ℕ). cond (eqb m 0) (resolution ps) m) tr ∙ res-plain s main (st .res) c (x .body) ps pt)
+      let pt = plain-test s main st c n next x pl in
+      head-more st t (segment (x .fill) c (x .body)) (segment-over s st t c n next x k (at-of q)) refl
+      (λ ps. ap (λ (m : ℕ). cond (eqb m 0) (resolution ps) m) tr ∙ res-plain s main (st .res) (x .fill) c (x .body) ps pt)
       (found-same st t tr)
       (go (ap (λ (v : Reach). v .framed) (sym q) ∙ f) (ap (λ (v : Reach). v .scanned) (sym q) ∙ ns))
   head-onward st t f ns (by-tag c n next v m k g gv ok q) go frame =
       let x = stood s o (st .at) c n 2 next (omega arith) m g in
-      let b : n ≡ st .at + 2 = marker-back s (st .at) c n m .0 in
-      head-tag st t c next v x k (ap (tagOf s st c) (sym b) ∙ gv) ok q
+      head-tag st t c n next v x k gv ok q
       (go (ap (λ (v : Reach). v .framed) (sym q) ∙ f) (ap (λ (v : Reach). v .scanned) (sym q) ∙ ns))
 
   head-back : {st : Reach} {x : Walk} → Walks s main st x → x ≡ Ends e w h r → st .framed ≡ false → st .scanned ≡ false → Head s main st e w h r
@@ -199,11 +205,12 @@ pub record Walked (s : List ℕ) (start main e w h r : ℕ) : Type 0 where
 module _ (s : List ℕ) (o : Octets s) (start main e w h r : ℕ) where
   walked : start + 2 ≤ length s → getD s start 0 ≡ 0xFF → getD s (start + 1) 0 ≡ 0xD8 → Head s main (begun (start + 2)) e w h r → Walked s start main e w h r
   walked l a b k =
-      let lay : List ℕ = 0xFF ∷ 0xD8 ∷ piecesOf (k .before) ++ (lengthed (k .code) (k .body) ++ (piecesOf (k .after) ++ (0xFF ∷ 0xD9 ∷ []))) in
-      let l1 = length-append (piecesOf (k .before)) (lengthed (k .code) (k .body) ++ (piecesOf (k .after) ++ (0xFF ∷ 0xD9 ∷ []))) in
-      let l2 = length-append (lengthed (k .code) (k .body)) (piecesOf (k .after) ++ (0xFF ∷ 0xD9 ∷ [])) in
-      let l3 = length-append (piecesOf (k .after)) (0xFF ∷ 0xD9 ∷ []) in
-      let l4 = length-lengthed (k .code) (k .body) in
+      let lay : List ℕ = 0xFF ∷ 0xD8 ∷ piecesOf (k .before) ++ (lengthed (k .fill) (k .code) (k .body) ++ (piecesOf (k .after) ++ marker (k .last) 0xD9)) in
+      let l1 = length-append (piecesOf (k .before)) (lengthed (k .fill) (k .code) (k .body) ++ (piecesOf (k .after) ++ marker (k .last) 0xD9)) in
+      let l2 = length-append (lengthed (k .fill) (k .code) (k .body)) (piecesOf (k .after) ++ marker (k .last) 0xD9) in
+      let l3 = length-append (piecesOf (k .after)) (marker (k .last) 0xD9) in
+      let l4 = length-lengthed (k .fill) (k .code) (k .body) in
+      let l5 = length-marker (k .last) 0xD9 in
       let en = k .ends in
       let size : length lay ≡ e - start = omega arith in
       let split : drop start s ≡ lay ++ drop e s =
@@ -215,9 +222,11 @@ module _ (s : List ℕ) (o : Octets s) (start main e w h r : ℕ) where
         layer =
             record {
               before = k .before;
+              fill = k .fill;
               code = k .code;
               body = k .body;
               after = k .after;
+              last = k .last;
               octets = cut;
               early = k .early;
               late = k .late;

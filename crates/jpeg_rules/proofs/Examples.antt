@@ -4,7 +4,7 @@ use Prim.Native.Nat.{ℕ}
 use mathlib.Core.Path.{_≡_, refl}
 use mathlib.Core.List.{List, [], _∷_, _++_}
 use Rattle.octets.specs.Octets.{be16At, begins, standsAt}
-use Rattle.jpeg_rules.specs.declared.Fault.the-variants.{BadRes, BadLayer}
+use Rattle.jpeg_rules.specs.declared.Fault.the-variants.{Short, BadRes, BadLayer}
 use Rattle.jpeg_rules.specs.declared.Walk.the-variants.{Ends, Refused}
 use Rattle.jpeg_rules.specs.Marker.{classOf, markerOf}
 use Rattle.jpeg_rules.specs.Walk.{segOf, scanOf, tagOf, frameBodyOf, frameOf, scanStepOf, segmentOf, endOf, turnOf, walkOf}
@@ -58,3 +58,25 @@ walk-no-resolution = refl
 pub walk-two-frames : walkOf (opening ++ tag200 ++ frame ++ frame ++ scan ++ closing) 0 400 ≡ Refused (BadLayer 26)
 unfolding walkOf turnOf markerOf classOf segOf scanOf tagOf frameOf frameBodyOf scanStepOf segmentOf endOf standsAt begins be16At opening closing tag200 frame scan
 walk-two-frames = refl
+
+-- ---- fill
+
+unfoldable pub fill : List ℕ
+fill = 0xFF ∷ 0xFF ∷ []
+
+-- before each marker but the first, a restart marker in scan data too: the end is so much later, and nothing else changes
+pub walk-filled : walkOf (opening ++ fill ++ tag200 ++ fill ++ frame ++ fill ++ scan ++ fill ++ (0xFF ∷ 0xD3 ∷ 0x12 ∷ []) ++ fill ++ closing ++ closing) 0 400 ≡ Ends 53 8 16 200
+unfolding walkOf turnOf markerOf classOf segOf scanOf tagOf frameOf frameBodyOf scanStepOf segmentOf endOf standsAt begins be16At opening closing tag200 frame scan fill
+walk-filled = refl
+
+-- FF FF 00 in a scan and outside, at the first FF; fill before FF D8
+pub walk-stuffed : (walkOf (opening ++ tag200 ++ frame ++ scan ++ (0xFF ∷ 0xFF ∷ 0x00 ∷ []) ++ closing) 0 400 ≡ Refused (BadLayer 38))
+    × (walkOf (opening ++ tag200 ++ (0xFF ∷ 0xFF ∷ 0x00 ∷ []) ++ frame ++ scan ++ closing) 0 400 ≡ Refused (BadLayer 16))
+    × (walkOf (0xFF ∷ opening ++ tag200 ++ frame ++ scan ++ closing) 0 400 ≡ Refused (BadLayer 0))
+unfolding walkOf turnOf markerOf classOf segOf scanOf tagOf frameOf frameBodyOf scanStepOf segmentOf endOf standsAt begins be16At opening closing tag200 frame scan
+walk-stuffed = (refl, refl, refl)
+
+-- a run that the list cuts: outside a scan at its first FF, in scan data at the data's first octet
+pub walk-cut : (walkOf (opening ++ tag200 ++ fill) 0 400 ≡ Refused (Short 16)) × (walkOf (opening ++ tag200 ++ frame ++ scan ++ fill) 0 400 ≡ Refused (Short 31))
+unfolding walkOf turnOf markerOf classOf segOf scanOf tagOf frameOf frameBodyOf scanStepOf segmentOf endOf standsAt begins be16At opening tag200 frame scan fill
+walk-cut = (refl, refl)

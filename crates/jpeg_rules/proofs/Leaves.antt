@@ -1,27 +1,27 @@
--- The leaves of the walk: a choice by cases, the codes of each class, and what a marker, a segment and scan data say of the octets.
+-- The leaves of the walk: the codes of each class, which runs are data, and what a segment's length says of the octets. A run of FF and a marker
+-- are in Runs.antt, scan data in Scans.antt.
 -- Assumes nothing.
 use Prim.Native.Nat.{ℕ, suc, _+_, _-_, _≤_, _<_}
 use native.Mathlib.Omega.{arith}
 use mathlib.Core.Path.{_≡_, refl, sym, ap, _∙_}
 use mathlib.Core.Logic.{_⊎_, inl, inr, _≢_, ⊎-elim}
-use mathlib.Core.Bool.{true, false, _||_, false≢true}
+use mathlib.Core.Bool.{true, false, _&&_, _||_, false≢true}
 use mathlib.Core.List.{List, [], _∷_, _++_}
 use lib.ListN.{length, getD, take, drop, length-append, length-drop, take-append-drop}
 use lib.Seq.{drop-drop, length-take-le}
 use lib.Dec.{eqb, leb, ltb}
-use borrow.Author.Tests.{eq-eqb, eqb-true, leb-false, le-ltb, ltb-false}
+use borrow.Author.Tests.{eqb-true, leb-false, le-ltb, ltb-false}
 use Rattle.laws.proofs.Cases.{cond-with, clash}
 use Rattle.octets.specs.Octets.{Octets, be16At, octets16}
 use Rattle.octets.proofs.Laws.{be16-there, be16-stands, be16-bound, drop-next, drop-octet, length-octets16}
-use Rattle.laws.proofs.Says.{Says, says-eq, says-le, says-and, says-or, says-not, says-else, says-false}
+use Rattle.laws.proofs.Says.{Says, says-as, says-eq, says-le, says-and, says-or, says-else, says-false}
 use Rattle.jpeg_rules.specs.declared.Class.{Class}
 use Rattle.jpeg_rules.specs.declared.Class.the-variants.{Alone, Frame, Scan, End, Wrong, Segment}
-use Rattle.jpeg_rules.specs.declared.Marker.the-variants.{Code}
 use Rattle.jpeg_rules.specs.declared.Seg.the-variants.{Body}
-use Rattle.jpeg_rules.specs.Marker.{classOf, markerOf}
+use Rattle.jpeg_rules.specs.Marker.{classOf}
 use Rattle.laws.specs.Tests.{within, among}
-use Rattle.jpeg_rules.specs.Grammar.{DataCode, Fits}
-use Rattle.jpeg_rules.specs.Walk.{segOf, stopsOf}
+use Rattle.jpeg_rules.specs.Grammar.{DataRun, Fits}
+use Rattle.jpeg_rules.specs.Walk.{segOf, dataRun}
 
 -- ---- the codes of each class
 
@@ -74,32 +74,44 @@ pub end-code : (c : ℕ) → classOf c ≡ End → c ≡ 0xD9
 end-code c =
     class-cases c (λ x. x ≡ End → c ≡ 0xD9) (λ h e. clash cc) (λ h e. clash cc) (λ h e. clash cc) (λ h e. h) (λ e. clash cc) (λ h e. clash cc)
 
-pub says-data : (c : ℕ) → Says (eqb c 0x00 || within 0xD0 0xD7 c) (DataCode c)
-says-data c = says-or (says-eq c 0x00) (says-and (says-le 0xD0 c) (says-le c 0xD7))
+-- FF is the code of no marker
+pub class-other : (c : ℕ) (k : Class) → classOf c ≡ k → k ≢ Wrong → c ≢ 0xFF
+unfolding classOf among
+class-other c k e n z = n (sym e ∙ ap classOf z)
 
--- FF and a code of a marker that may stand in a layer ends scan data
-pub says-stop : (a b : ℕ) → Says (stopsOf a b) ((a ≡ 0xFF) × (DataCode b → ⊥))
-unfolding stopsOf
-says-stop a b = says-and (says-eq a 0xFF) (says-not (says-data b))
+pub says-data : (fill c : ℕ) → Says ((eqb c 0x00 && eqb fill 0) || within 0xD0 0xD7 c) (DataRun fill c)
+says-data fill c = says-or (says-and (says-eq c 0x00) (says-eq fill 0)) (says-and (says-le 0xD0 c) (says-le c 0xD7))
 
-pub code-stops : (c : ℕ) → classOf c ≢ Wrong → stopsOf 0xFF c ≡ true
-code-stops c =
-    class-cases c (λ x. x ≢ Wrong → stopsOf 0xFF c ≡ true)
-    (λ h e. stop (λ k. ⊎-elim (λ (z : c ≡ 0x00). omega arith) (λ (z : (0xD0 ≤ c) × (c ≤ 0xD7)). omega arith) k))
-    (λ h e. stop (λ k. ⊎-elim (λ (z : c ≡ 0x00). omega arith) (λ (z : (0xD0 ≤ c) × (c ≤ 0xD7)). omega arith) k))
-    (λ h e. stop (λ k. ⊎-elim (λ (z : c ≡ 0x00). omega arith) (λ (z : (0xD0 ≤ c) × (c ≤ 0xD7)). omega arith) k))
-    (λ h e. stop (λ k. ⊎-elim (λ (z : c ≡ 0x00). omega arith) (λ (z : (0xD0 ≤ c) × (c ≤ 0xD7)). omega arith) k))
-    (λ e. absurd (e refl))
-    (λ h e.
-    stop
-    (λ k.
-    ⊎-elim
-    (λ (z : c ≡ 0x00). ⊎-elim (λ (y : (0xC0 ≤ c) × (c ≤ 0xCF)). omega arith) (λ (y : 0xD8 < c). omega arith) h)
-    (λ (z : (0xD0 ≤ c) × (c ≤ 0xD7)). ⊎-elim (λ (y : (0xC0 ≤ c) × (c ≤ 0xCF)). omega arith) (λ (y : 0xD8 < c). omega arith) h)
-    k))
+-- a run of FF, of which all but one are fill
+pub says-run : (run fill c : ℕ) → run ≡ fill + 1 → Says (dataRun run c) (DataRun fill c)
+unfolding dataRun
+says-run run fill c e =
+    says-or (says-and (says-eq c 0x00) (says-as (says-eq run 1) (λ q. omega arith) (λ q. omega arith))) (says-and (says-le 0xD0 c) (says-le c 0xD7))
+
+-- the code of a marker that may stand in a layer ends scan data, whatever its fill
+pub code-stops : (fill c : ℕ) → classOf c ≢ Wrong → DataRun fill c → ⊥
+code-stops fill c =
+    class-cases c (λ x. x ≢ Wrong → DataRun fill c → ⊥)
+    (λ h e k. outside (omega arith) (omega arith) k)
+    (λ h e k. outside (omega arith) (omega arith) k)
+    (λ h e k. outside (omega arith) (omega arith) k)
+    (λ h e k. outside (omega arith) (omega arith) k)
+    (λ e k. e refl)
+    (λ h e k. outside (λ z. among-range h z) (λ z. beyond h z) k)
   where
-    stop : ((c ≡ 0x00) ⊎ ((0xD0 ≤ c) × (c ≤ 0xD7)) → ⊥) → stopsOf 0xFF c ≡ true
-    stop k = says-stop 0xFF c .shown (refl, k)
+    outside : (c ≡ 0x00 → ⊥) → ((0xD0 ≤ c) × (c ≤ 0xD7) → ⊥) → DataRun fill c → ⊥
+    outside m n k = ⊎-elim (λ (z : (c ≡ 0x00) × (fill ≡ 0)). m (z .0)) n k
+
+    among-range : ((0xC0 ≤ c) × (c ≤ 0xCF)) ⊎ (0xD8 < c) → c ≡ 0x00 → ⊥
+    among-range h z = ⊎-elim (λ (y : (0xC0 ≤ c) × (c ≤ 0xCF)). omega arith) (λ (y : 0xD8 < c). omega arith) h
+
+    beyond : ((0xC0 ≤ c) × (c ≤ 0xCF)) ⊎ (0xD8 < c) → (0xD0 ≤ c) × (c ≤ 0xD7) → ⊥
+    beyond h z = ⊎-elim (λ (y : (0xC0 ≤ c) × (c ≤ 0xCF)). omega arith) (λ (y : 0xD8 < c). omega arith) h
+
+-- FF is no code of data
+pub data-other : (fill c : ℕ) → DataRun fill c → c ≢ 0xFF
+data-other fill c k q =
+    ⊎-elim (λ (w : (c ≡ 0x00) × (fill ≡ 0)). let z = w .0 in omega arith) (λ (w : (0xD0 ≤ c) × (c ≤ 0xD7)). omega arith) k
 
 -- ---- octets that stand at a place
 
@@ -124,30 +136,6 @@ module _ (s : List ℕ) (at : ℕ) where
       let z : at + 1 + 1 ≡ at + 2 = omega arith in
       drop-octet s at (omega arith)
       ∙ ap (λ (l : List ℕ). getD s at 0 ∷ l) (drop-octet s (at + 1) (omega arith) ∙ ap (λ (k : ℕ). getD s (at + 1) 0 ∷ drop k s) z)
-
-  -- ---- a marker
-
-  pub marker-there : (c : ℕ) (r : List ℕ) → drop at s ≡ 0xFF ∷ c ∷ r → markerOf s at ≡ Code c (at + 2)
-  unfolding markerOf
-  marker-there c r e =
-      let t = two-there 0xFF c r e in
-      simp (le-ltb (length s) (at + 2) (t .0), eq-eqb (getD s at 0) 0xFF (t .1), t .2)
-
-  pub marker-back : (c n : ℕ) → markerOf s at ≡ Code c n → (n ≡ at + 2) × (at + 2 ≤ length s) × (drop at s ≡ 0xFF ∷ c ∷ drop n s)
-  unfolding markerOf
-  marker-back c n =
-      cond-with (λ x. x ≡ Code c n → (n ≡ at + 2) × (at + 2 ≤ length s) × (drop at s ≡ 0xFF ∷ c ∷ drop n s)) (ltb (length s) (at + 2))
-      (λ l e. clash cc)
-      (λ l.
-      cond-with (λ x. x ≡ Code c n → (n ≡ at + 2) × (at + 2 ≤ length s) × (drop at s ≡ 0xFF ∷ c ∷ drop n s)) (eqb (getD s at 0) 0xFF)
-      (λ f e.
-      let h = ltb-false (length s) (at + 2) l in
-      let g = eqb-true (getD s at 0) 0xFF f in
-      let a : getD s (at + 1) 0 ≡ c = cc in
-      let b : at + 2 ≡ n = cc in
-      let d = two-stand h in
-      (sym b, h, cc))
-      (λ f e. clash cc))
 
 -- ---- a segment by its length
 

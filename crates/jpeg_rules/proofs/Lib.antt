@@ -1,4 +1,5 @@
 pub mod Leaves
+pub mod Runs
 pub mod Scans
 pub mod Turns
 pub mod Walks

@@ -28,10 +28,11 @@ use Rattle.jpeg_rules.specs.declared.Walk.{Walk}
 use Rattle.jpeg_rules.specs.declared.Turn.{Turn}
 use Rattle.jpeg_rules.specs.declared.Turn.the-variants.{Go, Stop}
 use Rattle.jpeg_rules.specs.Marker.{classOf, markerOf}
-use Rattle.jpeg_rules.specs.Grammar.{Piece, alone, segment, scan, lengthed, Good}
+use Rattle.jpeg_rules.specs.Grammar.{marker, Piece, alone, segment, scan, lengthed, Good}
 use Rattle.jpeg_rules.specs.Walk.{segOf, scanOf, resolves, tagOf, framed, passed, moved, refused, onBody, onFound, onTag, frameBodyOf, frameOf, scanStepOf, segmentOf, endOf, markOf, onMarker, turnOf, begun, walkOf}
-use Rattle.jpeg_rules.specs.Faults.{Known, heightOf, widthOf, resOf, FrameDue, May, past, framing, Next, any, marker, Least, of-segment, of-scan, of-frame, BadLength, cut-length, small, cut-body, BadMarker, cut, no-marker, wrong-code, second-frame, no-resolution, no-frame, no-scan, bad-length, no-height, no-width, bad-resolution, endless, BadFrom, here, past-piece, past-frame, BadLayer, cut-start, no-start, started}
-use Rattle.jpeg_rules.proofs.Leaves.{scan-code, says-stop, two-stand, marker-back}
+use Rattle.jpeg_rules.specs.Faults.{Known, heightOf, widthOf, resOf, FrameDue, May, past, framing, Next, any, no-data, Least, of-segment, of-scan, of-frame, BadLength, cut-length, small, cut-body, BadMarker, cut, cut-run, no-marker, wrong-code, second-frame, no-resolution, no-frame, no-scan, bad-length, no-height, no-width, bad-resolution, endless, BadFrom, here, past-piece, past-frame, BadLayer, cut-start, no-start, started}
+use Rattle.jpeg_rules.proofs.Leaves.{scan-code, two-stand}
+use Rattle.jpeg_rules.proofs.Runs.{fillEnd, Marked, marker-by, marker-back, run-cut}
 use Rattle.jpeg_rules.proofs.Turns.{number-is}
 use Rattle.jpeg_rules.proofs.Scans.{scan-back, none-endless}
 use Rattle.jpeg_rules.proofs.Tail.{Stood, stood, Over, alone-over, segment-over, scan-over, plain-test, gives-test}
@@ -91,11 +92,11 @@ module _ (s : List ℕ) (o : Octets s) (main : ℕ) (st : Reach) (q : Bool) wher
   placed-blames F i j z b = refused-blames (F j) (subst (λ (n : ℕ). Blame (F n)) z b)
 
   module _ (c n : ℕ) (m : markerOf s (st .at) ≡ Code c n) where
-    here-is : n ≡ st .at + 2
-    here-is = marker-back s (st .at) c n m .0
+    abbrev mk : Marked s (st .at) c n
+    mk = marker-back s (st .at) c n m
 
-    by-code : {f : Fault} → BadMarker main k (st .at) (0xFF ∷ c ∷ drop n s) f → Blame f
-    by-code {f} b = subst (λ (l : List ℕ). BadMarker main k (st .at) l f) (sym (marker-back s (st .at) c n m .2)) b
+    by-code : {f : Fault} → BadMarker main k (st .at) (marker (mk .fill) c ++ drop n s) f → Blame f
+    by-code {f} b = subst (λ (l : List ℕ). BadMarker main k (st .at) l f) (sym (mk .stands)) b
 
     body-blames : (least : ℕ) (go : ℕ → Turn) → Least k c least → ((next : ℕ) → segOf s n least ≡ Body next → Blames (go next))
         → Blames (onBody (segOf s n least) go)
@@ -105,32 +106,32 @@ module _ (s : List ℕ) (o : Octets s) (main : ℕ) (st : Reach) (q : Bool) wher
         by (Body next) e = y next e
         by (Seg.Refused f) e =
             refused-blames f
-            (by-code (bad-length c least (drop n s) ln (subst (λ (j : ℕ). BadLength least j (drop n s) f) here-is (length-blames s o least n f e))))
+            (by-code (bad-length (mk .fill) c least (drop n s) ln (subst (λ (j : ℕ). BadLength least j (drop n s) f) (mk .ends) (length-blames s o least n f e))))
 
-    by-body : (least next : ℕ) (x : Stood s (st .at) c least next) {f : Fault} → BadMarker main k (st .at) (lengthed c (x .body) ++ drop next s) f → Blame f
+    by-body : (least next : ℕ) (x : Stood s (st .at) c n least next) {f : Fault} → BadMarker main k (st .at) (lengthed (x .fill) c (x .body) ++ drop next s) f → Blame f
     by-body least next x {f} b = subst (λ (l : List ℕ). BadMarker main k (st .at) l f) (sym (x .stands)) b
 
     frame-blames : classOf c ≡ Frame → Blames (frameOf s st n)
     unfolding frameOf frameBodyOf
     frame-blames w =
-        let hi = here-is in
-        cond-with Blames (st .framed) (λ e. refused-blames _ (by-code (second-frame c (drop n s) w e))) λ nf.
-        cond-with Blames (eqb (st .res) 0) (λ e. refused-blames _ (by-code (no-resolution c (drop n s) w nf (eqb-true (st .res) 0 e)))) λ nr.
+        cond-with Blames (st .framed) (λ e. refused-blames _ (by-code (second-frame (mk .fill) c (drop n s) w e))) λ nf.
+        cond-with Blames (eqb (st .res) 0) (λ e. refused-blames _ (by-code (no-resolution (mk .fill) c (drop n s) w nf (eqb-true (st .res) 0 e)))) λ nr.
         let due : FrameDue k c = record { code = w; first = nf; resolved = eqb-false (st .res) 0 nr } in
         body-blames 8 (λ (next : ℕ). frameBodyOf s st n next) (of-frame due) λ next g.
         let x = stood s o (st .at) c n 8 next (omega arith) m g in
         let en = x .enough in
-        let a : be16At s (n + 3) ≡ heightOf (x .body) = number-is s main st c (x .body) (drop next s) (x .stands) 1 (n + 3) (omega arith) (omega arith) in
-        let b : be16At s (n + 5) ≡ widthOf (x .body) = number-is s main st c (x .body) (drop next s) (x .stands) 3 (n + 5) (omega arith) (omega arith) in
+        let hi = x .after in
+        let a : be16At s (n + 3) ≡ heightOf (x .body) = number-is s main st (x .fill) c (x .body) (drop next s) (x .other) (x .stands) 1 (n + 3) (omega arith) (omega arith) in
+        let b : be16At s (n + 5) ≡ widthOf (x .body) = number-is s main st (x .fill) c (x .body) (drop next s) (x .other) (x .stands) 3 (n + 5) (omega arith) (omega arith) in
         cond-with Blames (eqb (be16At s (n + 3)) 0)
         (λ e.
-        placed-blames Fault.BadLayer (st .at + 5) (n + 3) (omega arith)
-        (by-body 8 next x (no-height c (x .body) (drop next s) due (x .fits, en) (sym a ∙ eqb-true (be16At s (n + 3)) 0 e)))) λ nh.
+        placed-blames Fault.BadLayer (st .at + x .fill + 5) (n + 3) (omega arith)
+        (by-body 8 next x (no-height (x .fill) c (x .body) (drop next s) due (x .fits, en) (sym a ∙ eqb-true (be16At s (n + 3)) 0 e)))) λ nh.
         cond-with Blames (eqb (be16At s (n + 5)) 0)
         (λ e.
-        placed-blames Fault.BadLayer (st .at + 7) (n + 5) (omega arith)
+        placed-blames Fault.BadLayer (st .at + x .fill + 7) (n + 5) (omega arith)
         (by-body 8 next x
-        (no-width c (x .body) (drop next s) due (x .fits, en) (λ z. eqb-false (be16At s (n + 3)) 0 nh (a ∙ z)) (sym b ∙ eqb-true (be16At s (n + 5)) 0 e)))) λ nw.
+        (no-width (x .fill) c (x .body) (drop next s) due (x .fits, en) (λ z. eqb-false (be16At s (n + 3)) 0 nh (a ∙ z)) (sym b ∙ eqb-true (be16At s (n + 5)) 0 e)))) λ nw.
         go-blames _
 
     scan-blames : classOf c ≡ Scan → Blames (scanStepOf s st n)
@@ -140,7 +141,7 @@ module _ (s : List ℕ) (o : Octets s) (main : ℕ) (st : Reach) (q : Bool) wher
         (λ fr.
         body-blames 2 (λ (next : ℕ). onFound (scanOf s next) next (λ (p : ℕ). Go (passed st p))) (of-scan w fr) λ next g.
         by fr next g (scanOf s next) refl)
-        (λ nf. refused-blames _ (by-code (no-frame c (drop n s) w nf)))
+        (λ nf. refused-blames _ (by-code (no-frame (mk .fill) c (drop n s) w nf)))
       where
         by : st .framed ≡ true → (next : ℕ) → segOf s n 2 ≡ Body next → (x : Found) → scanOf s next ≡ x
             → Blames (onFound x next (λ (p : ℕ). Go (passed st p)))
@@ -148,10 +149,12 @@ module _ (s : List ℕ) (o : Octets s) (main : ℕ) (st : Reach) (q : Bool) wher
         by fr next g Nothing e =
             let x = stood s o (st .at) c n 2 next (omega arith) m g in
             let en = x .ends in
-            placed-blames Fault.Short (st .at + 4 + length (x .body)) next (omega arith)
+            let hi = x .after in
+            placed-blames Fault.Short (st .at + x .fill + 4 + length (x .body)) next (omega arith)
             (by-body 2 next x
-            (subst (λ (v : ℕ). BadMarker main k (st .at) (lengthed v (x .body) ++ drop next s) (Fault.Short (st .at + 4 + length (x .body)))) (sym (scan-code c w))
-            (endless (x .body) (drop next s) (x .fits) fr (none-endless s next e))))
+            (subst (λ (v : ℕ). BadMarker main k (st .at) (lengthed (x .fill) v (x .body) ++ drop next s) (Fault.Short (st .at + x .fill + 4 + length (x .body))))
+            (sym (scan-code c w))
+            (endless (x .fill) (x .body) (drop next s) (x .fits) fr (none-endless s next e))))
 
     segment-blames : classOf c ≡ Segment → Blames (segmentOf s main st c n)
     unfolding segmentOf Good
@@ -168,16 +171,16 @@ module _ (s : List ℕ) (o : Octets s) (main : ℕ) (st : Reach) (q : Bool) wher
             cond-with Blames (resolves main v) (λ t. go-blames _)
             (λ t.
             let x = stood s o (st .at) c n 2 next (omega arith) m g in
-            let hi = here-is in
-            let tg = gives-test s main st c next x v (ap (tagOf s st c) (sym hi) ∙ e) in
-            placed-blames Fault.BadRes (st .at + 12) (n + 10) (omega arith)
+            let hi = x .after in
+            let tg = gives-test s main st c n next x v e in
+            placed-blames Fault.BadRes (st .at + x .fill + 12) (n + 10) (omega arith)
             (by-body 2 next x
-            (bad-resolution c (x .body) (drop next s) (w, x .fits) (tg .0)
+            (bad-resolution (x .fill) c (x .body) (drop next s) (w, x .fits) (tg .0)
             (λ r. false≢true (sym t ∙ ap (resolves main) (tg .1) ∙ says-resolves main (resOf (x .body)) .shown r)))))
 
     end-blames : classOf c ≡ End → Blames (endOf st n)
     unfolding endOf
-    end-blames w = cond-with Blames (st .scanned) (λ t f e. clash cc) (λ t. refused-blames _ (by-code (no-scan c (drop n s) w t)))
+    end-blames w = cond-with Blames (st .scanned) (λ t f e. clash cc) (λ t. refused-blames _ (by-code (no-scan (mk .fill) c (drop n s) w t)))
 
     mark-blames : (x : Class) → classOf c ≡ x → Blames (markOf s main st c n x)
     unfolding markOf
@@ -185,24 +188,29 @@ module _ (s : List ℕ) (o : Octets s) (main : ℕ) (st : Reach) (q : Bool) wher
     mark-blames Frame w = frame-blames w
     mark-blames Scan w = scan-blames w
     mark-blames End w = end-blames w
-    mark-blames Wrong w = refused-blames _ (by-code (wrong-code c (drop n s) w))
+    mark-blames Wrong w = refused-blames _ (by-code (wrong-code (mk .fill) c (drop n s) (mk .other) w))
     mark-blames Segment w = segment-blames w
 
-  marker-none : markerOf s (st .at) ≡ Missing → Blame (Fault.BadLayer (st .at))
-  unfolding markerOf
-  marker-none =
-      cond-with (λ x. x ≡ Missing → Blame (Fault.BadLayer (st .at))) (ltb (length s) (st .at + 2)) (λ t e. clash cc) λ t.
-      cond-with (λ x. x ≡ Missing → Blame (Fault.BadLayer (st .at))) (eqb (getD s (st .at) 0) 0xFF) (λ u e. clash cc)
-      (λ u e.
-      subst (λ (l : List ℕ). BadMarker main k (st .at) l (Fault.BadLayer (st .at))) (sym (two-stand s (st .at) (ltb-false (length s) (st .at + 2) t)))
-      (no-marker (getD s (st .at) 0) (getD s (st .at + 1) 0) (drop (st .at + 2) s) (eqb-false (getD s (st .at) 0) 0xFF u)))
+  abbrev MarkerBlames : Marker → Type 0
+  MarkerBlames x = (x ≡ Missing → Blame (Fault.BadLayer (st .at))) × (x ≡ Cut → Blame (Fault.Short (st .at)))
 
-  marker-cut : markerOf s (st .at) ≡ Cut → Blame (Fault.Short (st .at))
-  unfolding markerOf
-  marker-cut =
-      cond-with (λ x. x ≡ Cut → Blame (Fault.Short (st .at))) (ltb (length s) (st .at + 2))
-      (λ t e. let d = length-drop (st .at) s in let g = ltb-true (length s) (st .at + 2) t in cut (omega arith)) λ t.
-      cond-with (λ x. x ≡ Cut → Blame (Fault.Short (st .at))) (eqb (getD s (st .at) 0) 0xFF) (λ u e. clash cc) (λ u e. clash cc)
+  marker-blames : MarkerBlames (markerOf s (st .at))
+  marker-blames =
+      marker-by s (st .at) MarkerBlames
+      (λ l. (λ e. clash cc, λ e. let d = length-drop (st .at) s in cut (omega arith)))
+      (λ h x. (
+        λ e.
+            subst (λ (l : List ℕ). BadMarker main k (st .at) l (Fault.BadLayer (st .at))) (sym (two-stand s (st .at) h))
+            (no-marker (getD s (st .at) 0) (getD s (st .at + 1) 0) (drop (st .at + 2) s) x),
+        λ e. clash cc,
+      ))
+      (λ h x l. (
+        λ e. clash cc,
+        λ e.
+            subst (λ (l : List ℕ). BadMarker main k (st .at) l (Fault.Short (st .at))) (sym (run-cut s (st .at) (omega arith) x l))
+            (cut-run (fillEnd s (st .at + 1) - (st .at + 1))),
+      ))
+      (λ h x l. (λ e. clash cc, λ e. clash cc))
 
   turn-blames : Blames (turnOf s main st)
   unfolding turnOf
@@ -210,8 +218,8 @@ module _ (s : List ℕ) (o : Octets s) (main : ℕ) (st : Reach) (q : Bool) wher
     where
       by : (x : Marker) → markerOf s (st .at) ≡ x → Blames (onMarker x (st .at) (λ (c n : ℕ). markOf s main st c n (classOf c)))
       by (Code c n) m = mark-blames c n m (classOf c) refl
-      by Missing m = refused-blames _ (marker-none m)
-      by Cut m = refused-blames _ (marker-cut m)
+      by Missing m = refused-blames _ (marker-blames .0 m)
+      by Cut m = refused-blames _ (marker-blames .1 m)
 
 -- ---- the pieces in front
 
@@ -236,47 +244,44 @@ module _ (s : List ℕ) (o : Octets s) (main : ℕ) (f : Fault) where
   next-marker : (next p : ℕ) → scanOf s next ≡ At p → Next true (drop p s)
   next-marker next p fo =
       let b = scan-back s next p fo in
-      let i = b .inside in
-      let y = says-stop (getD s p 0) (getD s (p + 1) 0) .told (b .stop) in
-      subst (Next true) (sym (two-stand s p (omega arith) ∙ ap (λ (v : ℕ). v ∷ getD s (p + 1) 0 ∷ drop (p + 2) s) (y .0)))
-      (marker (getD s (p + 1) 0) (drop (p + 2) s) (y .1))
+      let y = b .marked in
+      subst (Next true) (sym (y .stands)) (no-data (y .fill) (b .code) (drop (b .next) s) (y .other) (b .stop))
 
   onward : (st t : Reach) (q : Bool) → Onward s main st t → ((r : Bool) → Next r (drop (t .at) s) → From t r) → From st q
   unfolding May past
   onward st t q (by-alone c n m w e) go =
-      on-piece st t q false alone (alone-over s st t c n m w (at-of e)) tt (known-of false e) (go false any)
+      let x = marker-back s (st .at) c n m in
+      on-piece st t q false (alone (x .fill)) (alone-over s st t c n x w (at-of e)) tt (known-of false e) (go false any)
   onward st t q (by-frame c n next m w nf nr g nh nw e) go =
       let x = stood s o (st .at) c n 8 next (omega arith) m g in
       let a : t .at ≡ next = at-of e in
-      let mb : n ≡ st .at + 2 = marker-back s (st .at) c n m .0 in
+      let mb = x .after in
       let en = x .enough in
       let ends = x .ends in
-      let l2 = length-lengthed c (x .body) in
-      let hh : be16At s (n + 3) ≡ heightOf (x .body) = number-is s main st c (x .body) (drop next s) (x .stands) 1 (n + 3) (omega arith) (omega arith) in
-      let ww : be16At s (n + 5) ≡ widthOf (x .body) = number-is s main st c (x .body) (drop next s) (x .stands) 3 (n + 5) (omega arith) (omega arith) in
-      let z : t .at ≡ st .at + length (lengthed c (x .body)) = omega arith in
-      subst (λ (l : List ℕ). BadFrom main (knownOf st q) (st .at) l f) (sym (x .stands ∙ ap (λ (j : ℕ). lengthed c (x .body) ++ drop j s) (sym a)))
-      (past-frame c (x .body) (drop (t .at) s) (record { code = w; first = nf; resolved = nr }) (x .fits, en) (λ y. nh (hh ∙ y)) (λ y. nw (ww ∙ y))
+      let l2 = length-lengthed (x .fill) c (x .body) in
+      let hh : be16At s (n + 3) ≡ heightOf (x .body) = number-is s main st (x .fill) c (x .body) (drop next s) (x .other) (x .stands) 1 (n + 3) (omega arith) (omega arith) in
+      let ww : be16At s (n + 5) ≡ widthOf (x .body) = number-is s main st (x .fill) c (x .body) (drop next s) (x .other) (x .stands) 3 (n + 5) (omega arith) (omega arith) in
+      let z : t .at ≡ st .at + length (lengthed (x .fill) c (x .body)) = omega arith in
+      subst (λ (l : List ℕ). BadFrom main (knownOf st q) (st .at) l f) (sym (x .stands ∙ ap (λ (j : ℕ). lengthed (x .fill) c (x .body) ++ drop j s) (sym a)))
+      (past-frame (x .fill) c (x .body) (drop (t .at) s) (record { code = w; first = nf; resolved = nr }) (x .fits, en) (λ y. nh (hh ∙ y)) (λ y. nw (ww ∙ y))
       (subst (λ (j : ℕ). BadFrom main (framing (knownOf st q)) j (drop (t .at) s) f) z
       (subst (λ (i : Known). BadFrom main i (t .at) (drop (t .at) s) f) (known-of false e) (go false any))))
   onward st t q (by-scan c n next p m w fr g fo e) go =
       let x = stood s o (st .at) c n 2 next (omega arith) m g in
-      on-piece st t q true (scan (x .body) (take (p - next) (drop next s))) (scan-over s st t c next x p w fo (at-of e)) fr
+      on-piece st t q true (scan (x .fill) (x .body) (take (p - next) (drop next s))) (scan-over s st t c n next x p w fo (at-of e)) fr
       (known-of true e ∙ ap (λ (v : Bool). record { framed = v; scanned = true; res = st .res; inScan = true }) (sym fr))
       (go true (subst (λ (j : ℕ). Next true (drop j s)) (sym (at-of e)) (next-marker next p fo)))
   onward st t q (by-plain c n next m w g pl e) go =
       let x = stood s o (st .at) c n 2 next (omega arith) m g in
-      let mb : n ≡ st .at + 2 = marker-back s (st .at) c n m .0 in
-      let pt = plain-test s main st c next x (ap (tagOf s st c) (sym mb) ∙ pl) in
-      on-piece st t q false (segment c (x .body)) (segment-over s st t c next x w (at-of e)) (λ y. absurd (false≢true (sym pt ∙ y)))
+      let pt = plain-test s main st c n next x pl in
+      on-piece st t q false (segment (x .fill) c (x .body)) (segment-over s st t c n next x w (at-of e)) (λ y. absurd (false≢true (sym pt ∙ y)))
       (known-of false e
       ∙ ap (λ (v : Bool). record { framed = st .framed; scanned = st .scanned; res = cond v (resOf (x .body)) (st .res); inScan = false }) (sym pt))
       (go false any)
   onward st t q (by-tag c n next v m w g gv ok e) go =
       let x = stood s o (st .at) c n 2 next (omega arith) m g in
-      let mb : n ≡ st .at + 2 = marker-back s (st .at) c n m .0 in
-      let gt = gives-test s main st c next x v (ap (tagOf s st c) (sym mb) ∙ gv) in
-      on-piece st t q false (segment c (x .body)) (segment-over s st t c next x w (at-of e))
+      let gt = gives-test s main st c n next x v gv in
+      on-piece st t q false (segment (x .fill) c (x .body)) (segment-over s st t c n next x w (at-of e))
       (λ y. says-resolves main (resOf (x .body)) .told (ap (resolves main) (sym (gt .1)) ∙ ok))
       (known-of false e
       ∙ ap (λ (u : ℕ). record { framed = st .framed; scanned = st .scanned; res = u; inScan = false }) (gt .1)

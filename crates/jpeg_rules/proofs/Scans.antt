@@ -3,223 +3,293 @@
 use Prim.Native.Nat.{ℕ, zero, suc, _+_, _-_, _≤_, _<_}
 use native.Mathlib.Omega.{arith}
 use mathlib.Core.Path.{_≡_, refl, sym, ap, ap₂, subst, _∙_}
-use mathlib.Core.Logic.{_⊎_, inl, inr, _≢_, ⊎-elim}
-use mathlib.Core.Bool.{Bool, true, false, cond, false≢true}
-use mathlib.Core.List.{List, [], _∷_, _++_, append-nil}
-use lib.ListN.{length, getD, take, drop, take-append-drop, length-drop, length-append, drop-of-length-le}
-use lib.Seq.{drop-drop}
+use mathlib.Core.Logic.{_≢_, ⊎-elim}
+use mathlib.Core.Bool.{Bool, _||_, cond}
+use mathlib.Core.List.{List, [], _∷_, _++_, append-assoc, append-nil}
+use lib.ListN.{length, getD, take, drop, replicate, take-append-drop, length-drop, length-append, drop-of-length-le}
+use lib.Seq.{drop-drop, take-append-add}
+use lib.Dec.{eqb, ltb}
+use borrow.Author.Tests.{eq-eqb, ne-eqb, lt-ltb, le-ltb}
 use Rattle.octets.proofs.Laws.{drop-octet, drop-next}
-use Rattle.laws.proofs.Says.{says-eq, says-le, says-lt, says-true, says-else, says-fails}
-use Rattle.jpeg_rules.specs.declared.Found.the-variants.{At, Nothing}
-use Rattle.jpeg_rules.specs.Grammar.{DataCode, Data, none, plain, stuffed}
-use Rattle.jpeg_rules.specs.Walk.{stopsOf, scanFrom, scanOf}
-use Rattle.jpeg_rules.specs.Faults.{Endless, all-data, lone}
+use Rattle.laws.proofs.Says.{Says, says-eq, says-lt, says-le, says-else, says-fails}
 use Rattle.laws.proofs.Cases.{cond-with, clash}
-use Rattle.jpeg_rules.proofs.Leaves.{says-data, says-stop, one-there, two-there}
+use Rattle.jpeg_rules.specs.declared.Found.{Found}
+use Rattle.jpeg_rules.specs.declared.Found.the-variants.{At, Nothing}
+use Rattle.jpeg_rules.specs.Grammar.{marker, DataRun, Data, none, plain, stuffed}
+use Rattle.jpeg_rules.specs.Walk.{dataRun, scanFrom, scanOf}
+use Rattle.jpeg_rules.specs.Faults.{Endless, all-data, in-run}
+use Rattle.jpeg_rules.proofs.Leaves.{says-run, says-data, data-other, one-there}
+use Rattle.jpeg_rules.proofs.Runs.{fillFrom, fillEnd, ff-inside, none-left, length-marker, fill-ahead, fill-cut, Begun, begins-there, Marked, run-marked, run-cut}
 
--- a pair that does not stop
-abbrev pub stopsAt : List ℕ → ℕ → Bool
-stopsAt s i = stopsOf (getD s i 0) (getD s (i + 1) 0)
+-- ---- the search from place to place
 
-not-stop : (a b : ℕ) → ((a ≡ 0xFF) × (DataCode b → ⊥) → ⊥) → stopsOf a b ≡ false
-not-stop a b k = says-fails (says-stop a b) k
+-- the run that begins at i has its code at e: it is data, and what comes after it goes on, or it is the next marker; or the list cuts it
+abbrev onRun : List ℕ → ℕ → ℕ → Found → Found
+onRun s i e more = cond (ltb e (length s)) (cond (dataRun (e - i) (getD s e 0)) more (At i)) Nothing
 
-data-code : (a b : ℕ) → a ≡ 0xFF → stopsOf a b ≡ false → DataCode b
-data-code a b e n =
-    ⊎-elim (λ (k : DataCode b). k) (λ (k : DataCode b → ⊥). absurd (false≢true (sym n ∙ says-stop a b .shown (e, k)))) (says-else (says-data b))
+-- past the last octet nothing is found
+pub scan-over : (s : List ℕ) (i : ℕ) → length s ≤ i → scanOf s i ≡ Nothing
+unfolding scanOf
+scan-over s i h = ap (λ (l : List ℕ). scanFrom l 0 i) (drop-of-length-le s h)
 
--- FF is no code of data
-code-other : (b : ℕ) → DataCode b → b ≢ 0xFF
-code-other b k q = ⊎-elim (λ (w : b ≡ 0x00). omega arith) (λ (w : (0xD0 ≤ b) × (b ≤ 0xD7)). omega arith) k
+-- in a run of FF that began at i and reaches j
+run-on : (s : List ℕ) (n i run j : ℕ) → j + n ≡ length s → j ≡ i + run → 0 < run
+    → scanFrom (drop j s) run j ≡ onRun s i (fillFrom n s j) (scanOf s (fillFrom n s j + 1))
+unfolding scanFrom fillFrom scanOf
+run-on s zero i run j h e lt =
+    ap (λ (l : List ℕ). scanFrom l run j) (none-left s j (omega arith))
+    ∙ sym (ap (λ (b : Bool). cond b (cond (dataRun (j - i) (getD s j 0)) (scanFrom (drop (j + 1) s) 0 (j + 1)) (At i)) Nothing) (le-ltb j (length s) (omega arith)))
+run-on s (suc n) i run j h e lt =
+    ap (λ (l : List ℕ). scanFrom l run j) (drop-octet s j (omega arith))
+    ∙ cond-with (λ x. stepped ≡ onRun s i x (scanFrom (drop (x + 1) s) 0 (x + 1))) (eqb (getD s j 0) 0xFF)
+    (λ t. ap (λ (b : Bool). cond b (scanFrom (drop (j + 1) s) (run + 1) (j + 1)) other) t ∙ run-on s n i (run + 1) (j + 1) (omega arith) (omega arith) (omega arith))
+    (λ t.
+    let a : j - i ≡ run = omega arith in
+    let b : j - run ≡ i = omega arith in
+    ap (λ (b : Bool). cond b (scanFrom (drop (j + 1) s) (run + 1) (j + 1)) other) t
+    ∙ ap (λ (b : Bool). cond (b || dataRun run (getD s j 0)) (scanFrom (drop (j + 1) s) 0 (j + 1)) (At (j - run))) (ne-eqb run 0 (λ q. omega arith))
+    ∙ ap₂ (λ (k m : ℕ). cond (dataRun k (getD s j 0)) (scanFrom (drop (j + 1) s) 0 (j + 1)) (At m)) (sym a) b
+    ∙ sym (ap (λ (b : Bool). cond b (cond (dataRun (j - i) (getD s j 0)) (scanFrom (drop (j + 1) s) 0 (j + 1)) (At i)) Nothing) (lt-ltb j (length s) (omega arith))))
+  where
+    other : Found
+    other = cond (eqb run 0 || dataRun run (getD s j 0)) (scanFrom (drop (j + 1) s) 0 (j + 1)) (At (j - run))
 
-module _ (s : List ℕ) (i : ℕ) where
-  pub scan-here : i + 1 < length s → stopsAt s i ≡ true → scanOf s i ≡ At i
-  unfolding scanOf
-  scan-here h e =
-      let z : length s - (i + 1) ≡ suc (length s - (i + 1 + 1)) = omega arith in
-      ap (λ (k : ℕ). scanFrom k s i) z ∙ ap (λ (b : Bool). cond b (At i) (scanFrom (length s - (i + 1 + 1)) s (i + 1))) e
+    stepped : Found
+    stepped = cond (eqb (getD s j 0) 0xFF) (scanFrom (drop (j + 1) s) (run + 1) (j + 1)) other
 
-  -- past the last octet but one nothing is found
-  scan-over : length s ≤ i + 1 → scanOf s i ≡ Nothing
-  unfolding scanOf
-  scan-over h = let z : length s - (i + 1) ≡ 0 = omega arith in ap (λ (k : ℕ). scanFrom k s i) z
+pub scan-opens : (s : List ℕ) (i : ℕ) → i < length s
+    → scanOf s i ≡ cond (eqb (getD s i 0) 0xFF) (onRun s i (fillEnd s (i + 1)) (scanOf s (fillEnd s (i + 1) + 1))) (scanOf s (i + 1))
+unfolding scanOf fillEnd
+scan-opens s i h =
+    ap (λ (l : List ℕ). scanFrom l 0 i) (drop-octet s i h)
+    ∙ ap (λ (x : Found). cond (eqb (getD s i 0) 0xFF) x (scanFrom (drop (i + 1) s) 0 (i + 1))) (run-on s (length s - (i + 1)) i 1 (i + 1) (omega arith) refl (omega arith))
 
-module _ (s : List ℕ) (i : ℕ) where
-  pub scan-next : stopsAt s i ≡ false → scanOf s i ≡ scanOf s (i + 1)
-  unfolding scanOf
-  scan-next e =
-      ⊎-elim
-      (λ (h : i + 1 < length s).
-      let z : length s - (i + 1) ≡ suc (length s - (i + 1 + 1)) = omega arith in
-      ap (λ (k : ℕ). scanFrom k s i) z ∙ ap (λ (b : Bool). cond b (At i) (scanFrom (length s - (i + 1 + 1)) s (i + 1))) e)
-      (λ (h : i + 1 < length s → ⊥). scan-over s i (omega arith) ∙ sym (scan-over s (i + 1) (omega arith)))
-      (says-else (says-lt (i + 1) (length s)))
+-- ---- one step: an octet of data, a run of FF
 
--- an octet of scan data is passed, and so are FF and a code of data
-plain-next : (s : List ℕ) (i : ℕ) → getD s i 0 ≢ 0xFF → scanOf s i ≡ scanOf s (i + 1)
-plain-next s i n = scan-next s i (not-stop (getD s i 0) (getD s (i + 1) 0) (λ k. n (k .0)))
+pub plain-next : (s : List ℕ) (i : ℕ) → getD s i 0 ≢ 0xFF → scanOf s i ≡ scanOf s (i + 1)
+plain-next s i n =
+    ⊎-elim
+    (λ (h : i < length s).
+    scan-opens s i h
+    ∙ ap (λ (b : Bool). cond b (onRun s i (fillEnd s (i + 1)) (scanOf s (fillEnd s (i + 1) + 1))) (scanOf s (i + 1))) (ne-eqb (getD s i 0) 0xFF n))
+    (λ (h : i < length s → ⊥). scan-over s i (omega arith) ∙ sym (scan-over s (i + 1) (omega arith)))
+    (says-else (says-lt i (length s)))
 
-stuffed-next : (s : List ℕ) (i : ℕ) → DataCode (getD s (i + 1) 0) → scanOf s i ≡ scanOf s (i + 2)
-stuffed-next s i k =
-    let y : i + 1 + 1 ≡ i + 2 = omega arith in
-    scan-next s i (not-stop (getD s i 0) (getD s (i + 1) 0) (λ q. q .1 k))
-    ∙ plain-next s (i + 1) (code-other (getD s (i + 1) 0) k)
-    ∙ ap (scanOf s) y
+-- a run that begins at i, to its code at e
+module _ (s : List ℕ) (i e : ℕ) (ff : getD s i 0 ≡ 0xFF) (q : fillEnd s (i + 1) ≡ e) where
+  pub run-opens : scanOf s i ≡ onRun s i e (scanOf s (e + 1))
+  run-opens =
+      scan-opens s i (ff-inside s i ff)
+      ∙ ap (λ (b : Bool). cond b (onRun s i (fillEnd s (i + 1)) (scanOf s (fillEnd s (i + 1) + 1))) (scanOf s (i + 1))) (eq-eqb (getD s i 0) 0xFF ff)
+      ∙ ap (λ (k : ℕ). onRun s i k (scanOf s (k + 1))) q
 
--- all of it is passed
-data-next : (s : List ℕ) {d : List ℕ} → Data d → (i : ℕ) (r : List ℕ) → drop i s ≡ d ++ r → scanOf s i ≡ scanOf s (i + length d)
+  pub run-over : length s ≤ e → scanOf s i ≡ Nothing
+  run-over h =
+      run-opens
+      ∙ ap (λ (b : Bool). cond b (cond (dataRun (e - i) (getD s e 0)) (scanOf s (e + 1)) (At i)) Nothing) (le-ltb e (length s) h)
+
+  module _ (h : e < length s) where
+    run-by : (b : Bool) → dataRun (e - i) (getD s e 0) ≡ b → scanOf s i ≡ cond b (scanOf s (e + 1)) (At i)
+    run-by b t =
+        run-opens
+        ∙ ap₂ (λ (x y : Bool). cond x (cond y (scanOf s (e + 1)) (At i)) Nothing) (lt-ltb e (length s) h) t
+
+    says-this : Says (dataRun (e - i) (getD s e 0)) (DataRun (e - (i + 1)) (getD s e 0))
+    says-this = let a = fill-ahead s (i + 1) in says-run (e - i) (e - (i + 1)) (getD s e 0) (omega arith)
+
+    pub run-next : DataRun (e - (i + 1)) (getD s e 0) → scanOf s i ≡ scanOf s (e + 1)
+    run-next k = run-by _ (says-this .shown k)
+
+    pub run-here : (DataRun (e - (i + 1)) (getD s e 0) → ⊥) → scanOf s i ≡ At i
+    run-here k = run-by _ (says-fails says-this k)
+
+-- a run whose octets stand there: its fill and its code as the search sees them
+module _ (s : List ℕ) (i fill c : ℕ) (r : List ℕ) (t : Begun s i fill c r) (P : ℕ → ℕ → Type 0) where
+  run-seen : P fill c → P (i + 1 + fill - (i + 1)) (getD s (i + 1 + fill) 0)
+  run-seen k =
+      let z : i + 1 + fill - (i + 1) ≡ fill = omega arith in
+      subst (λ (f : ℕ). P f (getD s (i + 1 + fill) 0)) (sym z) (subst (P fill) (sym (t .code)) k)
+
+-- all of scan data is passed
+pub data-next : (s : List ℕ) {d : List ℕ} → Data d → (i : ℕ) (r : List ℕ) → drop i s ≡ d ++ r → scanOf s i ≡ scanOf s (i + length d)
 data-next s none i r e = let z : i ≡ i + 0 = omega arith in ap (scanOf s) z
 data-next s (plain {x = x} {d = d} n more) i r e =
     let t = one-there s i x (d ++ r) e in
     let z : i + 1 + length d ≡ i + suc (length d) = omega arith in
     plain-next s i (λ k. n (sym (t .1) ∙ k)) ∙ data-next s more (i + 1) r (t .2) ∙ ap (scanOf s) z
-data-next s (stuffed {c = b} {d = d} k more) i r e =
-    let t = two-there s i 0xFF b (d ++ r) e in
-    let z : i + 2 + length d ≡ i + suc (suc (length d)) = omega arith in
-    stuffed-next s i (subst DataCode (sym (t .2)) k) ∙ data-next s more (i + 2) r (t .3) ∙ ap (scanOf s) z
+data-next s (stuffed {fill = fill} {c = c} {d = d} k more) i r e =
+    let t = begins-there s i fill c (d ++ r) (data-other fill c k) (e ∙ append-assoc (marker fill c) d r) in
+    let l = t .inside in
+    let n = length-append (marker fill c) d in
+    let m = length-marker fill c in
+    let y : i + 1 + fill + 1 ≡ i + fill + 2 = omega arith in
+    let z : i + fill + 2 + length d ≡ i + length (marker fill c ++ d) = omega arith in
+    run-next s i (i + 1 + fill) (t .first) (t .run) (omega arith) (run-seen s i fill c (d ++ r) t DataRun k)
+    ∙ ap (scanOf s) y
+    ∙ data-next s more (i + fill + 2) r (t .rest)
+    ∙ ap (scanOf s) z
 
 -- ---- after scan data the next marker is found
 
-pub scan-there : (s : List ℕ) (d : List ℕ) → Data d → (i c : ℕ) (r : List ℕ) → drop i s ≡ d ++ (0xFF ∷ c ∷ r) → stopsOf 0xFF c ≡ true
-    → scanOf s i ≡ At (i + length d)
-scan-there s d k i c r e h =
-    let t = two-there s (i + length d) 0xFF c r (drop-next s d (0xFF ∷ c ∷ r) i e) in
-    data-next s k i (0xFF ∷ c ∷ r) e
-    ∙ scan-here s (i + length d) (let l = t .0 in omega arith) (ap₂ stopsOf (t .1) (t .2) ∙ h)
+-- a marker that is no data
+pub record Opens (l : List ℕ) : Type 0 where
+  pub fill : ℕ
+  pub code : ℕ
+  pub rest : List ℕ
+  pub is : l ≡ marker fill code ++ rest
+  pub other : code ≢ 0xFF
+  pub stop : DataRun fill code → ⊥
+
+pub scan-there : (s : List ℕ) (d : List ℕ) → Data d → (i : ℕ) (l : List ℕ) → drop i s ≡ d ++ l → Opens l → scanOf s i ≡ At (i + length d)
+scan-there s d k i l e o =
+    let j : ℕ = i + length d in
+    let t = begins-there s j (o .fill) (o .code) (o .rest) (o .other) (drop-next s d l i e ∙ o .is) in
+    let h = t .inside in
+    data-next s k i l e
+    ∙ run-here s j (j + 1 + o .fill) (t .first) (t .run) (omega arith)
+    (run-seen s j (o .fill) (o .code) (o .rest) t (λ f b. DataRun f b → ⊥) (o .stop))
 
 -- ---- and what was passed was scan data
 
 pub record Passed (s : List ℕ) (i p : ℕ) : Type 0 where
   pub after : i ≤ p
-  pub inside : p + 1 < length s
-  pub stop : stopsAt s p ≡ true
-  pub before : (q : ℕ) → i ≤ q → q < p → stopsAt s q ≡ false
+  pub code : ℕ
+  pub next : ℕ
+  pub marked : Marked s p code next
+  pub stop : DataRun (marked .fill) code → ⊥
+  pub coded : Data (take (p - i) (drop i s))
 
-scan-from-back : (s : List ℕ) (k i p : ℕ) → (i + k + 1 ≤ length s) ⊎ (k ≡ 0) → scanFrom k s i ≡ At p → Passed s i p
-unfolding scanFrom
-scan-from-back s zero i p h = λ e. clash cc
-scan-from-back s (suc k) i p h =
-    cond-with (λ x. x ≡ At p → Passed s i p) (stopsAt s i)
-    (λ t e.
-    let z : i ≡ p = cc in
-    subst (Passed s i) z (record { after = omega arith; inside = inside h; stop = t; before = λ q a b. absurd (omega arith) }))
-    (λ f e.
-    let m = scan-from-back s k (i + 1) p (next h) e in
-    let a = m .after in
-    record {
-      after = omega arith;
-      inside = m .inside;
-      stop = m .stop;
-      before = λ q b c.
-          ⊎-elim (λ (z : q ≡ i). subst (λ (j : ℕ). stopsAt s j ≡ false) (sym z) f) (λ (z : q ≢ i). m .before q (omega arith) c) (says-else (says-eq q i));
-    })
-  where
-    inside : (i + suc k + 1 ≤ length s) ⊎ (suc k ≡ 0) → i + 1 < length s
-    inside (inl g) = omega arith
-    inside (inr g) = absurd (omega arith)
+-- what is taken after octets in front
+taken : (s a : List ℕ) (i j p : ℕ) → drop i s ≡ a ++ drop j s → j ≡ i + length a → j ≤ p → take (p - i) (drop i s) ≡ a ++ take (p - j) (drop j s)
+taken s a i j p e q h =
+    let z : p - i ≡ length a + (p - j) = omega arith in
+    ap₂ (λ (n : ℕ) (l : List ℕ). take n l) z e ∙ take-append-add a (drop j s) (p - j)
 
-    next : (i + suc k + 1 ≤ length s) ⊎ (suc k ≡ 0) → (i + 1 + k + 1 ≤ length s) ⊎ (k ≡ 0)
-    next (inl g) = inl (omega arith)
-    next (inr g) = absurd (omega arith)
+nothing-taken : (s : List ℕ) (i : ℕ) → Data (take (i - i) (drop i s))
+nothing-taken s i = let z : i - i ≡ 0 = omega arith in subst (λ (n : ℕ). Data (take n (drop i s))) (sym z) none
+
+module _ (s : List ℕ) (p : ℕ) where
+  plain-before : (i : ℕ) → i < length s → getD s i 0 ≢ 0xFF → Passed s (i + 1) p → Passed s i p
+  plain-before i l n m =
+      let a = m .after in
+      record {
+        after = omega arith;
+        code = m .code;
+        next = m .next;
+        marked = m .marked;
+        stop = m .stop;
+        coded = subst Data (sym (taken s (getD s i 0 ∷ []) i (i + 1) p (drop-octet s i l) (omega arith) a)) (plain n (m .coded));
+      }
+
+  run-before : (i : ℕ) (c n : ℕ) (k : Marked s i c n) → DataRun (k .fill) c → Passed s n p → Passed s i p
+  run-before i c n k d m =
+      let a = m .after in
+      let b = k .ends in
+      let l = length-marker (k .fill) c in
+      record {
+        after = omega arith;
+        code = m .code;
+        next = m .next;
+        marked = m .marked;
+        stop = m .stop;
+        coded = subst Data (sym (taken s (marker (k .fill) c) i n p (k .stands) (omega arith) a)) (stuffed d (m .coded));
+      }
+
+  -- a run from i on
+  run-back : (i : ℕ) → getD s i 0 ≡ 0xFF → scanOf s i ≡ At p → ((j : ℕ) → i < j → scanOf s j ≡ At p → Passed s j p) → Passed s i p
+  run-back i ff q more =
+      let l = ff-inside s i ff in
+      let e : ℕ = fillEnd s (i + 1) in
+      let a = fill-ahead s (i + 1) in
+      ⊎-elim
+      (λ (h : e < length s).
+      let k = run-marked s i l ff e refl h in
+      let b = k .ends in
+      let y : k .fill ≡ e - (i + 1) = omega arith in
+      ⊎-elim
+      (λ (d : DataRun (e - (i + 1)) (getD s e 0)).
+      run-before i (getD s e 0) (e + 1) k (subst (λ (f : ℕ). DataRun f (getD s e 0)) (sym y) d)
+      (more (e + 1) (omega arith) (sym (run-next s i e ff refl h d) ∙ q)))
+      (λ (d : DataRun (e - (i + 1)) (getD s e 0) → ⊥).
+      let w : At i ≡ At p = sym (run-here s i e ff refl h d) ∙ q in
+      let z : i ≡ p = cc in
+      subst (Passed s i) z
+      (record {
+        after = omega arith;
+        code = getD s e 0;
+        next = e + 1;
+        marked = k;
+        stop = λ g. d (subst (λ (f : ℕ). DataRun f (getD s e 0)) y g);
+        coded = nothing-taken s i;
+      }))
+      (says-else (says-data (e - (i + 1)) (getD s e 0))))
+      (λ (h : e < length s → ⊥). let z : Nothing ≡ At p = sym (run-over s i e ff refl (omega arith)) ∙ q in clash cc)
+      (says-else (says-lt e (length s)))
+
+  scan-back-from : (m i : ℕ) → length s ≤ i + m → scanOf s i ≡ At p → Passed s i p
+  scan-back-from zero i h q = let z : Nothing ≡ At p = sym (scan-over s i (omega arith)) ∙ q in clash cc
+  scan-back-from (suc m) i h q =
+      ⊎-elim (λ (l : length s ≤ i). let z : Nothing ≡ At p = sym (scan-over s i l) ∙ q in clash cc)
+      (λ (l : length s ≤ i → ⊥).
+      ⊎-elim (λ (ff : getD s i 0 ≡ 0xFF). run-back i ff q (λ j g y. scan-back-from m j (omega arith) y))
+      (λ (n : getD s i 0 ≢ 0xFF). plain-before i (omega arith) n (scan-back-from m (i + 1) (omega arith) (sym (plain-next s i n) ∙ q)))
+      (says-else (says-eq (getD s i 0) 0xFF)))
+      (says-else (says-le (length s) i))
 
 pub scan-back : (s : List ℕ) (i p : ℕ) → scanOf s i ≡ At p → Passed s i p
-unfolding scanOf
-scan-back s i p e = scan-from-back s (length s - (i + 1)) i p (room (length s - (i + 1)) refl) e
-  where
-    room : (k : ℕ) → length s - (i + 1) ≡ k → (i + (length s - (i + 1)) + 1 ≤ length s) ⊎ (length s - (i + 1) ≡ 0)
-    room zero q = inr q
-    room (suc k) q = inl (omega arith)
+scan-back s i p e = scan-back-from s p (length s) i (omega arith) e
 
-module _ (s : List ℕ) (p : ℕ) (g : p + 1 < length s) (ff : getD s p 0 ≡ 0xFF) where
-  first-of : (i : ℕ) → i < p → take (p - i) (drop i s) ≡ getD s i 0 ∷ take (p - (i + 1)) (drop (i + 1) s)
-  first-of i h =
-      let z : p - i ≡ suc (p - (i + 1)) = omega arith in
-      ap₂ (λ (n : ℕ) (l : List ℕ). take n l) z (drop-octet s i (omega arith))
-
-  data-from : (m i : ℕ) → p - i ≤ m → i ≤ p → ((q : ℕ) → i ≤ q → q < p → stopsAt s q ≡ false) → Data (take (p - i) (drop i s))
-  data-from zero i l h f = let z : p - i ≡ 0 = omega arith in subst (λ (n : ℕ). Data (take n (drop i s))) (sym z) none
-  data-from (suc m) i l h f =
-      ⊎-elim
-      (λ (e : i ≡ p). let z : p - i ≡ 0 = omega arith in subst (λ (n : ℕ). Data (take n (drop i s))) (sym z) none)
-      (λ (d : i ≢ p).
-      let lt : i < p = omega arith in
-      ⊎-elim
-      (λ (e : getD s i 0 ≡ 0xFF).
-      let dc = data-code (getD s i 0) (getD s (i + 1) 0) e (f i (omega arith) lt) in
-      let far : i + 1 < p = walkBeyond i lt dc in
-      let y : i + 1 + 1 ≡ i + 2 = omega arith in
-      subst Data
-      (sym
-      (first-of i lt ∙ ap (λ (x : ℕ). x ∷ take (p - (i + 1)) (drop (i + 1) s)) e
-      ∙ ap (λ (r : List ℕ). 0xFF ∷ r) (first-of (i + 1) far ∙ ap (λ (k : ℕ). getD s (i + 1) 0 ∷ take (p - k) (drop k s)) y)))
-      (stuffed dc (data-from m (i + 2) (omega arith) (omega arith) (λ q a b. f q (omega arith) b))))
-      (λ (e : getD s i 0 ≢ 0xFF).
-      subst Data (sym (first-of i lt)) (plain e (data-from m (i + 1) (omega arith) (omega arith) (λ q a b. f q (omega arith) b))))
-      (says-else (says-eq (getD s i 0) 0xFF)))
-      (says-else (says-eq i p))
-    where
-      walkBeyond : (i : ℕ) → i < p → DataCode (getD s (i + 1) 0) → i + 1 < p
-      walkBeyond i lt k =
-          ⊎-elim
-          (λ (z : i + 1 ≡ p).
-          let q : getD s (i + 1) 0 ≡ 0xFF = ap (λ (j : ℕ). getD s j 0) z ∙ ff in
-          absurd (code-other (getD s (i + 1) 0) k q))
-          (λ (z : i + 1 ≢ p). omega arith)
-          (says-else (says-eq (i + 1) p))
-
--- the octets that were passed are scan data, and the marker stands after them
-pub scan-data : (s : List ℕ) (i p : ℕ) → scanOf s i ≡ At p
-    → Data (take (p - i) (drop i s)) × (drop i s ≡ take (p - i) (drop i s) ++ drop p s) × (getD s p 0 ≡ 0xFF)
-scan-data s i p e =
-    let b = scan-back s i p e in
-    let ff = says-stop (getD s p 0) (getD s (p + 1) 0) .told (b .stop) .0 in
-    let h = b .after in
-    let z : i + (p - i) ≡ p = omega arith in (
-      data-from s p (b .inside) ff (p - i) i (omega arith) h (b .before),
-      sym (ap (λ (l : List ℕ). take (p - i) (drop i s) ++ l) (sym (drop-drop (p - i) i s ∙ ap (λ (k : ℕ). drop k s) z)) ∙ take-append-drop (p - i) (drop i s)),
-      ff,
-    )
+-- the octets that were passed, and the marker after them
+pub scan-split : (s : List ℕ) (i p : ℕ) → i ≤ p → drop i s ≡ take (p - i) (drop i s) ++ drop p s
+scan-split s i p h =
+    let z : i + (p - i) ≡ p = omega arith in
+    sym (ap (λ (l : List ℕ). take (p - i) (drop i s) ++ l) (sym (drop-drop (p - i) i s ∙ ap (λ (k : ℕ). drop k s) z)) ∙ take-append-drop (p - i) (drop i s))
 
 -- ---- where there is none, the data goes on to the end
 
 endless-plain : {x : ℕ} {l : List ℕ} → x ≢ 0xFF → Endless l → Endless (x ∷ l)
 endless-plain n (all-data k) = all-data (plain n k)
-endless-plain n (lone k) = lone (plain n k)
+endless-plain n (in-run fill k) = in-run fill (plain n k)
 
-endless-stuffed : {c : ℕ} {l : List ℕ} → DataCode c → Endless l → Endless (0xFF ∷ c ∷ l)
+endless-stuffed : {fill c : ℕ} {l : List ℕ} → DataRun fill c → Endless l → Endless (marker fill c ++ l)
 endless-stuffed n (all-data k) = all-data (stuffed n k)
-endless-stuffed n (lone k) = lone (stuffed n k)
+endless-stuffed {fill = fill} {c = c} n (in-run {d = d} more k) =
+    subst Endless (append-assoc (marker fill c) d (0xFF ∷ replicate more 0xFF)) (in-run more (stuffed n k))
 
-endless-over : (s : List ℕ) (i : ℕ) → length s ≤ i → Endless (drop i s)
-endless-over s i h = subst Endless (sym (drop-of-length-le s h)) (all-data none)
+module _ (s : List ℕ) where
+  -- a run that is data, or that the list cuts
+  endless-run : (i : ℕ) → getD s i 0 ≡ 0xFF → scanOf s i ≡ Nothing → ((j : ℕ) → i < j → scanOf s j ≡ Nothing → Endless (drop j s)) → Endless (drop i s)
+  endless-run i ff q more =
+      let l = ff-inside s i ff in
+      let e : ℕ = fillEnd s (i + 1) in
+      let a = fill-ahead s (i + 1) in
+      ⊎-elim
+      (λ (h : e < length s).
+      let k = run-marked s i l ff e refl h in
+      let b = k .ends in
+      let y : k .fill ≡ e - (i + 1) = omega arith in
+      ⊎-elim
+      (λ (d : DataRun (e - (i + 1)) (getD s e 0)).
+      subst Endless (sym (k .stands)) (endless-stuffed (subst (λ (f : ℕ). DataRun f (getD s e 0)) (sym y) d) (more (e + 1) (omega arith) (sym (run-next s i e ff refl h d) ∙ q))))
+      (λ (d : DataRun (e - (i + 1)) (getD s e 0) → ⊥). let z : At i ≡ Nothing = sym (run-here s i e ff refl h d) ∙ q in clash cc)
+      (says-else (says-data (e - (i + 1)) (getD s e 0))))
+      (λ (h : e < length s → ⊥). subst Endless (sym (run-cut s i l ff (omega arith))) (in-run (e - (i + 1)) none))
+      (says-else (says-lt e (length s)))
 
-endless-from : (s : List ℕ) (m i : ℕ) → length s ≤ i + m → scanOf s i ≡ Nothing → Endless (drop i s)
-endless-from s zero i h e = endless-over s i (omega arith)
-endless-from s (suc m) i h e =
-    ⊎-elim
-    (λ (z : length s ≤ i). endless-over s i z)
-    (λ (z : length s ≤ i → ⊥).
-    let d = drop-octet s i (omega arith) in
-    ⊎-elim
-    (λ (ff : getD s i 0 ≡ 0xFF).
-    let d′ : drop i s ≡ 0xFF ∷ drop (i + 1) s = d ∙ ap (λ (x : ℕ). x ∷ drop (i + 1) s) ff in
-    ⊎-elim
-    (λ (w : length s ≡ i + 1).
-    let h : length s ≤ i + 1 = omega arith in
-    subst Endless (sym (d′ ∙ ap (λ (l : List ℕ). 0xFF ∷ l) (drop-of-length-le s h))) (lone none))
-    (λ (w : length s ≢ i + 1).
-    let dc = data-code (getD s i 0) (getD s (i + 1) 0) ff (going (omega arith)) in
-    let y : i + 1 + 1 ≡ i + 2 = omega arith in
-    subst Endless (sym (d′ ∙ ap (λ (l : List ℕ). 0xFF ∷ l) (drop-octet s (i + 1) (omega arith) ∙ ap (λ (j : ℕ). getD s (i + 1) 0 ∷ drop j s) y)))
-    (endless-stuffed dc (endless-from s m (i + 2) (omega arith) (sym (stuffed-next s i dc) ∙ e))))
-    (says-else (says-eq (length s) (i + 1))))
-    (λ (n : getD s i 0 ≢ 0xFF).
-    subst Endless (sym d) (endless-plain n (endless-from s m (i + 1) (omega arith) (sym (plain-next s i n) ∙ e))))
-    (says-else (says-eq (getD s i 0) 0xFF)))
-    (says-else (says-le (length s) i))
-  where
-    going : i + 1 < length s → stopsAt s i ≡ false
-    going h = says-fails (says-true (stopsAt s i)) (λ t. let z : At i ≡ Nothing = sym (scan-here s i h t) ∙ e in clash cc)
+  endless-over : (i : ℕ) → length s ≤ i → Endless (drop i s)
+  endless-over i h = subst Endless (sym (drop-of-length-le s h)) (all-data none)
+
+  endless-from : (m i : ℕ) → length s ≤ i + m → scanOf s i ≡ Nothing → Endless (drop i s)
+  endless-from zero i h q = endless-over i (omega arith)
+  endless-from (suc m) i h q =
+      ⊎-elim (λ (z : length s ≤ i). endless-over i z)
+      (λ (z : length s ≤ i → ⊥).
+      ⊎-elim
+      (λ (ff : getD s i 0 ≡ 0xFF). endless-run i ff q (λ j g y. endless-from m j (omega arith) y))
+      (λ (n : getD s i 0 ≢ 0xFF).
+      subst Endless (sym (drop-octet s i (omega arith))) (endless-plain n (endless-from m (i + 1) (omega arith) (sym (plain-next s i n) ∙ q))))
+      (says-else (says-eq (getD s i 0) 0xFF)))
+      (says-else (says-le (length s) i))
 
 pub none-endless : (s : List ℕ) (i : ℕ) → scanOf s i ≡ Nothing → Endless (drop i s)
 none-endless s i e = endless-from s (length s) i (omega arith) e
@@ -229,7 +299,8 @@ endless-none s i e (all-data {d = d} k) =
     let q = length-drop i s in
     let w = ap length e in
     data-next s k i [] (e ∙ sym (append-nil d)) ∙ scan-over s (i + length d) (omega arith)
-endless-none s i e (lone {d = d} k) =
-    let q = length-drop i s in
-    let w = ap length e ∙ length-append d (0xFF ∷ []) in
-    data-next s k i (0xFF ∷ []) e ∙ scan-over s (i + length d) (omega arith)
+endless-none s i e (in-run {d = d} fill k) =
+    let j : ℕ = i + length d in
+    let t = one-there s j 0xFF (replicate fill 0xFF) (drop-next s d (0xFF ∷ replicate fill 0xFF) i e) in
+    data-next s k i (0xFF ∷ replicate fill 0xFF) e
+    ∙ run-over s j (length s) (t .1) (fill-cut s (j + 1) fill (t .0) (t .2)) (omega arith)

@@ -2,7 +2,7 @@
 -- Assumes nothing.
 use Prim.Native.Nat.{ℕ, _+_, _-_, _≤_}
 use native.Mathlib.Omega.{arith}
-use mathlib.Core.Path.{_≡_, refl, sym, ap, _∙_}
+use mathlib.Core.Path.{_≡_, refl, sym, ap, ap₂, _∙_}
 use mathlib.Core.Logic.{_⊎_, inl, inr, _≢_, ⊎-elim, ⊎-map}
 use mathlib.Core.Bool.{Bool, true, false, _&&_, cond, false≢true}
 use mathlib.Core.List.{List, [], _∷_, _++_, append-assoc}
@@ -21,39 +21,47 @@ use Rattle.jpeg_rules.specs.declared.Turn.the-variants.{Stop}
 use Rattle.jpeg_rules.specs.declared.Walk.{Walk}
 use Rattle.jpeg_rules.specs.declared.Walk.the-variants.{Ends}
 use Rattle.jpeg_rules.specs.Marker.{classOf, markerOf}
-use Rattle.jpeg_rules.specs.Grammar.{Piece, alone, segment, scan, lengthed, octetsOf, piecesOf, Fits, Good, isScan, g3fax, tagged, Each, Scanned}
+use Rattle.jpeg_rules.specs.Grammar.{marker, Piece, alone, segment, scan, lengthed, octetsOf, piecesOf, Fits, Good, isScan, g3fax, tagged, Each, Scanned}
 use Rattle.jpeg_rules.specs.Walk.{segOf, scanOf, tagOf, framed}
 use Rattle.laws.proofs.Cases.{cond-with, clash, bool-else}
-use Rattle.jpeg_rules.proofs.Leaves.{alone-code, scan-code, end-code, marker-back, seg-back}
-use Rattle.jpeg_rules.proofs.Scans.{scan-data, scan-back}
+use Rattle.jpeg_rules.proofs.Leaves.{alone-code, scan-code, end-code, seg-back}
+use Rattle.jpeg_rules.proofs.Runs.{length-marker, Marked, marker-back}
+use Rattle.jpeg_rules.proofs.Scans.{scan-back, scan-split}
 use Rattle.jpeg_rules.proofs.Walks.{Onward, by-alone, by-frame, by-scan, by-plain, by-tag, Ended, turn-told, Walks, stops, goes}
 use Rattle.jpeg_rules.proofs.There.{length-lengthed, tagged-long}
 use Rattle.jpeg_rules.proofs.Turns.{tag-of, number-is}
 
 -- ---- a marker with a length, as it stands
 
-pub record Stood (s : List ℕ) (at c least next : ℕ) : Type 0 where
+pub record Stood (s : List ℕ) (at c n least next : ℕ) : Type 0 where
+  pub fill : ℕ
   pub body : List ℕ
+  pub other : c ≢ 0xFF
   pub fits : Fits body
   pub enough : least ≤ length body + 2
-  pub ends : next ≡ at + 2 + (length body + 2)
+  pub after : n ≡ at + fill + 2
+  pub ends : next ≡ n + (length body + 2)
   pub inside : next ≤ length s
-  pub stands : drop at s ≡ lengthed c body ++ drop next s
+  pub stands : drop at s ≡ lengthed fill c body ++ drop next s
 
-pub stood : (s : List ℕ) → Octets s → (at c n least next : ℕ) → 2 ≤ least → markerOf s at ≡ Code c n → segOf s n least ≡ Body next → Stood s at c least next
+pub stood : (s : List ℕ) → Octets s → (at c n least next : ℕ) → 2 ≤ least → markerOf s at ≡ Code c n → segOf s n least ≡ Body next → Stood s at c n least next
 unfolding lengthed
 stood s o at c n least next two m g =
     let k = marker-back s at c n m in
     let b = seg-back s n least next o two g in
-    let z = b .ends in
-    let y = k .0 in
     record {
+      fill = k .fill;
       body = b .body;
+      other = k .other;
       fits = b .fits;
       enough = b .enough;
-      ends = omega arith;
+      after = k .ends;
+      ends = b .ends;
       inside = b .inside;
-      stands = k .2 ∙ ap (λ (l : List ℕ). 0xFF ∷ c ∷ l) (b .stands ∙ sym (append-assoc (octets16 (length (b .body) + 2)) (b .body) (drop next s)));
+      stands =
+          k .stands
+          ∙ ap (λ (l : List ℕ). marker (k .fill) c ++ l) (b .stands ∙ sym (append-assoc (octets16 (length (b .body) + 2)) (b .body) (drop next s)))
+          ∙ sym (append-assoc (marker (k .fill) c) (octets16 (length (b .body) + 2) ++ b .body) (drop next s));
     }
 
 -- ---- a turn that goes over a piece
@@ -64,72 +72,84 @@ pub record Over (s : List ℕ) (st t : Reach) (p : Piece) : Type 0 where
   pub at : t .at ≡ st .at + length (octetsOf p)
 
 module _ (s : List ℕ) (st t : Reach) (c : ℕ) where
-  pub alone-over : (n : ℕ) → markerOf s (st .at) ≡ Code c n → classOf c ≡ Alone → t .at ≡ n → Over s st t alone
+  pub alone-over : (n : ℕ) (x : Marked s (st .at) c n) → classOf c ≡ Alone → t .at ≡ n → Over s st t (alone (x .fill))
   unfolding octetsOf Good
-  alone-over n m k a =
-      let x = marker-back s (st .at) c n m in
-      let z = x .0 in
+  alone-over n x k a =
+      let z = x .ends in
+      let l = length-marker (x .fill) 0x01 in
       record {
         good = tt;
-        stands = x .2 ∙ ap (λ (c : ℕ). 0xFF ∷ c ∷ drop n s) (alone-code c k) ∙ ap (λ (j : ℕ). 0xFF ∷ 0x01 ∷ drop j s) (sym a);
+        stands = x .stands ∙ ap₂ (λ (c j : ℕ). marker (x .fill) c ++ drop j s) (alone-code c k) (sym a);
         at = omega arith;
       }
 
-  module _ (next : ℕ) (x : Stood s (st .at) c 2 next) where
-    pub segment-over : classOf c ≡ Segment → t .at ≡ next → Over s st t (segment c (x .body))
+  module _ (n next : ℕ) (x : Stood s (st .at) c n 2 next) where
+    pub segment-over : classOf c ≡ Segment → t .at ≡ next → Over s st t (segment (x .fill) c (x .body))
     unfolding octetsOf Good
     segment-over k a =
-        let l = length-lengthed c (x .body) in
+        let l = length-lengthed (x .fill) c (x .body) in
+        let y = x .after in
         let z = x .ends in
         record {
           good = (k, x .fits);
-          stands = x .stands ∙ ap (λ (j : ℕ). lengthed c (x .body) ++ drop j s) (sym a);
+          stands = x .stands ∙ ap (λ (j : ℕ). lengthed (x .fill) c (x .body) ++ drop j s) (sym a);
           at = omega arith;
         }
 
-    pub scan-over : (p : ℕ) → classOf c ≡ Scan → scanOf s next ≡ At p → t .at ≡ p → Over s st t (scan (x .body) (take (p - next) (drop next s)))
+    pub scan-over : (p : ℕ) → classOf c ≡ Scan → scanOf s next ≡ At p → t .at ≡ p → Over s st t (scan (x .fill) (x .body) (take (p - next) (drop next s)))
     unfolding octetsOf Good
     scan-over p k q a =
-        let y = scan-data s next p q in
         let b = scan-back s next p q in
-        let v = b .inside in
         let i = b .after in
+        let v = b .marked .inside in
+        let u = b .marked .ends in
+        let y = x .after in
         let z = x .ends in
         let coded : List ℕ = take (p - next) (drop next s) in
-        let l1 = length-append (lengthed 0xDA (x .body)) coded in
-        let l2 = length-lengthed 0xDA (x .body) in
+        let front : List ℕ = lengthed (x .fill) 0xDA (x .body) in
+        let l1 = length-append front coded in
+        let l2 = length-lengthed (x .fill) 0xDA (x .body) in
         let l3 : length coded ≡ p - next = length-take-le (p - next) (drop next s) (let u = length-drop next s in omega arith) in
         record {
-          good = (x .fits, y .0);
+          good = (x .fits, b .coded);
           stands =
-              x .stands ∙ ap (λ (c : ℕ). lengthed c (x .body) ++ drop next s) (scan-code c k)
-              ∙ ap (λ (u : List ℕ). lengthed 0xDA (x .body) ++ u) (y .1) ∙ sym (append-assoc (lengthed 0xDA (x .body)) coded (drop p s))
-              ∙ ap (λ (j : ℕ). (lengthed 0xDA (x .body) ++ coded) ++ drop j s) (sym a);
+              x .stands ∙ ap (λ (c : ℕ). lengthed (x .fill) c (x .body) ++ drop next s) (scan-code c k)
+              ∙ ap (λ (u : List ℕ). front ++ u) (scan-split s next p i) ∙ sym (append-assoc front coded (drop p s))
+              ∙ ap (λ (j : ℕ). (front ++ coded) ++ drop j s) (sym a);
           at = omega arith;
         }
 
 -- ---- what a segment says of the resolution
 
-module _ (s : List ℕ) (main : ℕ) (st : Reach) (c next : ℕ) (x : Stood s (st .at) c 2 next) where
-  tag-by : (b : Bool) → eqb (st .res) 0 && tagged c (x .body) ≡ b → tagOf s st c (st .at + 2) ≡ cond b (Gives (be16At s (st .at + 2 + 10))) Plain
-  tag-by b t = tag-of s main st c (x .body) (drop next s) (x .stands) ∙ ap (λ (b : Bool). cond b (Gives (be16At s (st .at + 2 + 10))) Plain) t
+module _ (s : List ℕ) (main : ℕ) (st : Reach) (c n next : ℕ) (x : Stood s (st .at) c n 2 next) where
+  abbrev behind : ℕ
+  behind = st .at + x .fill + 2
+
+  -- the walk counts from where the length stands
+  tag-at : tagOf s st c n ≡ tagOf s st c behind
+  tag-at = ap (tagOf s st c) (x .after)
+
+  tag-by : (b : Bool) → eqb (st .res) 0 && tagged c (x .body) ≡ b → tagOf s st c n ≡ cond b (Gives (be16At s (behind + 10))) Plain
+  tag-by b t =
+      tag-at ∙ tag-of s main st (x .fill) c (x .body) (drop next s) (x .other) (x .stands)
+      ∙ ap (λ (b : Bool). cond b (Gives (be16At s (behind + 10))) Plain) t
 
   -- one that gives none, and one that does
-  pub plain-test : tagOf s st c (st .at + 2) ≡ Plain → eqb (st .res) 0 && tagged c (x .body) ≡ false
+  pub plain-test : tagOf s st c n ≡ Plain → eqb (st .res) 0 && tagged c (x .body) ≡ false
   plain-test q =
       says-fails (says-true (eqb (st .res) 0 && tagged c (x .body)))
-      (λ t. let z : Gives (be16At s (st .at + 2 + 10)) ≡ Plain = sym (tag-by true t) ∙ q in clash cc)
+      (λ t. let z : Gives (be16At s (behind + 10)) ≡ Plain = sym (tag-by true t) ∙ q in clash cc)
 
-  pub gives-test : (v : ℕ) → tagOf s st c (st .at + 2) ≡ Gives v → (eqb (st .res) 0 && tagged c (x .body) ≡ true) × (v ≡ be16At (x .body) 8)
+  pub gives-test : (v : ℕ) → tagOf s st c n ≡ Gives v → (eqb (st .res) 0 && tagged c (x .body) ≡ true) × (v ≡ be16At (x .body) 8)
   gives-test v q =
       ⊎-elim
       (λ (t : eqb (st .res) 0 && tagged c (x .body) ≡ true).
-      let z : Gives (be16At s (st .at + 2 + 10)) ≡ Gives v = sym (tag-by true t) ∙ q in
-      let u : be16At s (st .at + 2 + 10) ≡ v = cc in
+      let z : Gives (be16At s (behind + 10)) ≡ Gives v = sym (tag-by true t) ∙ q in
+      let u : be16At s (behind + 10) ≡ v = cc in
       let b = says-and (says-eq (st .res) 0) (says-true (tagged c (x .body))) .told t in
       let l = tagged-long s main c (x .body) (b .1) in
-      let y : st .at + 2 + 2 + 8 ≡ st .at + 2 + 10 = omega arith in
-      (t, sym u ∙ number-is s main st c (x .body) (drop next s) (x .stands) 8 (st .at + 2 + 10) y (omega arith)))
+      let y : behind + 2 + 8 ≡ behind + 10 = omega arith in
+      (t, sym u ∙ number-is s main st (x .fill) c (x .body) (drop next s) (x .other) (x .stands) 8 (behind + 10) y (omega arith)))
       (λ (t : eqb (st .res) 0 && tagged c (x .body) ≡ false). let z : Plain ≡ Gives v = sym (tag-by false t) ∙ q in clash cc)
       (bool-else (eqb (st .res) 0 && tagged c (x .body)))
 
@@ -138,12 +158,13 @@ module _ (s : List ℕ) (main : ℕ) (st : Reach) (c next : ℕ) (x : Stood s (s
 pub record Tail (s : List ℕ) (st : Reach) (e w h r : ℕ) : Type 0 where
   pub after : List Piece
   pub good : Each Good after
-  pub octets : drop (st .at) s ≡ piecesOf after ++ (0xFF ∷ 0xD9 ∷ drop e s)
+  pub last : ℕ
+  pub octets : drop (st .at) s ≡ piecesOf after ++ (marker last 0xD9 ++ drop e s)
   pub scanned : (st .scanned ≡ true) ⊎ Scanned after
   pub width : st .width ≡ w
   pub height : st .height ≡ h
   pub res : st .res ≡ r
-  pub ends : e ≡ st .at + length (piecesOf after) + 2
+  pub ends : e ≡ st .at + length (piecesOf after) + last + 2
   pub inside : e ≤ length s
 
 -- one piece in front
@@ -158,7 +179,10 @@ tail-more s st t e w h r p y sc tw th tr k =
     record {
       after = p ∷ k .after;
       good = (y .good, k .good);
-      octets = y .stands ∙ ap (λ (x : List ℕ). octetsOf p ++ x) (k .octets) ∙ sym (append-assoc (octetsOf p) (piecesOf (k .after)) (0xFF ∷ 0xD9 ∷ drop e s));
+      last = k .last;
+      octets =
+          y .stands ∙ ap (λ (x : List ℕ). octetsOf p ++ x) (k .octets)
+          ∙ sym (append-assoc (octetsOf p) (piecesOf (k .after)) (marker (k .last) 0xD9 ++ drop e s));
       scanned =
           ⊎-elim (λ (u : t .scanned ≡ true). ⊎-map (λ (x : st .scanned ≡ true). x) (λ (x : isScan p ≡ true). inl x) (sc u)) (λ (u : Scanned (k .after)). inr (inr u)) (k .scanned);
       width = sym tw ∙ k .width;
@@ -181,18 +205,18 @@ module _ (s : List ℕ) (o : Octets s) (main e w h r : ℕ) where
   unfolding Each piecesOf
   tail-end st k =
       let m = marker-back s (st .at) (k .c) e (k .marker) in
-      let z = m .0 in
-      let y = m .1 in
+      let z = m .ends in
       record {
         after = [];
         good = tt;
-        octets = m .2 ∙ ap (λ (c : ℕ). 0xFF ∷ c ∷ drop e s) (end-code (k .c) (k .class));
+        last = m .fill;
+        octets = m .stands ∙ ap (λ (c : ℕ). marker (m .fill) c ++ drop e s) (end-code (k .c) (k .class));
         scanned = inl (k .scanned);
         width = k .width;
         height = k .height;
         res = k .res;
         ends = omega arith;
-        inside = omega arith;
+        inside = m .inside;
       }
 
   reach-of : {A : Type 0} {t u : Reach} (f : Reach → A) → t ≡ u → f u ≡ f t
@@ -202,19 +226,20 @@ module _ (s : List ℕ) (o : Octets s) (main e w h r : ℕ) where
       → ((t .framed ≡ true) → (t .res ≢ 0) → Tail s t e w h r) → Tail s st e w h r
   unfolding octetsOf Good isScan
   tail-onward st t f d (by-alone c n m k q) go =
-      tail-more s st t e w h r alone (alone-over s st t c n m k (reach-of (λ (z : Reach). z .at) q))
+      let x = marker-back s (st .at) c n m in
+      tail-more s st t e w h r (alone (x .fill)) (alone-over s st t c n x k (reach-of (λ (z : Reach). z .at) q))
       (λ y. inl (reach-of (λ (z : Reach). z .scanned) (sym q) ∙ y)) (reach-of (λ (z : Reach). z .width) q) (reach-of (λ (z : Reach). z .height) q)
       (reach-of (λ (z : Reach). z .res) q)
       (go (reach-of (λ (z : Reach). z .framed) q ∙ f) (λ y. d (sym (reach-of (λ (z : Reach). z .res) q) ∙ y)))
   tail-onward st t f d (by-frame c n next m k nf nr g nh nw q) go = absurd (false≢true (sym nf ∙ f))
   tail-onward st t f d (by-scan c n next p m k fr g fo q) go =
       let x = stood s o (st .at) c n 2 next (omega arith) m g in
-      tail-more s st t e w h r (scan (x .body) (take (p - next) (drop next s))) (scan-over s st t c next x p k fo (reach-of (λ (z : Reach). z .at) q))
+      tail-more s st t e w h r (scan (x .fill) (x .body) (take (p - next) (drop next s))) (scan-over s st t c n next x p k fo (reach-of (λ (z : Reach). z .at) q))
       (λ u. inr refl) (reach-of (λ (z : Reach). z .width) q) (reach-of (λ (z : Reach). z .height) q) (reach-of (λ (z : Reach). z .res) q)
       (go (reach-of (λ (z : Reach). z .framed) q) (λ u. d (sym (reach-of (λ (z : Reach). z .res) q) ∙ u)))
   tail-onward st t f d (by-plain c n next m k g pl q) go =
       let x = stood s o (st .at) c n 2 next (omega arith) m g in
-      tail-more s st t e w h r (segment c (x .body)) (segment-over s st t c next x k (reach-of (λ (z : Reach). z .at) q))
+      tail-more s st t e w h r (segment (x .fill) c (x .body)) (segment-over s st t c n next x k (reach-of (λ (z : Reach). z .at) q))
       (λ y. inl (reach-of (λ (z : Reach). z .scanned) (sym q) ∙ y)) (reach-of (λ (z : Reach). z .width) q) (reach-of (λ (z : Reach). z .height) q)
       (reach-of (λ (z : Reach). z .res) q)
       (go (reach-of (λ (z : Reach). z .framed) q ∙ f) (λ y. d (sym (reach-of (λ (z : Reach). z .res) q) ∙ y)))

@@ -29,7 +29,7 @@ use Rattle.jpeg_rules.specs.declared.Turn.the-variants.{Go, Stop}
 use Rattle.jpeg_rules.specs.Marker.{classOf, markerOf}
 use Rattle.jpeg_rules.specs.Walk.{segOf, scanOf, resolves, tagOf, framed, passed, moved, refused, onBody, onFound, onTag, frameBodyOf, frameOf, scanStepOf, segmentOf, endOf, markOf, onMarker, turnOf, onTurn, walkFrom}
 use Rattle.laws.proofs.Cases.{cond-with, clash}
-use Rattle.jpeg_rules.proofs.Leaves.{marker-back}
+use Rattle.jpeg_rules.proofs.Runs.{marker-back}
 use Rattle.jpeg_rules.proofs.Scans.{scan-back}
 
 -- ---- how a turn can go on, and how it can end
@@ -158,19 +158,19 @@ ahead-at e = ap (λ (x : Reach). x .at) e
 
 pub ahead : (s : List ℕ) (main : ℕ) (st t : Reach) → Onward s main st t → st .at + 2 ≤ t .at
 ahead s main st t (by-alone c n m k e) =
-    let a = marker-back s (st .at) c n m .0 in let b : n ≡ t .at = ahead-at e in omega arith
+    let a = marker-back s (st .at) c n m .ends in let b : n ≡ t .at = ahead-at e in omega arith
 ahead s main st t (by-frame c n next m k f d g h w e) =
-    let a = marker-back s (st .at) c n m .0 in let b : next ≡ t .at = ahead-at e in let q = seg-ahead s n 8 next g in omega arith
+    let a = marker-back s (st .at) c n m .ends in let b : next ≡ t .at = ahead-at e in let q = seg-ahead s n 8 next g in omega arith
 ahead s main st t (by-scan c n next p m k f g q e) =
-    let a = marker-back s (st .at) c n m .0 in
+    let a = marker-back s (st .at) c n m .ends in
     let b : p ≡ t .at = ahead-at e in
     let x = seg-ahead s n 2 next g in
     let y = scan-back s next p q .after in
     omega arith
 ahead s main st t (by-plain c n next m k g q e) =
-    let a = marker-back s (st .at) c n m .0 in let b : next ≡ t .at = ahead-at e in let x = seg-ahead s n 2 next g in omega arith
+    let a = marker-back s (st .at) c n m .ends in let b : next ≡ t .at = ahead-at e in let x = seg-ahead s n 2 next g in omega arith
 ahead s main st t (by-tag c n next v m k g q o e) =
-    let a = marker-back s (st .at) c n m .0 in let b : next ≡ t .at = ahead-at e in let x = seg-ahead s n 2 next g in omega arith
+    let a = marker-back s (st .at) c n m .ends in let b : next ≡ t .at = ahead-at e in let x = seg-ahead s n 2 next g in omega arith
 
 turn-cases : (P : Turn → Type 0) → ((t : Reach) → P (Go t)) → ((w : Walk) → P (Stop w)) → (x : Turn) → P x
 turn-cases P go stop (Go t) = go t

@@ -29,7 +29,7 @@ use Rattle.jpeg_rules.specs.declared.Turn.the-variants.{Go, Stop}
 use Rattle.jpeg_rules.specs.Marker.{classOf, markerOf}
 use Rattle.jpeg_rules.specs.Grammar.{g3fax}
 use Rattle.jpeg_rules.specs.Walk.{segOf, scanOf, resolves, tagOf, framed, passed, moved, refused, onBody, onFound, onTag, frameBodyOf, frameOf, scanStepOf, segmentOf, endOf, markOf, onMarker, turnOf, begun, walkOf}
-use Rattle.jpeg_rules.proofs.Leaves.{marker-back}
+use Rattle.jpeg_rules.proofs.Runs.{marker-back}
 use Rattle.jpeg_rules.proofs.Scans.{scan-back}
 use Rattle.jpeg_rules.proofs.Walks.{Walks, stops, goes, walks-from}
 
@@ -83,7 +83,7 @@ module _ (s : List ℕ) (main : ℕ) where
         (λ f. h)
       where
         by : (next : ℕ) → next ≤ length s → (x : Found) → scanOf s next ≡ x → Within (onFound x next (λ (p : ℕ). Go (passed st p)))
-        by next hi (At p) q = let k = scan-back s next p q in let i = k .inside in omega arith
+        by next hi (At p) q = let k = scan-back s next p q .marked in let i = k .inside in let j = k .ends in omega arith
         by next hi Nothing q = hi
 
     segment-within : Within (segmentOf s main st c n)
@@ -116,7 +116,7 @@ module _ (s : List ℕ) (main : ℕ) where
   turn-within st h = by (markerOf s (st .at)) refl
     where
       by : (x : Marker) → markerOf s (st .at) ≡ x → Within (onMarker x (st .at) (λ (c n : ℕ). markOf s main st c n (classOf c)))
-      by (Code c n) m = let k = marker-back s (st .at) c n m in let k0 = k .0 in let k1 = k .1 in mark-within st c n h (omega arith) (classOf c)
+      by (Code c n) m = mark-within st c n h (marker-back s (st .at) c n m .inside) (classOf c)
       by Missing m = h
       by Cut m = h
 

@@ -1,6 +1,6 @@
--- When a JPEG layer is refused, with which fault and where (01, "Where an image layer ends" and "Numbers that a call returns"), independent of the
--- walk: FF D8 and pieces of the grammar stand there, and the marker that is due after them is cut short or breaks a rule. The place is the first
--- octet of the field at fault.
+-- When a JPEG layer is refused, with which fault and where (01, "Where an image layer ends" and "Numbers that a call returns"; 02, 2026-03),
+-- independent of the walk: FF D8 and pieces of the grammar stand there, and the marker that is due after them is cut short or breaks a rule. The
+-- place is the first octet of the field at fault; a marker's is the first FF of its run.
 --
 --   Known            what is known where a marker is due: a frame came, a scan came, the resolution (0 where none is yet), the last piece is a scan
 --   heightOf, widthOf, resOf   the numbers in the body of a frame and of a tagged segment
@@ -9,7 +9,7 @@
 --   FrameDue k c     a frame may stand here
 --   FrameLong b      a body long enough for a frame
 --   May, past        a piece that may stand here, and what is known after it; `framing`: after the frame
---   Next             after scan data stands FF and a code that is not data; after all else anything may
+--   Next             after scan data stands a run of FF and a code that is not data; after all else anything may
 --   Endless          scan data with no next marker
 --   Least k c n      a marker that may stand here has a length, of n at the least
 --   BadLength        the length of a marker, or the size of its body, is at fault
@@ -20,15 +20,15 @@ use Prim.Native.Nat.{ℕ, _+_, _≤_, _<_, _∣_}
 use mathlib.Core.Path.{_≡_}
 use mathlib.Core.Logic.{_≢_}
 use mathlib.Core.Bool.{Bool, true, false, _&&_, cond}
-use mathlib.Core.List.{List, [], _∷_, _++_}
-use lib.ListN.{length}
+use mathlib.Core.List.{List, _∷_, _++_}
+use lib.ListN.{length, replicate}
 use lib.Dec.{eqb}
 use Rattle.octets.specs.Octets.{be16At, octets16}
 use Rattle.sheet_rules.specs.Sentences.{Listed}
 use Rattle.jpeg_rules.specs.declared.Class.the-variants.{Frame, Scan, End, Wrong, Segment}
 use Rattle.jpeg_rules.specs.declared.Fault.{Fault}
 use Rattle.jpeg_rules.specs.Marker.{classOf}
-use Rattle.jpeg_rules.specs.Grammar.{DataCode, Data, Piece, alone, segment, scan, lengthed, octetsOf, Fits, Good, tagged}
+use Rattle.jpeg_rules.specs.Grammar.{marker, DataRun, Data, Piece, alone, segment, scan, lengthed, octetsOf, Fits, Good, tagged}
 
 -- ---- what may stand where a marker is due
 
@@ -71,30 +71,30 @@ FrameLong body = Fits body × (8 ≤ length body + 2)
 
 -- a scan comes after the frame
 unfoldable pub May : ℕ → Known → Piece → Type 0
-May main k alone = Unit {0}
-May main k (segment c body) = gives k c body ≡ true → Resolves main (resOf body)
-May main k (scan header scanned) = k .framed ≡ true
+May main k (alone fill) = Unit {0}
+May main k (segment fill c body) = gives k c body ≡ true → Resolves main (resOf body)
+May main k (scan fill header scanned) = k .framed ≡ true
 
 unfoldable pub past : Known → Piece → Known
-past k alone = record { framed = k .framed; scanned = k .scanned; res = k .res; inScan = false }
-past k (segment c body) =
+past k (alone fill) = record { framed = k .framed; scanned = k .scanned; res = k .res; inScan = false }
+past k (segment fill c body) =
     record { framed = k .framed; scanned = k .scanned; res = cond (gives k c body) (resOf body) (k .res); inScan = false }
-past k (scan header scanned) = record { framed = k .framed; scanned = true; res = k .res; inScan = true }
+past k (scan fill header scanned) = record { framed = k .framed; scanned = true; res = k .res; inScan = true }
 
 abbrev pub framing : Known → Known
 framing k = record { framed = true; scanned = k .scanned; res = k .res; inScan = false }
 
--- FF with a code other than 00 and D0 to D7 is the next marker
+-- a run with a code other than D0 to D7 is the next marker, but for FF 00
 pub data Next : Bool → List ℕ → Type 0 where
   any : {l : List ℕ} → Next false l
-  marker : (c : ℕ) (r : List ℕ) → (DataCode c → ⊥) → Next true (0xFF ∷ c ∷ r)
+  no-data : (fill c : ℕ) (r : List ℕ) → c ≢ 0xFF → (DataRun fill c → ⊥) → Next true (marker fill c ++ r)
 
 -- ---- a marker at fault
 
--- data to the end, with or without a lone FF
+-- data to the end, with or without a run that the end cuts
 pub data Endless : List ℕ → Type 0 where
   all-data : {d : List ℕ} → Data d → Endless d
-  lone : {d : List ℕ} → Data d → Endless (d ++ (0xFF ∷ []))
+  in-run : {d : List ℕ} (fill : ℕ) → Data d → Endless (d ++ (0xFF ∷ replicate fill 0xFF))
 
 pub data Least (k : Known) : ℕ → ℕ → Type 0 where
   of-segment : {c : ℕ} → classOf c ≡ Segment → Least k c 2
@@ -107,32 +107,35 @@ pub data BadLength (least n : ℕ) : List ℕ → Fault → Type 0 where
   small : (v : ℕ) (r : List ℕ) → v < 65536 → v < least → BadLength least n (octets16 v ++ r) (Fault.BadLength n)
   cut-body : (v : ℕ) (r : List ℕ) → v < 65536 → least ≤ v → length r + 2 < v → BadLength least n (octets16 v ++ r) (Fault.Short (n + 2))
 
--- the marker is due at p: its length stands at p + 2, its body at p + 4. Its own rule comes before its length, the length before a body that passes
--- the end, and that before what stands in the body
+-- the marker is due at p; with fill its length stands at p + fill + 2, its body at p + fill + 4. Its own rule comes before its length, the length
+-- before a body that passes the end, and that before what stands in the body
 pub data BadMarker (main : ℕ) (k : Known) (p : ℕ) : List ℕ → Fault → Type 0 where
-  -- a marker is exactly one FF and a code
+  -- a marker is a run of FF and a code that is not FF
   cut : {l : List ℕ} → length l < 2 → BadMarker main k p l (Fault.Short p)
+  cut-run : (fill : ℕ) → BadMarker main k p (0xFF ∷ replicate fill 0xFF) (Fault.Short p)
   no-marker : (x y : ℕ) (r : List ℕ) → x ≢ 0xFF → BadMarker main k p (x ∷ y ∷ r) (Fault.BadLayer p)
-  -- D0 to D7 and a second D8, 00, FF and 02 to BF
-  wrong-code : (c : ℕ) (r : List ℕ) → classOf c ≡ Wrong → BadMarker main k p (0xFF ∷ c ∷ r) (Fault.BadLayer p)
+  -- D0 to D7 and a second D8, 00 and 02 to BF
+  wrong-code : (fill c : ℕ) (r : List ℕ) → c ≢ 0xFF → classOf c ≡ Wrong → BadMarker main k p (marker fill c ++ r) (Fault.BadLayer p)
   -- exactly one frame; a missing frame, scan or resolution is faulted at the marker where it was due
-  second-frame : (c : ℕ) (r : List ℕ) → classOf c ≡ Frame → k .framed ≡ true → BadMarker main k p (0xFF ∷ c ∷ r) (Fault.BadLayer p)
-  no-resolution : (c : ℕ) (r : List ℕ) → classOf c ≡ Frame → k .framed ≡ false → k .res ≡ 0 → BadMarker main k p (0xFF ∷ c ∷ r) (Fault.BadLayer p)
-  no-frame : (c : ℕ) (r : List ℕ) → classOf c ≡ Scan → k .framed ≡ false → BadMarker main k p (0xFF ∷ c ∷ r) (Fault.BadLayer p)
-  no-scan : (c : ℕ) (r : List ℕ) → classOf c ≡ End → k .scanned ≡ false → BadMarker main k p (0xFF ∷ c ∷ r) (Fault.BadLayer p)
+  second-frame : (fill c : ℕ) (r : List ℕ) → classOf c ≡ Frame → k .framed ≡ true → BadMarker main k p (marker fill c ++ r) (Fault.BadLayer p)
+  no-resolution : (fill c : ℕ) (r : List ℕ) → classOf c ≡ Frame → k .framed ≡ false → k .res ≡ 0
+      → BadMarker main k p (marker fill c ++ r) (Fault.BadLayer p)
+  no-frame : (fill c : ℕ) (r : List ℕ) → classOf c ≡ Scan → k .framed ≡ false → BadMarker main k p (marker fill c ++ r) (Fault.BadLayer p)
+  no-scan : (fill c : ℕ) (r : List ℕ) → classOf c ≡ End → k .scanned ≡ false → BadMarker main k p (marker fill c ++ r) (Fault.BadLayer p)
   -- the length, or a body that passes the end
-  bad-length : {f : Fault} (c least : ℕ) (r : List ℕ) → Least k c least → BadLength least (p + 2) r f → BadMarker main k p (0xFF ∷ c ∷ r) f
-  -- a frame's height, at p + 5, and then its width, at p + 7, are not 0
-  no-height : (c : ℕ) (body r : List ℕ) → FrameDue k c → FrameLong body → heightOf body ≡ 0
-      → BadMarker main k p (lengthed c body ++ r) (Fault.BadLayer (p + 5))
-  no-width : (c : ℕ) (body r : List ℕ) → FrameDue k c → FrameLong body → heightOf body ≢ 0 → widthOf body ≡ 0
-      → BadMarker main k p (lengthed c body ++ r) (Fault.BadLayer (p + 7))
-  -- a resolution, at p + 12, that is not listed or no divisor
-  bad-resolution : (c : ℕ) (body r : List ℕ) → Good (segment c body) → gives k c body ≡ true → (Resolves main (resOf body) → ⊥)
-      → BadMarker main k p (lengthed c body ++ r) (Fault.BadRes (p + 12))
+  bad-length : {f : Fault} (fill c least : ℕ) (r : List ℕ) → Least k c least → BadLength least (p + fill + 2) r f
+      → BadMarker main k p (marker fill c ++ r) f
+  -- a frame's height, 5 octets after the last FF, and then its width, 7 after it, are not 0
+  no-height : (fill c : ℕ) (body r : List ℕ) → FrameDue k c → FrameLong body → heightOf body ≡ 0
+      → BadMarker main k p (lengthed fill c body ++ r) (Fault.BadLayer (p + fill + 5))
+  no-width : (fill c : ℕ) (body r : List ℕ) → FrameDue k c → FrameLong body → heightOf body ≢ 0 → widthOf body ≡ 0
+      → BadMarker main k p (lengthed fill c body ++ r) (Fault.BadLayer (p + fill + 7))
+  -- a resolution, 12 octets after the last FF, that is not listed or no divisor
+  bad-resolution : (fill c : ℕ) (body r : List ℕ) → Good (segment fill c body) → gives k c body ≡ true → (Resolves main (resOf body) → ⊥)
+      → BadMarker main k p (lengthed fill c body ++ r) (Fault.BadRes (p + fill + 12))
   -- scan data with no next marker, at its first octet
-  endless : (header r : List ℕ) → Fits header → k .framed ≡ true → Endless r
-      → BadMarker main k p (lengthed 0xDA header ++ r) (Fault.Short (p + 4 + length header))
+  endless : (fill : ℕ) (header r : List ℕ) → Fits header → k .framed ≡ true → Endless r
+      → BadMarker main k p (lengthed fill 0xDA header ++ r) (Fault.Short (p + fill + 4 + length header))
 
 -- ---- the layer
 
@@ -140,10 +143,10 @@ pub data BadFrom (main : ℕ) : Known → ℕ → List ℕ → Fault → Type 0 
   here : {k : Known} {p : ℕ} {l : List ℕ} {f : Fault} → Next (k .inScan) l → BadMarker main k p l f → BadFrom main k p l f
   past-piece : {k : Known} {p : ℕ} {f : Fault} (q : Piece) (l : List ℕ) → Good q → May main k q
       → BadFrom main (past k q) (p + length (octetsOf q)) l f → BadFrom main k p (octetsOf q ++ l) f
-  past-frame : {k : Known} {p : ℕ} {f : Fault} (c : ℕ) (body l : List ℕ) → FrameDue k c → FrameLong body → heightOf body ≢ 0 → widthOf body ≢ 0
-      → BadFrom main (framing k) (p + length (lengthed c body)) l f → BadFrom main k p (lengthed c body ++ l) f
+  past-frame : {k : Known} {p : ℕ} {f : Fault} (fill c : ℕ) (body l : List ℕ) → FrameDue k c → FrameLong body → heightOf body ≢ 0
+      → widthOf body ≢ 0 → BadFrom main (framing k) (p + length (lengthed fill c body)) l f → BadFrom main k p (lengthed fill c body ++ l) f
 
--- the layer begins at `at`, with FF D8
+-- the layer begins at `at`, with FF D8 and no fill before it
 pub data BadLayer (main at : ℕ) : List ℕ → Fault → Type 0 where
   cut-start : {l : List ℕ} → length l < 2 → BadLayer main at l (Fault.Short at)
   no-start : (x y : ℕ) (r : List ℕ) → ((x ≡ 0xFF) × (y ≡ 0xD8) → ⊥) → BadLayer main at (x ∷ y ∷ r) (Fault.BadLayer at)

@@ -1,44 +1,51 @@
--- A JPEG layer by concatenation (01, "Where an image layer ends"), independent of the walk.
+-- A JPEG layer by concatenation (01, "Where an image layer ends"; 02, 2026-03), independent of the walk.
 --
---   Data d          scan data: no FF in it but FF 00 and FF D0 to FF D7
---   Piece           what stands between FF D8 and FF D9 apart from the frame: a marker that stands alone, a segment with its body, or a scan
---                   with its header and its data
---   lengthed c b    FF, a code, a length that counts itself and the body, and the body
+--   marker f c      a marker: FF, f more of them as fill, and a code
+--   Data d          scan data: no FF in it but FF 00 and markers D0 to D7, with fill or without
+--   Piece           what stands between FF D8 and the end apart from the frame: a marker that stands alone, a segment with its body, or a scan
+--                   with its header and its data; each with its marker's fill
+--   lengthed f c b  a marker, a length that counts itself and the body, and the body
 --   resolution ps   the resolution that the first tagged segment gives, 0 where none is
---   Layer ..        FF D8, pieces without a scan, the frame, pieces with a scan, FF D9
+--   Layer ..        FF D8, pieces without a scan, the frame, pieces with a scan, the marker D9
 use Prim.Native.Nat.{ℕ, _+_, _≤_, _<_, _∣_}
 use mathlib.Core.Path.{_≡_}
 use mathlib.Core.Logic.{_⊎_, _≢_}
 use mathlib.Core.Bool.{Bool, true, false, _&&_, cond}
 use mathlib.Core.List.{List, [], _∷_, _++_}
-use lib.ListN.{length}
+use lib.ListN.{length, replicate}
 use lib.Dec.{eqb, leb}
 use Rattle.octets.specs.Octets.{be16At, octets16, begins}
 use Rattle.sheet_rules.specs.Sentences.{Listed}
 use Rattle.jpeg_rules.specs.declared.Class.the-variants.{Frame, Segment}
 use Rattle.jpeg_rules.specs.Marker.{classOf}
 
--- after FF: 00, or D0 to D7
-abbrev pub DataCode : ℕ → Type 0
-DataCode c = (c ≡ 0x00) ⊎ ((0xD0 ≤ c) × (c ≤ 0xD7))
+-- T.81 B.1.1.2: any marker may be preceded by octets FF
+unfoldable pub marker : ℕ → ℕ → List ℕ
+marker fill c = 0xFF ∷ replicate fill 0xFF ++ (c ∷ [])
+
+-- FF 00 without fill, or D0 to D7
+abbrev pub DataRun : ℕ → ℕ → Type 0
+DataRun fill c = ((c ≡ 0x00) × (fill ≡ 0)) ⊎ ((0xD0 ≤ c) × (c ≤ 0xD7))
 
 pub data Data : List ℕ → Type 0 where
   none : Data []
   plain : {x : ℕ} {d : List ℕ} → x ≢ 0xFF → Data d → Data (x ∷ d)
-  stuffed : {c : ℕ} {d : List ℕ} → DataCode c → Data d → Data (0xFF ∷ c ∷ d)
+  stuffed : {fill c : ℕ} {d : List ℕ} → DataRun fill c → Data d → Data (marker fill c ++ d)
 
 pub data Piece : Type 0 where
-  alone : Piece
-  segment : ℕ → List ℕ → Piece
-  scan : List ℕ → List ℕ → Piece
+  alone : ℕ → Piece
+  segment : ℕ → ℕ → List ℕ → Piece
+  scan : ℕ → List ℕ → List ℕ → Piece
 
-unfoldable pub lengthed : ℕ → List ℕ → List ℕ
-lengthed c body = 0xFF ∷ c ∷ octets16 (length body + 2) ++ body
+unfoldable pub lengthed : ℕ → ℕ → List ℕ → List ℕ
+unfolding marker
+lengthed fill c body = marker fill c ++ (octets16 (length body + 2) ++ body)
 
 unfoldable pub octetsOf : Piece → List ℕ
-octetsOf alone = 0xFF ∷ 0x01 ∷ []
-octetsOf (segment c body) = lengthed c body
-octetsOf (scan header scanned) = lengthed 0xDA header ++ scanned
+unfolding lengthed
+octetsOf (alone fill) = marker fill 0x01
+octetsOf (segment fill c body) = lengthed fill c body
+octetsOf (scan fill header scanned) = lengthed fill 0xDA header ++ scanned
 
 unfoldable pub piecesOf : List Piece → List ℕ
 unfolding octetsOf
@@ -50,14 +57,14 @@ abbrev pub Fits : List ℕ → Type 0
 Fits body = length body + 2 < 65536
 
 unfoldable pub Good : Piece → Type 0
-Good alone = Unit {0}
-Good (segment c body) = (classOf c ≡ Segment) × Fits body
-Good (scan header scanned) = Fits header × Data scanned
+Good (alone fill) = Unit {0}
+Good (segment fill c body) = (classOf c ≡ Segment) × Fits body
+Good (scan fill header scanned) = Fits header × Data scanned
 
 unfoldable pub isScan : Piece → Bool
-isScan alone = false
-isScan (segment c body) = false
-isScan (scan header scanned) = true
+isScan (alone fill) = false
+isScan (segment fill c body) = false
+isScan (scan fill header scanned) = true
 
 -- 47 33 46 41 58 00
 abbrev pub g3fax : List ℕ
@@ -71,9 +78,9 @@ tagged c body = eqb c 0xE1 && leb 12 (length body + 2) && begins body g3fax
 unfoldable pub resolution : List Piece → ℕ
 unfolding tagged
 resolution [] = 0
-resolution (alone ∷ ps) = resolution ps
-resolution (segment c body ∷ ps) = cond (tagged c body) (be16At body 8) (resolution ps)
-resolution (scan header scanned ∷ ps) = resolution ps
+resolution (alone fill ∷ ps) = resolution ps
+resolution (segment fill c body ∷ ps) = cond (tagged c body) (be16At body 8) (resolution ps)
+resolution (scan fill header scanned ∷ ps) = resolution ps
 
 -- each of the pieces
 unfoldable pub Each : (Piece → Type 0) → List Piece → Type 0
@@ -87,11 +94,13 @@ Scanned (p ∷ ps) = (isScan p ≡ true) ⊎ Scanned ps
 
 pub record Layer (main : ℕ) (l : List ℕ) (width height res : ℕ) : Type 0 where
   pub before : List Piece
+  pub fill : ℕ
   pub code : ℕ
   pub body : List ℕ
   pub after : List Piece
-  -- FF D8, then markers; exactly one frame comes before the first scan and none after; FF D9
-  pub octets : l ≡ 0xFF ∷ 0xD8 ∷ piecesOf before ++ (lengthed code body ++ (piecesOf after ++ (0xFF ∷ 0xD9 ∷ [])))
+  pub last : ℕ
+  -- FF D8 without fill, then markers; exactly one frame comes before the first scan and none after; D9
+  pub octets : l ≡ 0xFF ∷ 0xD8 ∷ piecesOf before ++ (lengthed fill code body ++ (piecesOf after ++ marker last 0xD9))
   pub early : Each (λ p. Good p × (isScan p ≡ false)) before
   pub late : Each Good after
   -- the frame: its length at least 8, its width and height not 0

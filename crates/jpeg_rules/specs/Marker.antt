@@ -1,11 +1,11 @@
--- The class of a marker, by its code, and the marker at a place (01, "Where an image layer ends"; T.81 B.1.1.3).
+-- The class of a marker, by its code, and the marker at a place (01, "Where an image layer ends"; 02, 2026-03; T.81 B.1.1.2 and B.1.1.3).
 --
 --   classOf c       what a code makes of a marker
---   markerOf s at   what stands at a place where a marker is due: exactly one FF and a code
+--   markerOf s at   what stands at a place where a marker is due: a run of FF and a code
 use Prim.Native.Nat.{ℕ, _+_}
 use mathlib.Core.Bool.{cond}
 use mathlib.Core.List.{List, [], _∷_}
-use lib.ListN.{length, getD}
+use lib.ListN.{length, getD, drop}
 use lib.Dec.{leb, ltb, eqb}
 use Rattle.laws.specs.Tests.{within, among}
 use Rattle.jpeg_rules.specs.declared.Class.{Class}
@@ -28,7 +28,13 @@ classOf c =
     (cond (within 0xD0 0xD8 c) Wrong
     Segment)))))))
 
+-- octets from i on, after an FF: more FF are fill, and the first other octet is the code, unless the list ends before it
+unfoldable pub codeFrom : List ℕ → ℕ → Marker
+codeFrom [] i = Cut
+codeFrom (x ∷ l) i = cond (eqb x 0xFF) (codeFrom l (i + 1)) (Code x (i + 1))
+
 unfoldable pub markerOf : List ℕ → ℕ → Marker
+unfolding codeFrom
 markerOf s at =
     cond (ltb (length s) (at + 2)) Cut
-    (cond (eqb (getD s at 0) 0xFF) (Code (getD s (at + 1) 0) (at + 2)) Missing)
+    (cond (eqb (getD s at 0) 0xFF) (codeFrom (drop (at + 1) s) (at + 1)) Missing)

@@ -1,16 +1,16 @@
 -- The walk over a JPEG layer's markers, from its first octet to the end of its FF D9 (01, "Where an image layer ends").
 --
 --   segOf s n least     the segment whose length stands at n
---   scanOf s i          the next marker after scan data
+--   scanOf s i          the next marker after scan data, at the first FF of its run
 --   frameOf, scanStepOf, segmentOf   a marker of each kind, its code after which n stands
 --   turnOf s main st    one marker
 --   walkOf s start main the walk
 --
 -- Within a marker: its own rule, then the length's least value, then a body that passes the end, then the body.
 use Prim.Native.Nat.{ℕ, zero, suc, _+_, _-_}
-use mathlib.Core.Bool.{Bool, true, false, _&&_, _||_, not, cond}
-use mathlib.Core.List.{List}
-use lib.ListN.{length, getD}
+use mathlib.Core.Bool.{Bool, true, false, _&&_, _||_, cond}
+use mathlib.Core.List.{List, [], _∷_}
+use lib.ListN.{length, getD, drop}
 use lib.Dec.{ltb, leb, eqb}
 use Rattle.octets.specs.Octets.{be16At, standsAt}
 use Rattle.sheet_rules.specs.Judge.{listed, divides}
@@ -45,20 +45,22 @@ segOf s n least =
     (cond (ltb (length s) (n + be16At s n)) (Seg.Refused (Short (n + 2)))
     (Body (n + be16At s n))))
 
--- FF and a code other than 00 and D0 to D7 end scan data
-unfoldable pub stopsOf : ℕ → ℕ → Bool
-stopsOf a b = eqb a 0xFF && not (eqb b 0x00 || within 0xD0 0xD7 b)
+-- a run of so many FF and its code are scan data: FF 00, and any run before D0 to D7
+unfoldable pub dataRun : ℕ → ℕ → Bool
+dataRun run c = eqb c 0x00 && eqb run 1 || within 0xD0 0xD7 c
 
--- the first of n places from i on at which scan data ends
-unfoldable pub scanFrom : ℕ → List ℕ → ℕ → Found
-unfolding stopsOf
-scanFrom zero s i = Nothing
-scanFrom (suc n) s i = cond (stopsOf (getD s i 0) (getD s (i + 1) 0)) (At i) (scanFrom n s (i + 1))
+-- octets from i on, before which a run of so many FF stands: scan data ends at the first FF of a run that is no data
+unfoldable pub scanFrom : List ℕ → ℕ → ℕ → Found
+unfolding dataRun
+scanFrom [] run i = Nothing
+scanFrom (x ∷ l) run i =
+    cond (eqb x 0xFF) (scanFrom l (run + 1) (i + 1))
+    (cond (eqb run 0 || dataRun run x) (scanFrom l 0 (i + 1)) (At (i - run)))
 
--- the first from i on that has an octet after it
+-- the first from i on
 unfoldable pub scanOf : List ℕ → ℕ → Found
 unfolding scanFrom
-scanOf s i = scanFrom (length s - (i + 1)) s i
+scanOf s i = scanFrom (drop i s) 0 i
 
 -- listed, and a divisor of the main one
 abbrev pub resolves : ℕ → ℕ → Bool

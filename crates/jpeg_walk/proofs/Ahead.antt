@@ -1,14 +1,12 @@
 -- A turn that goes on or ends is two octets further at least, and within the list, and so is a walk: laws of the definitions alone.
 -- Assumes nothing.
-use Prim.Native.Nat.{ℕ, zero, suc, _+_, _-_, _≤_, _<_}
+use Prim.Native.Nat.{ℕ, zero, suc, _+_, _≤_, _<_}
 use mathlib.Core.Bool.{_&&_, cond}
 use mathlib.Core.List.{List}
-use mathlib.Core.Path.{_≡_, sym, _∙_}
-use native.Mathlib.Nat.{le-refl}
+use mathlib.Core.Path.{_≡_, refl, sym, _∙_}
 use native.Mathlib.Omega.{arith}
 use lib.ListN.{length, getD}
 use lib.Dec.{ltb, eqb}
-use borrow.Author.Tests.{ltb-false}
 use Rattle.laws.proofs.Cases.{cond-with}
 use Rattle.octets.specs.Octets.{be16At}
 use Rattle.jpeg_rules.specs.declared.Class.{Class}
@@ -28,7 +26,9 @@ use Rattle.jpeg_rules.specs.declared.Turn.the-variants.{Go, Stop}
 use Rattle.jpeg_rules.specs.declared.Walk.{Walk}
 use Rattle.jpeg_rules.specs.declared.Walk.the-variants.{Ends}
 use Rattle.jpeg_rules.specs.Marker.{classOf, markerOf}
-use Rattle.jpeg_rules.specs.Walk.{segOf, stopsOf, scanFrom, scanOf, resolves, tagOf, passed, moved, refused, onBody, onFound, onTag, onMarker, frameBodyOf, frameOf, scanStepOf, segmentOf, endOf, markOf, turnOf, onTurn, walkFrom, begun, walkOf}
+use Rattle.jpeg_rules.specs.Walk.{segOf, scanOf, resolves, tagOf, passed, moved, refused, onBody, onFound, onTag, onMarker, frameBodyOf, frameOf, scanStepOf, segmentOf, endOf, markOf, turnOf, onTurn, walkFrom, begun, walkOf}
+use Rattle.jpeg_rules.proofs.Runs.{marker-back}
+use Rattle.jpeg_rules.proofs.Scans.{scan-back}
 use Rattle.jpeg_segment.specs.Room.{Room}
 use Rattle.jpeg_segment.proofs.Whole.{Roomy, roomy}
 
@@ -40,10 +40,12 @@ Marked s at Missing = Unit {0}
 Marked s at Cut = Unit {0}
 
 marked : (s : List ℕ) (at : ℕ) → Marked s at (markerOf s at)
-unfolding markerOf
-marked s at =
-    cond-with (Marked s at) (ltb (length s) (at + 2)) (λ _. tt) λ l.
-    cond-with (Marked s at) (eqb (getD s at 0) 0xFF) (λ _. omega (arith, ltb-false (length s) (at + 2) l)) (λ _. tt)
+marked s at = by (markerOf s at) refl
+  where
+    by : (x : Marker) → markerOf s at ≡ x → Marked s at x
+    by (Code c n) e = let k = marker-back s at c n e in let a = k .ends in (omega arith, k .inside)
+    by Missing e = tt
+    by Cut e = tt
 
 pub behind : (s : List ℕ) (at c n : ℕ) {m : Marker} → m ≡ markerOf s at → m ≡ Code c n → n ≤ length s
 behind s at c n e b = let h = rw (sym e ∙ b) at (marked s at) in h .1
@@ -54,20 +56,16 @@ abbrev Past : List ℕ → ℕ → Found → Type 0
 Past s i Nothing = Unit {0}
 Past s i (At p) = (i ≤ p) × (p < length s)
 
-sooner : (s : List ℕ) (i : ℕ) (r : Found) → Past s (i + 1) r → Past s i r
-sooner s i Nothing h = tt
-sooner s i (At p) h = omega arith
-
-past : (k : ℕ) (s : List ℕ) (i : ℕ) → k ≤ length s - (i + 1) → Past s i (scanFrom k s i)
-unfolding scanFrom
-past zero s i h = tt
-past (suc k) s i h =
-    cond-with (Past s i) (stopsOf (getD s i 0) (getD s (i + 1) 0)) (λ _. omega arith) λ _.
-    sooner s i (scanFrom k s (i + 1)) (past k s (i + 1) (omega arith))
-
 past-scan : (s : List ℕ) (i : ℕ) → Past s i (scanOf s i)
-unfolding scanOf
-past-scan s i = past (length s - (i + 1)) s i (le-refl _)
+past-scan s i = by (scanOf s i) refl
+  where
+    by : (x : Found) → scanOf s i ≡ x → Past s i x
+    by Nothing e = tt
+    by (At p) e =
+        let k = scan-back s i p e in
+        let a = k .marked .ends in
+        let b = k .marked .inside in
+        (k .after, omega arith)
 
 -- ---- one marker
 

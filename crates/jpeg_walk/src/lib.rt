@@ -2,8 +2,10 @@
 ghost use mathlib.Core.Path.{_≡_};
 ghost use Prim.Native.Nat.{_≤_};
 ghost use lib.ListN.{length};
-ghost use Rattle.jpeg_rules.specs.Marker.{classOf};
+ghost use Rattle.jpeg_rules.specs.Marker.{classOf, markerOf};
+ghost use Rattle.jpeg_marks.specs.Step.{Steps};
 ghost use Rattle.jpeg_rules.specs.Walk.{markOf, turnOf, walkOf};
+use jpeg_marks::Step;
 use jpeg_rules::Class;
 use jpeg_rules::Fault;
 use jpeg_rules::Marker;
@@ -11,32 +13,46 @@ use jpeg_rules::Reach;
 use jpeg_rules::Turn;
 use jpeg_rules::Walk;
 
-// A marker whose code has been read, with n after it.
-fn mark_step(s: &[u8], main: u16, st: Reach, code: u8, n: usize) -> Turn
-    requires { ⌜ n ≤ length (now s) ⌝ }
-    ensures { λ r. ⌜ r ≡ markOf (now (s .entry)) main st code n (classOf code) ⌝ }
+// What is due after a turn.
+fn after(s: &[u8], turn: Turn) -> Step
+    ensures { λ r. ⌜ Steps (now (s .entry)) r turn ⌝ }
 {
-    match jpeg_marker::class_of(code) {
-        Class::Alone => Turn::Go(jpeg_segment::moved_to(st, n, st.res)),
-        Class::Frame => jpeg_marks::frame_step(s, st, n),
-        Class::Scan => jpeg_marks::scan_step(s, st, n),
-        Class::End => jpeg_marks::end_step(st, n),
-        Class::Wrong => Turn::Stop(Walk::Refused(Fault::BadLayer(st.at))),
-        Class::Segment => jpeg_segment::segment_step(s, main, st, code, n),
+    match turn {
+        Turn::Go(st) => Step::Go {
+            st,
+            mark: jpeg_marker::marker_at(s, st.at),
+        },
+        Turn::Stop(w) => Step::Stop(w),
     }
 }
 
-pub fn turn_at(s: &[u8], main: u16, st: Reach) -> Turn
-    ensures { λ r. ⌜ r ≡ turnOf (now (s .entry)) main st ⌝ }
+// A marker whose code has been read, with n after it.
+fn mark_step(s: &[u8], main: u16, st: Reach, code: u8, n: usize) -> Step
+    requires { ⌜ n ≤ length (now s) ⌝ }
+    ensures { λ r. ⌜ Steps (now (s .entry)) r (markOf (now (s .entry)) main st code n (classOf code)) ⌝ }
 {
-    match jpeg_marker::marker_at(s, st.at) {
-        Marker::Cut => Turn::Stop(Walk::Refused(Fault::Short(st.at))),
-        Marker::Missing => Turn::Stop(Walk::Refused(Fault::BadLayer(st.at))),
+    match jpeg_marker::class_of(code) {
+        Class::Alone => after(s, Turn::Go(jpeg_segment::moved_to(st, n, st.res))),
+        Class::Frame => after(s, jpeg_marks::frame_step(s, st, n)),
+        Class::Scan => jpeg_marks::scan_step(s, st, n),
+        Class::End => after(s, jpeg_marks::end_step(st, n)),
+        Class::Wrong => Step::Stop(Walk::Refused(Fault::BadLayer(st.at))),
+        Class::Segment => after(s, jpeg_segment::segment_step(s, main, st, code, n)),
+    }
+}
+
+fn step_at(s: &[u8], main: u16, st: Reach, mark: Marker) -> Step
+    requires { ⌜ mark ≡ markerOf (now s) (st .at) ⌝ }
+    ensures { λ r. ⌜ Steps (now (s .entry)) r (turnOf (now (s .entry)) main st) ⌝ }
+{
+    match mark {
+        Marker::Cut => Step::Stop(Walk::Refused(Fault::Short(st.at))),
+        Marker::Missing => Step::Stop(Walk::Refused(Fault::BadLayer(st.at))),
         Marker::Code { code, next } => mark_step(s, main, st, code, next),
     }
 }
 
-// T.81 B.2.1: the start of image comes first. Each turn passes two octets at least, so that the loop ends.
+// T.81 B.2.1: the start of image comes first, without fill. Each turn passes two octets at least, so that the loop ends.
 pub fn walk_layer(s: &[u8], start: usize, main: u16) -> Walk
     ensures { λ r. ⌜ r ≡ walkOf (now (s .entry)) start main ⌝ }
 {
@@ -60,12 +76,14 @@ pub fn walk_layer(s: &[u8], start: usize, main: u16) -> Walk
         width: 0,
         height: 0,
     };
+    let mut mark = jpeg_marker::marker_at(s, start + 2);
     loop {
-        match turn_at(s, main, st) {
-            Turn::Go(t) => {
+        match step_at(s, main, st, mark) {
+            Step::Go { st: t, mark: m } => {
                 st = t;
+                mark = m;
             }
-            Turn::Stop(w) => {
+            Step::Stop(w) => {
                 return w;
             }
         }

@@ -20,7 +20,7 @@ use Rattle.answers.specs.Answers.{placeOf}
 use Rattle.sheet_rules.specs.declared.Record.{Record}
 use Rattle.field_rules.specs.Field.{Res, ok, no, bind}
 use Rattle.page_looks.proofs.Hangs.{Whole}
-use Rattle.page_looks.proofs.Looked.{onward, beyond, near, Looked, looked-ok, looked-no, looked-from, looked-as, looked-then, looked-fits, looked-bind}
+use Rattle.page_looks.proofs.Looked.{onward, beyond, near, nearby, Looked, looked-ok, looked-no, looked-from, looked-as, looked-then, looked-fits, looked-bind}
 use Rattle.body_rules.specs.Body.{endMark, Item, skipped, striped, onItem, laid, bodyFrom}
 
 unfoldable pub bodyLook : (ℕ → ℕ → List ℕ → ℕ → Res Item) → (ℕ → ℕ → List ℕ → ℕ → ℕ) → ℕ → ℕ → ℕ → List ℕ → ℕ → ℕ
@@ -62,7 +62,7 @@ module _ (turn : ℕ → ℕ → List ℕ → ℕ → Res Item) (look : ℕ → 
     unfolding placeOf beyond
     next-looked true h w =
         cond-with (λ (x : Res (List Record)). Looked (at + 2) (λ (t : List ℕ). x) s (at + 2)) (eqb k 0)
-        (λ e. looked-no s (BadStripe at) (at + 2) (at + 2) (omega arith) h (near at 2 (BadStripe at) refl (lit≤ tt) (lit≤ tt))) (λ e. looked-ok s acc (at + 2) h)
+        (λ e. looked-no s (BadStripe at) (at + 2) (at + 2) (omega arith) h (nearby s (BadStripe at) (at + 2) (near at 2 (BadStripe at) refl (lit≤ tt) (lit≤ tt)))) (λ e. looked-ok s acc (at + 2) h)
     next-looked false h w =
         looked-bind s (λ (t : List ℕ). turn k left t at) (λ (it : Item) (e : ℕ) (t : List ℕ). readBehind it e t) (look k left s at) _ (at + 2)
         (λ v.

@@ -5,6 +5,7 @@
 --   onward r looked go      how far two steps looked: where the first was refused it looked so far, and where it was read the second says
 --   beyond a                at most so many octets from a refusal's place on were looked at
 --   Near a look             a refusal's place lies before `look`, and not far
+--   Nearby s a look         the same, past the octets FF that stand at the place of a layer's fault: fill before a marker, of any length
 --   Looked look read s at   reading s from a place depends on the octets up to `look`: the place after what was read, or near a refusal's
 --
 -- Assumes nothing.
@@ -14,7 +15,7 @@ use mathlib.Core.Path.{_≡_, refl, sym, ap, subst, _∙_}
 use mathlib.Core.Bool.{Bool, true, false, cond}
 use mathlib.Core.List.{List, [], _∷_}
 use lib.ListN.{length, getD}
-use lib.Dec.{ltb, lit≤}
+use lib.Dec.{eqb, ltb, lit≤}
 use borrow.Author.Tests.{ltb-false, le-ltb}
 use Rattle.octets.proofs.Agree.{Hangs, hangs-none, hangs-as, hangs-from, hangs-then}
 use Rattle.laws.proofs.Cases.{cond-with, clash}
@@ -23,6 +24,7 @@ use Rattle.answers.specs.declared.Answer.the-variants.{Short, BadLength}
 use Rattle.answers.specs.Answers.{numberOf, placeOf}
 use Rattle.field_rules.specs.Field.{Res, ok, no, bind, Field, fields}
 use Rattle.field_rules.specs.Part.{spanOf}
+use Rattle.jpeg_looks.proofs.Look.{fillAt}
 use Rattle.page_looks.proofs.Hangs.{reach, Whole, fields-hang}
 use Rattle.page_looks.proofs.Fields.{reach-end, Looks, fields-look}
 
@@ -47,6 +49,22 @@ pub record Near (a : Answer) (look : ℕ) : Type 0 where
 pub near : (p n : ℕ) (a : Answer) → placeOf a ≡ p → 1 ≤ n → n ≤ beyond a → Near a (p + n)
 near p n a e l g = record { past = omega arith; most = omega arith }
 
+-- the number of BadLayer
+abbrev badLayer : ℕ
+badLayer = 11
+
+-- the place of a marker of a JPEG layer is the first FF of its run
+unfoldable pub fillBy : List ℕ → Answer → ℕ
+unfolding numberOf
+fillBy s a = cond (eqb (numberOf a) badLayer) (fillAt s (placeOf a)) 0
+
+pub record Nearby (s : List ℕ) (a : Answer) (look : ℕ) : Type 0 where
+  pub past : placeOf a < look
+  pub most : look ≤ placeOf a + (fillBy s a + beyond a)
+
+pub nearby : (s : List ℕ) (a : Answer) (look : ℕ) → Near a look → Nearby s a look
+nearby s a look k = let l = k .past in let m = k .most in record { past = l; most = omega arith }
+
 -- a length that depends on the ident behind it: two octets and four
 pub near-length : (p : ℕ) → Near (BadLength p) (p + 6)
 unfolding placeOf beyond
@@ -60,15 +78,15 @@ a & b = (a, b)
 pub record Looked {A : Type 0} (look : ℕ) (read : List ℕ → Res A) (s : List ℕ) (at : ℕ) : Type 0 where
   pub hangs : Hangs look read s at
   pub ends : (x : A) (n : ℕ) → read s ≡ ok x n → look ≡ n
-  pub near : (a : Answer) → read s ≡ no a → Near a look
+  pub near : (a : Answer) → read s ≡ no a → Nearby s a look
 
 module _ (s : List ℕ) where
   pub looked-ok : {A : Type 0} (x : A) (n : ℕ) → n ≤ length s → Looked n (λ (t : List ℕ). ok x n) s n
   looked-ok x n h = record { hangs = hangs-none s (ok x n) n n (omega arith) h; ends = λ y m e. cc; near = λ a e. clash cc }
 
-  pub looked-no : {A : Type 0} (a : Answer) (look at : ℕ) → at ≤ look → look ≤ length s → Near a look → Looked {A = A} look (λ (t : List ℕ). no a) s at
+  pub looked-no : {A : Type 0} (a : Answer) (look at : ℕ) → at ≤ look → look ≤ length s → Nearby s a look → Looked {A = A} look (λ (t : List ℕ). no a) s at
   looked-no a look at h g k =
-      record { hangs = hangs-none s (no a) at look h g; ends = λ y m e. clash cc; near = λ b e. let z : a ≡ b = cc in subst (λ (c : Answer). Near c look) z k }
+      record { hangs = hangs-none s (no a) at look h g; ends = λ y m e. clash cc; near = λ b e. let z : a ≡ b = cc in subst (λ (c : Answer). Nearby s c look) z k }
 
   pub looked-from : {A : Type 0} (read : List ℕ → Res A) (look at from : ℕ) → from ≤ look → Looked look read s at → Looked look read s from
   looked-from read look at from h k = record { hangs = hangs-from s read look at from h (k .hangs); ends = k .ends; near = k .near }
@@ -159,5 +177,5 @@ module _ (s : List ℕ) where
       record {
         hangs = fields-hang table [] s at h w;
         ends = λ x n e. reach-end x s n table [] at e;
-        near = λ a e. fields-look Near s a (λ p z. w p (e ∙ ap no z)) table [] at k e;
+        near = λ a e. nearby s a (reach table [] s at) (fields-look Near s a (λ p z. w p (e ∙ ap no z)) table [] at k e);
       }

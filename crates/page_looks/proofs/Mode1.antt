@@ -20,7 +20,7 @@ use Rattle.field_rules.specs.Field.{ok, bind, widths, fields}
 use Rattle.field_rules.specs.Part.{spanOf}
 use Rattle.page_looks.proofs.Hangs.{reach, Whole}
 use Rattle.page_looks.proofs.Fields.{Looks}
-use Rattle.page_looks.proofs.Looked.{onward, beyond, Near, near, _&_, Looked, looked-ok, looked-no, looked-then, looked-bind, looked-map, looked-span, looked-fields}
+use Rattle.page_looks.proofs.Looked.{onward, beyond, Near, near, fillBy, Nearby, _&_, Looked, looked-ok, looked-no, looked-then, looked-bind, looked-map, looked-span, looked-fields}
 use Rattle.sheet_rules.specs.declared.Record.{Record}
 use Rattle.jpeg_rules.specs.declared.Fault.{Fault}
 use Rattle.jpeg_rules.specs.declared.Fault.the-variants as F
@@ -70,25 +70,25 @@ stripe-near at hd left =
 
 -- ---- the layers
 
-near-fault : (f : Fault) (look : ℕ) → (placeOfFault f < look) × (look ≤ placeOfFault f + walkBeyond f) → Near (faultOf f) look
-unfolding placeOfFault walkBeyond faultOf placeOf beyond
-near-fault (F.Short p) look k = let a = k .0 in let b = k .1 in record { past = a; most = b }
-near-fault (F.BadLength p) look k = let a = k .0 in let b = k .1 in record { past = a; most = let z : look ≤ p + 6 = omega arith in z }
-near-fault (F.BadRes p) look k = let a = k .0 in let b = k .1 in record { past = a; most = b }
-near-fault (F.BadLayer p) look k = let a = k .0 in let b = k .1 in record { past = a; most = b }
+near-fault : (s : List ℕ) (f : Fault) (look : ℕ) → (placeOfFault f < look) × (look ≤ placeOfFault f + walkBeyond s f) → Nearby s (faultOf f) look
+unfolding placeOfFault walkBeyond faultOf placeOf beyond fillBy
+near-fault s (F.Short p) look k = let a = k .0 in let b = k .1 in record { past = a; most = b }
+near-fault s (F.BadLength p) look k = let a = k .0 in let b = k .1 in record { past = a; most = let z : look ≤ p + (0 + 6) = omega arith in z }
+near-fault s (F.BadRes p) look k = let a = k .0 in let b = k .1 in record { past = a; most = let z : look ≤ p + (0 + 65525) = omega arith in z }
+near-fault s (F.BadLayer p) look k = let a = k .0 in let b = k .1 in record { past = a; most = b }
 
 module _ (s : List ℕ) (o : Octets s) (main : ℕ) where
   walk-looked : (at : ℕ) (x : Walk) → walkOf s at main ≡ x → Whole (onWalk x at) → Looked (walkLook s at main) (λ (t : List ℕ). onWalk (walkOf t at main) at) s at
   unfolding onWalk faultOf J.NearWalk
   walk-looked at (Ends e w h r) q u =
       let y = J.walk-hangs s o at main (λ p z. clash cc) in
-      let z : walkLook s at main ≡ e = subst (J.NearWalk (walkLook s at main)) q (y .near) in
+      let z : walkLook s at main ≡ e = subst (J.NearWalk s (walkLook s at main)) q (y .near) in
       looked-then s (λ (t : List ℕ). walkOf t at main) (λ (x : Walk) (t : List ℕ). onWalk x at) (Ends e w h r) (walkLook s at main) (walkLook s at main) at q (y .hangs)
       (subst (λ (l : ℕ). Looked l (λ (t : List ℕ). onWalk (Ends e w h r) at) s l) (sym z) (looked-ok s (There at (e - at) w h r) e (let i = y .hangs .inside in omega arith)))
   walk-looked at (Refused f) q u =
       let y = J.walk-hangs s o at main (λ p z. u p (ap (λ (x : Walk). onWalk x at) (sym q ∙ z))) in
       looked-then s (λ (t : List ℕ). walkOf t at main) (λ (x : Walk) (t : List ℕ). onWalk x at) (Refused f) (walkLook s at main) (walkLook s at main) at q (y .hangs)
-      (looked-no s (faultOf f) (walkLook s at main) (walkLook s at main) (omega arith) (y .hangs .inside) (near-fault f (walkLook s at main) (subst (J.NearWalk (walkLook s at main)) q (y .near))))
+      (looked-no s (faultOf f) (walkLook s at main) (walkLook s at main) (omega arith) (y .hangs .inside) (near-fault s f (walkLook s at main) (subst (J.NearWalk s (walkLook s at main)) q (y .near))))
 
   looked-walked : (present : Bool) (at : ℕ) → at ≤ length s → Whole (walked s main present at)
       → Looked (layerLook s main present at) (λ (t : List ℕ). walked t main present at) s at

@@ -25,7 +25,7 @@ use Rattle.answers.specs.Answers.{placeOf}
 use Rattle.sheet_rules.specs.declared.Record.{Record}
 use Rattle.field_rules.specs.Field.{Res, ok, no, bind, fields}
 use Rattle.page_looks.proofs.Hangs.{reach, Whole}
-use Rattle.page_looks.proofs.Looked.{onward, beyond, Near, near, Looked, looked-ok, looked-if, looked-bind}
+use Rattle.page_looks.proofs.Looked.{onward, beyond, Near, near, nearby, Looked, looked-ok, looked-if, looked-bind}
 use Rattle.segment_rules.specs.declared.Version.{Version}
 use Rattle.segment_rules.specs.declared.Mode.{Mode}
 use Rattle.segment_rules.specs.declared.Mode.the-variants.{One}
@@ -188,5 +188,5 @@ module _ (s : List ℕ) where
                       ∙ sym z;
                 };
             ends = λ x n y. clash cc;
-            near = λ c y. let w : b ≡ c = cc in subst (λ (d : Answer). Near d (zerosLook (drop e s) e)) w (k .near-by);
+            near = λ c y. let w : b ≡ c = cc in nearby s c (zerosLook (drop e s) e) (subst (λ (d : Answer). Near d (zerosLook (drop e s) e)) w (k .near-by));
           }

@@ -18,7 +18,7 @@ use Rattle.field_rules.specs.Part.{spanOf}
 use Rattle.page_looks.proofs.Hangs.{reach, Whole}
 use Rattle.page_looks.proofs.Fields.{Looks, reach-mark}
 use Rattle.field_rules.proofs.Refused.{fields-end}
-use Rattle.page_looks.proofs.Looked.{onward, beyond, Near, near, near-length, _&_, Looked, looked-ok, looked-no, looked-bind, looked-map, looked-span, looked-fields}
+use Rattle.page_looks.proofs.Looked.{onward, beyond, Near, near, nearby, near-length, _&_, Looked, looked-ok, looked-no, looked-bind, looked-map, looked-span, looked-fields}
 use Rattle.segment_rules.specs.declared.Version.{Version}
 use Rattle.segment_rules.proofs.Begin.{open-size}
 use Rattle.segment_rules.specs.Segment.{Need, passed, sized, Due, sizeIn, identIn, openTable, behindOf, segmentOf}
@@ -53,7 +53,7 @@ module _ (s : List ℕ) (at : ℕ) where
       looked-map s (λ (t : List ℕ). spanOf t (at + 8) size) (λ (m : ℕ). n) (at + 8 + size) (at + 8) (looked-span s (at + 8) size)
   behind-looked (sized due) n size h =
       cond-with (λ (x : Res ℕ). Whole x → Looked (at + 8) (λ (t : List ℕ). x) s (at + 8)) (eqb size due) (λ e w. looked-ok s n (at + 8) h)
-      (λ e w. looked-no s (BadLength (at + 2)) (at + 8) (at + 8) (omega arith) h to-ident)
+      (λ e w. looked-no s (BadLength (at + 2)) (at + 8) (at + 8) (omega arith) h (nearby s (BadLength (at + 2)) (at + 8) to-ident))
     where
       to-ident : Near (BadLength (at + 2)) (at + 8)
       to-ident = let z : at + 2 + 6 ≡ at + 8 = omega arith in subst (Near (BadLength (at + 2))) z (near-length (at + 2))

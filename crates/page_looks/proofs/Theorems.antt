@@ -20,7 +20,7 @@ use Rattle.segment_rules.specs.Rules.{longestPage}
 use Rattle.sheet_rules.specs.declared.Record.{Record}
 use Rattle.sheet_rules.specs.Record.{recordSize}
 use Rattle.page_rules.specs.Reading.{pageOf, roomOf, readOf}
-use Rattle.page_looks.proofs.Looked.{beyond}
+use Rattle.page_looks.proofs.Looked.{beyond, fillBy}
 use Rattle.page_looks.proofs.Page.{pageLook}
 use Rattle.page_looks.proofs.Decided.{page-looked}
 
@@ -30,9 +30,9 @@ use Rattle.page_looks.proofs.Decided.{page-looked}
 pub page-decided : (s : List ℕ) → Octets s → (a : Answer) → pageOf s ≡ no a → ((p : ℕ) → a ≡ Short p → ⊥) → (t : List ℕ) → Agree (pageLook s) s t → pageOf t ≡ no a
 page-decided s o a q u t g = page-looked s o a q u .hangs .same t g ∙ q
 
--- that is past the place of the refusal, within the page, and no further than a field of its kind reaches
+-- that is past the place of the refusal, within the page, and no further than a field of its kind reaches, fill before a layer's marker apart
 pub page-near : (s : List ℕ) → Octets s → (a : Answer) → pageOf s ≡ no a → ((p : ℕ) → a ≡ Short p → ⊥)
-    → (placeOf a < pageLook s) × (pageLook s ≤ length s) × (pageLook s ≤ placeOf a + beyond a)
+    → (placeOf a < pageLook s) × (pageLook s ≤ length s) × (pageLook s ≤ placeOf a + (fillBy s a + beyond a))
 page-near s o a q u =
     let k = page-looked s o a q u in
     let n = k .near a q in

@@ -18,17 +18,32 @@ shared-slice-read-if3 c = search needs
 returns-3 : tie.Need-returns-3
 returns-3 c = search marking
 
-add-t3 : tie.Need-add-t3
-add-t3 c = search needs
+add-if4 : tie.Need-add-if4
+add-if4 c = search needs
 
-shared-slice-read-t7 : tie.Need-shared-slice-read-t7
-shared-slice-read-t7 c = search needs
+shared-slice-read-if4 : tie.Need-shared-slice-read-if4
+shared-slice-read-if4 c = search needs
 
-add-t5 : tie.Need-add-t5
-add-t5 c = search needs
+add-t9 : tie.Need-add-t9
+add-t9 c = search needs
+
+shared-slice-read-t11 : tie.Need-shared-slice-read-t11
+shared-slice-read-t11 c = search needs
+
+add-t12 : tie.Need-add-t12
+add-t12 c = search needs
 
 returns-4 : tie.Need-returns-4
 returns-4 c = search marking
+
+add-marker-behind : tie.Need-add-marker-behind
+add-marker-behind c = search needs
+
+marker-behind-requires : tie.Need-marker-behind-requires
+marker-behind-requires c κs = search needs
+
+returns-5 : tie.Need-returns-5
+returns-5 c = search marking
 
 pub marker-at-spec : {M : Type 1} → statement M
 marker-at-spec =
@@ -39,7 +54,12 @@ marker-at-spec =
     returns-2
     shared-slice-read-if3
     returns-3
-    add-t3
-    shared-slice-read-t7
-    add-t5
-    returns-4)
+    add-if4
+    shared-slice-read-if4
+    add-t9
+    shared-slice-read-t11
+    add-t12
+    returns-4
+    add-marker-behind
+    marker-behind-requires
+    returns-5)

@@ -9,8 +9,8 @@ seg-at-requires c κs = search needs
 enum-known-f : tie.Need-enum-known-f
 enum-known-f c = search needs
 
-enum-known-next : tie.Need-enum-known-next
-enum-known-next c = search needs
+enum-known-from : tie.Need-enum-known-from
+enum-known-from c = search needs
 
 next-marker-requires : tie.Need-next-marker-requires
 next-marker-requires c κs = search needs
@@ -18,8 +18,8 @@ next-marker-requires c κs = search needs
 enum-told : tie.Need-enum-told
 enum-told c = search needs
 
-enum-known-p : tie.Need-enum-known-p
-enum-known-p c = search needs
+enum-known-place : tie.Need-enum-known-place
+enum-known-place c = search needs
 
 returns : tie.Need-returns
 returns c = search scan-laws
@@ -39,10 +39,10 @@ scan-step-spec =
     (tie.spec
     seg-at-requires
     enum-known-f
-    enum-known-next
+    enum-known-from
     next-marker-requires
     enum-told
-    enum-known-p
+    enum-known-place
     returns
     returns-2
     returns-3

@@ -1,15 +1,15 @@
-use Rattle.jpeg_walk.proofs.Laws.{Going, walk-laws}
 use borrow.Author.Needs.{needs}
+use Rattle.jpeg_walk.proofs.Laws.{Ready, walk-laws}
 use Prim.Native.Nat.{_-_}
 use lib.ListN.{length}
 use Rattle.jpeg_walk.proofs.walk_layer.Statement.{statement}
 use Rattle.jpeg_walk.proofs.walk_layer.Tie as tie
 
 abbrev Inv-loop : tie.InvT-loop
-Inv-loop s start main st₀ st = Going s start main st
+Inv-loop s start main st₀ mark₀ st mark = Ready s start main st mark
 
 abbrev μ-loop : tie.MeasureT-loop
-μ-loop s start main st₀ st = length s - st .at
+μ-loop s start main st₀ mark₀ st mark = length s - st .at
 
 returns : tie.Need-returns Inv-loop μ-loop
 returns c = search walk-laws
@@ -35,14 +35,20 @@ shared-slice-read-if4 c = search needs
 returns-4 : tie.Need-returns-4 Inv-loop μ-loop
 returns-4 c = search walk-laws
 
-add-t10 : tie.Need-add-t10 Inv-loop μ-loop
-add-t10 c = search needs
+add-t12 : tie.Need-add-t12 Inv-loop μ-loop
+add-t12 c = search needs
+
+add-marker-at : tie.Need-add-marker-at Inv-loop μ-loop
+add-marker-at c = search needs
+
+marker-at-requires : tie.Need-marker-at-requires Inv-loop μ-loop
+marker-at-requires c κs = search needs
 
 loop-holds : tie.Need-loop-holds Inv-loop μ-loop
 loop-holds c = search walk-laws
 
-turn-at-requires : tie.Need-turn-at-requires Inv-loop μ-loop
-turn-at-requires c κs = search needs
+step-at-requires : tie.Need-step-at-requires Inv-loop μ-loop
+step-at-requires c κs = search needs
 
 enum-known-t : tie.Need-enum-known-t Inv-loop μ-loop
 enum-known-t c = search needs
@@ -73,9 +79,11 @@ walk-layer-spec =
     add-if4
     shared-slice-read-if4
     returns-4
-    add-t10
+    add-t12
+    add-marker-at
+    marker-at-requires
     loop-holds
-    turn-at-requires
+    step-at-requires
     enum-known-t
     loop-less
     loop-again

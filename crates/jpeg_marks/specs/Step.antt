@@ -1,0 +1,13 @@
+-- A turn of the walk as code hands it on.
+--
+--   Steps s r turn   a step is that turn: where it goes on, the marker that is due there is handed on with it, so that no run is walked twice
+use Prim.Native.Nat.{ℕ}
+use mathlib.Core.List.{List}
+use mathlib.Core.Path.{_≡_}
+use Rattle.jpeg_rules.specs.declared.Turn.{Turn}
+use Rattle.jpeg_rules.specs.Marker.{markerOf}
+use Rattle.jpeg_marks.specs.declared.Step.{Step}
+
+unfoldable pub Steps : List ℕ → Step → Turn → Type 0
+Steps s (Step.Go st mark) turn = (turn ≡ Turn.Go st) × (mark ≡ markerOf s (st .at))
+Steps s (Step.Stop w) turn = turn ≡ Turn.Stop w
