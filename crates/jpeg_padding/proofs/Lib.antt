@@ -1,0 +1,6 @@
+pub mod Before
+pub mod Pads
+pub mod Reached
+pub mod Walked
+pub mod Theorems
+pub mod Examples
