@@ -1,6 +1,7 @@
 /* Where an image layer ends, read straight from the paper and nothing else.
  * Words in quotation marks are the paper's own (section "Where an image layer
- * ends" unless another one is named). */
+ * ends" unless another one is named), or those of request 2026-03, "Padded
+ * markers", which amends its rule of exactly one FF. */
 #ifndef REFERENCE_JPEG_H
 #define REFERENCE_JPEG_H
 
