@@ -84,6 +84,7 @@ PARTS = {
     "stripe": stripe,
     "mask": lambda octets=5: b"\x5a" * octets,
     "zeros": bytes,
+    "ff": lambda octets=1: b"\xff" * octets,
     "end": lambda: b"\xff\xd9\xff\xd9",
     "soi": lambda: b"\xff\xd8",
     "eoi": lambda: b"\xff\xd9",
