@@ -7,6 +7,7 @@ fault that nobody finds.
 
 import sys
 
+import faults_fill
 import planting
 import reference_run
 import write_making
@@ -100,6 +101,7 @@ FAULTS = [
     ("write.c", "the end is not looked at", "if (layer.end != r.length) {", "if (false) {"),
     ("write.c", "the walk starts at 0", "jpeg_walk(source->data + r.start,",
      "jpeg_walk(source->data,"),
+    *faults_fill.OF_WALK,
     ("write.c", "the width is not looked at", "layer.width != r.width || ", ""),
     ("write.c", "the height is not looked at", "layer.height != r.height ||", ""),
     ("write.c", "the resolution is not looked at",
