@@ -9,6 +9,7 @@ import calls
 import data_random
 import line_random
 import page_making
+import page_random
 import sheet_random
 import write_random
 from sheet_making import record
@@ -28,7 +29,7 @@ def some_room(rng, size):
 # Good cases
 
 def good_read(rng):
-    page, lines = page_making.random_page(rng, stripes=rng.choice([1, 1, 2, 3]))
+    page, lines = page_random.random_page(rng, stripes=rng.choice([1, 1, 2, 3]))
     return page, some_room(rng, 28 * len(lines.splitlines()))
 
 
@@ -65,7 +66,7 @@ GOOD = {"read": good_read, "write": good_write, "line": good_line, "data": good_
 
 def damaged_read(rng):
     page, room = good_read(rng)
-    return page_making.damaged(rng, page), rng.choice([page_making.ROOM, room])
+    return page_random.damaged(rng, page), rng.choice([page_making.ROOM, room])
 
 
 # where the fields of the start of page stand, and of a stripe behind its ident

@@ -5,7 +5,7 @@ sheet; the reference searches the sheet for the layer.
 """
 
 import sheet_random
-from page_making import random_octets
+from page_random import random_octets
 from sheet_making import get, put
 
 WIDE = [0, 1, 2, 63, 64, 255, 256, 257, 65535, 65536, 2 ** 31, 2 ** 32 - 1]

@@ -12,6 +12,7 @@ import sys
 
 import counts
 import page_making
+import page_random
 import reference_run
 
 GOOD = reference_run.trials(300)
@@ -124,7 +125,7 @@ def code_pages():
     data = {0x00, *range(0xD0, 0xD8)}
     for code in range(256):
         octets = "FF%02X00045A5A" % code
-        frame, skipped = code in page_making.FRAMES, code in page_making.SKIPPED
+        frame, skipped = code in page_random.FRAMES, code in page_random.SKIPPED
         # before the frame, at 77
         answer = ("refused 11 79" if code == 0x01 else "refused 3 79" if frame
                   else "done 3" if skipped else "refused 11 77")
@@ -208,7 +209,7 @@ def check_cuts(tally, reader, cases, rng):
 
 def check_good(tally, reader, rng):
     """Pages that keep every rule give just the records that they were made of."""
-    pages = [page_making.random_page(rng) for _ in range(GOOD)]
+    pages = [page_random.random_page(rng) for _ in range(GOOD)]
     answers = reader.lines(lambda k: "random page %d" % k, [page for page, _ in pages])
     for k, ((page, expected), lines) in enumerate(zip(pages, answers)):
         tally.check(lines == expected, "random page %d: %s for %s"
@@ -218,7 +219,7 @@ def check_good(tally, reader, rng):
 
 def check_damaged(tally, reader, rng):
     """Damaged pages: an answer within the page, and every refusal is reached."""
-    pages = [page_making.damaged(rng, page_making.random_page(rng)[0]) for _ in range(DAMAGED)]
+    pages = [page_random.damaged(rng, page_random.random_page(rng)[0]) for _ in range(DAMAGED)]
     numbers = collections.Counter()
     answers = reader.lines(lambda k: "damaged page %d" % k, pages)
     for k, (page, lines) in enumerate(zip(pages, answers)):

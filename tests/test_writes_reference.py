@@ -13,6 +13,7 @@ import sys
 import calls
 import counts
 import page_making
+import page_random
 import reference_run
 import test_outside
 import write_making
@@ -91,7 +92,7 @@ def check_round_trips(tally, writer, rng):
     trip.check("tests/pages.md", accepted)
     outside = test_outside.good_pages(test_outside.stored())
     trip.check("tests/outside", [(name, page) for name, (page, _) in outside])
-    trip.check("random pages", [("number %d" % k, page_making.random_page(rng)[0])
+    trip.check("random pages", [("number %d" % k, page_random.random_page(rng)[0])
                                 for k in range(GOOD)])
     form = [("number %d" % k, page_of(*write_random.random_work(rng))) for k in range(GOOD)]
     tally.check(trip.check("random pages in the writer's form", form) == GOOD,
@@ -120,7 +121,7 @@ def check_lengths(writer, rng):
     """A picture's record of every other length than its own is a Mismatch."""
     works = []
     for k in range(PICTURES):
-        octets, *picture = page_making.random_picture(rng, 1200)
+        octets, *picture = page_random.random_picture(rng, 1200)
         layer = rng.choice([1, 3])
         before, behind = rng.choice([b"", b"\xff", b"\xff\xd8"]), rng.choice([b"\0", octets])
         for length in range(1, len(octets) + 2):

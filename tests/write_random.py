@@ -7,10 +7,11 @@ both are held to tables of their own.
 
 import calls
 import page_making
+import page_random
 import reference_run
 import sheet_making
 import sheet_random
-from page_making import random_octets
+from page_random import random_octets
 from sheet_random import LISTED, whole_records
 
 END = b"\xff\xd9\xff\xd9"
@@ -82,7 +83,7 @@ def share(rng, rows, size):
 
 def random_work(rng):
     """(rows, data) of a page that can be written."""
-    page, lines = page_making.random_page(rng)
+    page, lines = page_random.random_page(rng)
     rows = rows_of(lines)
     data = laid_out(rng, page, rows)
     if rng.random() < 0.5:
@@ -130,7 +131,7 @@ def cut_data(rng, rows, data):
 
 
 def change_data(rng, rows, data):
-    return rows, page_making.damaged(rng, data)
+    return rows, page_random.damaged(rng, data)
 
 
 CHANGES = [change_image, change_image, change_coder, change_place, change_place, add_layers,

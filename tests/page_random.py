@@ -1,0 +1,225 @@
+"""Pages at random, and damaged ones.
+
+Octets that mean something to a reader come more often than by chance, in bodies
+and scan data too, where they mean nothing.
+"""
+
+import random
+import re
+
+from page_making import big, fax, start, stripe
+from sheet_random import LISTED, heights
+from sheet_random import number as number_between
+
+MARKS = [0xFF, 0xFF, 0xFF, 0x00, 0x01, 0xC0, 0xC4, 0xD0, 0xD8, 0xD9, 0xD9, 0xDA, 0xE1, 0xED]
+FRAMES = [code for code in range(0xC0, 0xD0) if code not in (0xC4, 0xC8, 0xCC)]
+SKIPPED = [0xC4, 0xC8, 0xCC] + list(range(0xDB, 0xFF))
+
+
+OCTETS = list(range(256)) + 8 * MARKS       # three of ten are marks
+STOCK = bytes(random.Random(1).choices(OCTETS, k=1 << 17))
+
+
+def random_octets(rng, size):
+    """Octets one by one; many at once are a part of a stock, since most readers pass over them."""
+    if size <= 40:
+        return bytes(rng.choices(OCTETS, k=size))
+    at = rng.randrange(len(STOCK) - size)
+    return STOCK[at:at + size]
+
+
+def random_size(rng):
+    """How long a body is: mostly short, now and then long enough for two octets of length."""
+    return rng.choice([0, 1, 2, 4, rng.randrange(40), rng.randrange(40), rng.choice([300, 2000])])
+
+
+def random_segment(rng):
+    """A segment of a picture that a walk skips, wherever it stands."""
+    kind = rng.random()
+    if kind < 0.2:
+        return b"\xff\x01"
+    if kind < 0.3:  # tagged, but too short or of another code
+        return rng.choice([fax(999, length=rng.randrange(8, 12)), b"\xff\xe0" + fax(999)[2:]])
+    octets = random_octets(rng, random_size(rng))
+    return bytes([0xFF, rng.choice(SKIPPED)]) + big(len(octets) + 2, 2) + octets
+
+
+def random_segments(rng):
+    return b"".join(random_segment(rng) for _ in range(rng.choice([0, 0, 1, 1, 2, 3])))
+
+
+def later_fax(rng):
+    """Behind the first tagged segment no other is judged."""
+    return fax(rng.choice([0, 999, 100])) if rng.random() < 0.2 else b""
+
+
+def random_scan(rng):
+    header = random_octets(rng, rng.choice([0, 6, 6, 10, rng.randrange(20)]))
+    pieces = [rng.choice([b"\xff\x00", bytes([0xFF, rng.randrange(0xD0, 0xD8)]),
+                          bytes([rng.randrange(0xFF)]), b"\xd9"])
+              for _ in range(rng.choice([0, 1, 5, rng.randrange(60)]))]
+    return b"\xff\xda" + big(len(header) + 2, 2) + header + b"".join(pieces)
+
+
+def random_picture(rng, main):
+    """A JPEG layer, and its width, height and resolution."""
+    resolution = rng.choice([r for r in LISTED if main % r == 0])
+    width, height = number_between(rng, 1, 65535), number_between(rng, 1, 65535)
+    rest = random_octets(rng, 1 + rng.choice([0, 3, 9, rng.randrange(30)]))
+    octets = b"\xff\xd8" + random_segments(rng)
+    octets += fax(resolution, length=12 + rng.choice([0, 0, 1, rng.randrange(30)]),
+                  version=random_octets(rng, 2))
+    octets += random_segments(rng) + later_fax(rng)
+    octets += bytes([0xFF, rng.choice(FRAMES)]) + big(7 + len(rest), 2)
+    octets += bytes([rng.randrange(256)]) + big(height, 2) + big(width, 2) + rest
+    for _ in range(rng.choice([1, 1, 2, 3])):
+        octets += random_segments(rng) + later_fax(rng) + random_scan(rng)
+    return octets + random_segments(rng) + b"\xff\xd9", width, height, resolution
+
+
+class PageInTheMaking:
+    """A page's octets and the listing that reading it must give."""
+
+    def __init__(self, rng):
+        self.rng = rng
+        self.coders = rng.choice([(m, i) for m in (0, 1, 2, 4, 8) for i in (0, 1) if m or i])
+        self.main = rng.choice(LISTED)
+        self.width = number_between(rng, 1, 32768)
+        self.octets = start(mask=self.coders[0], image=self.coders[1], main=self.main,
+                            width=self.width)
+        self.lines = ""
+
+    def add_record(self, stripe_number, layer, coder, box, resolution, colour, data):
+        fields = [stripe_number, layer, coder, *box, resolution, *colour, *data]
+        self.lines += " ".join(map(str, fields)) + "\n"
+
+    def types(self):
+        return [t for t in (1, 2, 3, 4, 6, 7)
+                if (self.coders[0] or not t & 2) and (self.coders[1] or not t & 5)]
+
+    def add_image(self, kind, bit, offset):
+        """Puts an image layer; answers coder, box, resolution and data of its record."""
+        if not kind & bit:
+            return 0, (0, 0, 0, 0), self.main, (0, 0)
+        octets, width, height, resolution = random_picture(self.rng, self.main)
+        data = (len(self.octets), len(octets))
+        self.octets += octets
+        return 1, (*offset, width, height), resolution, data
+
+    def add_stripe(self, stripe_number, height):
+        rng = self.rng
+        kind = rng.choice(self.types())
+        colours = rng.randbytes(6)
+        offsets = []
+        for bit in (1, 4):  # "an absent layer's are read, dropped and not judged"
+            most = 65535 if kind & bit else 2 ** 32 - 1
+            offsets.append((number_between(rng, 0, most), number_between(rng, 0, most)))
+        mask = random_octets(rng, rng.choice([1, 5, 300, rng.randint(1, 60)]) if kind & 2 else 0)
+        self.octets += stripe(type=kind, colours=colours, x1=offsets[0][0], y1=offsets[0][1],
+                              x3=offsets[1][0], y3=offsets[1][1], height=height, mask=len(mask))
+        mask_data = (len(self.octets), len(mask)) if mask else (0, 0)
+        self.octets += mask
+        layers = [self.add_image(kind, 1, offsets[0]), self.add_image(kind, 4, offsets[1])]
+        layers.insert(1, (self.coders[0] if mask else 0, (0, 0, self.width, height), self.main,
+                          mask_data))
+        for layer, (coder, box, resolution, data) in enumerate(layers, 1):
+            colour = {1: colours[:3], 2: (0, 0, 0), 3: colours[3:]}[layer]
+            self.add_record(stripe_number, layer, coder, box, resolution, colour, data)
+
+
+def random_page(rng, stripes=None):
+    """A page that keeps every rule, and the lines that a reader of it prints."""
+    page = PageInTheMaking(rng)
+    for _ in range(rng.choice([0, 0, 1, 2, 3])):
+        octets = random_octets(rng, random_size(rng))
+        page.octets += (b"\xff\xed" + big(len(octets) + 6, 2) + b"MRC"
+                        + bytes([rng.randint(3, 0xFE)]) + octets)
+    if stripes is None:
+        stripes = rng.choice([1, 1, 1, 2, 2, 3, 5]) if rng.random() < 0.98 else 64
+    for stripe_number, height in enumerate(heights(rng, stripes)):
+        page.add_stripe(stripe_number, height)
+    page.octets += b"\xff\xd9\xff\xd9" + bytes(rng.choice([0, 0, 1, 2, rng.randrange(200)]))
+    return page.octets, page.lines
+
+
+# Damage.  Each takes a page and gives another; some leave it good.
+
+def change_octet(rng, page):
+    if page:
+        at = rng.randrange(len(page))
+        page[at] = rng.choice([rng.randrange(256), rng.choice(MARKS), (page[at] + 1) % 256])
+    return page
+
+
+def change_code(rng, page):
+    """Another code behind an FF, where markers are."""
+    places = [at + 1 for at in range(len(page) - 1) if page[at] == 0xFF]
+    if places:
+        page[rng.choice(places)] = rng.choice([rng.randrange(256), rng.choice(MARKS)])
+    return page
+
+
+def change_length(rng, page):
+    """Another number in the two octets behind what looks like a marker."""
+    places = [at + 2 for at in range(len(page) - 3) if page[at] == 0xFF and page[at + 1] >= 0xC0]
+    if places:
+        at = rng.choice(places)
+        old = int.from_bytes(page[at:at + 2], "big")
+        new = rng.choice([0, 1, 2, 5, 6, 7, 8, 12, 16, 37, old + 1, old - 1, rng.randrange(65536)])
+        page[at:at + 2] = big(new % 65536, 2)
+    return page
+
+
+def change_field(rng, page):
+    """An octet of the fields behind an ident, often the first, near an edge of a rule."""
+    idents = [found.start() for found in re.finditer(b"MRC", page)]
+    if idents:
+        at = rng.choice([idents[0], rng.choice(idents)])
+        at += rng.choice([rng.randrange(3, 14), rng.randrange(35)])
+        if at < len(page):
+            page[at] = rng.choice([0, 1, 2, 3, 4, 5, 6, 7, 8, 16, 128, 255, rng.randrange(256)])
+    return page
+
+
+def some_range(rng, page):
+    first = rng.randint(0, len(page))
+    return first, min(len(page), first + rng.choice([1, 2, 4, rng.randint(0, 60), len(page)]))
+
+
+def drop(rng, page):
+    first, behind = some_range(rng, page)
+    return page[:first] + page[behind:]
+
+
+def double(rng, page):
+    first, behind = some_range(rng, page)
+    return page[:behind] + page[first:]
+
+
+def swap(rng, page):
+    """Two ranges that stand one behind the other change places."""
+    first, middle = some_range(rng, page)
+    behind = min(len(page), middle + rng.randint(0, 60))
+    return page[:first] + page[middle:behind] + page[first:middle] + page[behind:]
+
+
+def insert(rng, page):
+    at = rng.randint(0, len(page))
+    return page[:at] + rng.choice([b"\xff", b"\xff\xd9", random_segment(rng)]) + page[at:]
+
+
+def extend(rng, page):
+    return page + rng.choice([b"\0" * rng.randint(1, 50), b"\1", b"\xff\xd9", page,
+                              random_octets(rng, rng.randint(1, 20))])
+
+
+CHANGES = [change_octet, change_octet, change_code, change_code, change_length, change_length,
+           change_field, change_field, change_field, drop, drop, double, swap, insert, extend]
+
+
+def damaged(rng, page):
+    """The page after one to three changes."""
+    page = bytearray(page)
+    for _ in range(rng.choice([1, 1, 1, 2, 3])):
+        page = bytearray(rng.choice(CHANGES)(rng, page))
+    return bytes(page)
