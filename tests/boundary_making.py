@@ -262,9 +262,13 @@ def batches(call, rng, count, lengths):
     yield "changed", [mutated(rng, name, GOOD[name](rng)) for _ in range(count // 3)]
     yield "random", [random_case(rng, GOOD[name](rng)) for _ in range(count // 5)]
     if name == "write":
+        yield "faulty layers", [(*write_random.faulty_layer(rng), MOST_ROOM)
+                                for _ in range(count // 2)]
         yield "layers", [added_layers(rng) for _ in range(count // 12)]
         yield "too long", [(*too_long(rng), rng.choice([0, 100])) for _ in range(count // 20)]
     if name == "read":
+        yield "faulty layers", [(page_random.faulty_layer(rng), page_making.ROOM)
+                                for _ in range(count)]
         yield "fields", [faulty_field(rng) for _ in range(2 * count)]
         yield "trailing", [trailing(rng) for _ in range(count // 12)]
         # a few pages, which take their memory once, in many rooms

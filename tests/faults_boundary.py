@@ -13,6 +13,7 @@ import threading
 
 import boundary_making
 import calls
+import faults_fill
 import faults_unseen
 import fuzz
 import planting
@@ -88,6 +89,7 @@ FAULTS = [
     *lent("line_unseen", LINE_UNSEEN, "out", "out_len", LINE_INPUTS),
     *answered("line_unseen", LINE_UNSEEN),
     *faults_unseen.OF_COLOUR,
+    *faults_fill.OF_CALLS,
     ("line", "octets past the line 0", *before(
         LINE, "for (size_t k = shown.count; !shown.number && k < out_len; k++) out[k] = 0;")),
     ("line", "the last pixel seen", *before(LINE, "if (shown.count) out[shown.count - 1] = 1;")),

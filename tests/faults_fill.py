@@ -1,5 +1,6 @@
 """Faults of fill before markers: for tests/faults_page.py, and those that more than a place tells
-of for tests/faults_write.py: (file, what goes wrong, the text of the file, the text in its place).
+of for tests/faults_write.py: (file, what goes wrong, the text of the file, the text in its place);
+some of them for tests/faults_boundary.py too, with the call before them.
 
 The wrong programs of request 2026-03 are among them.
 """
@@ -125,3 +126,11 @@ OF_PLACES = [
      "               number_at(reading, reading->at, 2) == 0xFFFF)\n"
      "            reading->at += 1;\n"),
 ]
+
+# those that a few hundred random cases of a call must meet
+OFTEN = ("one FF only", "a run of at most two", "no fill before the end", "fill outside a scan only",
+         "FF FF 00 is FF and data", "FF FF D3 ends a scan", "fill before FF D8",
+         "fill taken in a body, behind its length", "every marker at its last FF")
+OF_CALLS = [(call, what, file, old, new)
+            for call, faults in (("read", OF_WALK + OF_PLACES), ("write", OF_WALK))
+            for file, what, old, new in faults if what in OFTEN]

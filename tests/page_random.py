@@ -11,11 +11,10 @@ from page_making import big, fax, start, stripe
 from sheet_random import LISTED, heights
 from sheet_random import number as number_between
 
+END = b"\xff\xd9\xff\xd9"
 MARKS = [0xFF, 0xFF, 0xFF, 0x00, 0x01, 0xC0, 0xC4, 0xD0, 0xD8, 0xD9, 0xD9, 0xDA, 0xE1, 0xED]
 FRAMES = [code for code in range(0xC0, 0xD0) if code not in (0xC4, 0xC8, 0xCC)]
 SKIPPED = [0xC4, 0xC8, 0xCC] + list(range(0xDB, 0xFF))
-
-
 OCTETS = list(range(256)) + 8 * MARKS       # three of ten are marks
 STOCK = bytes(random.Random(1).choices(OCTETS, k=1 << 17))
 
@@ -45,43 +44,93 @@ def random_segment(rng):
 
 
 def random_segments(rng):
-    return b"".join(random_segment(rng) for _ in range(rng.choice([0, 0, 1, 1, 2, 3])))
+    return [random_segment(rng) for _ in range(rng.choice([0, 0, 1, 1, 2, 3]))]
 
 
 def later_fax(rng):
     """Behind the first tagged segment no other is judged."""
-    return fax(rng.choice([0, 999, 100])) if rng.random() < 0.2 else b""
+    return [fax(rng.choice([0, 999, 100]))] if rng.random() < 0.2 else []
 
 
 def random_scan(rng):
     header = random_octets(rng, rng.choice([0, 6, 6, 10, rng.randrange(20)]))
-    pieces = [rng.choice([b"\xff\x00", bytes([0xFF, rng.randrange(0xD0, 0xD8)]),
-                          bytes([rng.randrange(0xFF)]), b"\xd9"])
-              for _ in range(rng.choice([0, 1, 5, rng.randrange(60)]))]
-    return b"\xff\xda" + big(len(header) + 2, 2) + header + b"".join(pieces)
+    data = [rng.choice([b"\xff\x00", bytes([0xFF, rng.randrange(0xD0, 0xD8)]),
+                        bytes([rng.randrange(0xFF)]), b"\xd9"])
+            for _ in range(rng.choice([0, 1, 5, rng.randrange(60)]))]
+    return [b"\xff\xda" + big(len(header) + 2, 2) + header, *data]
 
 
-def random_picture(rng, main):
-    """A JPEG layer, and its width, height and resolution."""
+def padded(rng, pieces):
+    """The pieces of a layer behind its FF D8, with fill before some that begin with a marker: a
+    restart marker too, but not FF 00."""
+    octets = b""
+    for piece in pieces:
+        if piece[0] == 0xFF and piece[1:2] != b"\0" and rng.random() < 0.4:
+            octets += b"\xff" * rng.choice([1, 1, 1, 1, 2, 2, 3, 4, rng.randrange(70)])
+            if rng.random() < 0.02:
+                octets += b"\xff" * rng.choice([255, 256, 257, rng.randrange(600)])
+        octets += piece
+    return octets
+
+
+def random_pieces(rng, main):
+    """The pieces of a JPEG layer behind its FF D8, and its width, height and resolution."""
     resolution = rng.choice([r for r in LISTED if main % r == 0])
     width, height = number_between(rng, 1, 65535), number_between(rng, 1, 65535)
     rest = random_octets(rng, 1 + rng.choice([0, 3, 9, rng.randrange(30)]))
-    octets = b"\xff\xd8" + random_segments(rng)
-    octets += fax(resolution, length=12 + rng.choice([0, 0, 1, rng.randrange(30)]),
-                  version=random_octets(rng, 2))
-    octets += random_segments(rng) + later_fax(rng)
-    octets += bytes([0xFF, rng.choice(FRAMES)]) + big(7 + len(rest), 2)
-    octets += bytes([rng.randrange(256)]) + big(height, 2) + big(width, 2) + rest
+    pieces = [*random_segments(rng),
+              fax(resolution, length=12 + rng.choice([0, 0, 1, rng.randrange(30)]),
+                  version=random_octets(rng, 2)),
+              *random_segments(rng), *later_fax(rng),
+              bytes([0xFF, rng.choice(FRAMES)]) + big(7 + len(rest), 2)
+              + bytes([rng.randrange(256)]) + big(height, 2) + big(width, 2) + rest]
     for _ in range(rng.choice([1, 1, 2, 3])):
-        octets += random_segments(rng) + later_fax(rng) + random_scan(rng)
-    return octets + random_segments(rng) + b"\xff\xd9", width, height, resolution
+        pieces += [*random_segments(rng), *later_fax(rng), *random_scan(rng)]
+    return [*pieces, *random_segments(rng), b"\xff\xd9"], width, height, resolution
+
+
+def random_picture(rng, main, often=0.5):
+    """A JPEG layer, and its width, height and resolution. `often` is how often a layer has fill,
+    and changes nothing else in it."""
+    pieces, *picture = random_pieces(rng, main)
+    of_fill = random.Random(rng.getrandbits(32))
+    octets = padded(of_fill, pieces) if of_fill.random() < often else b"".join(pieces)
+    return b"\xff\xd8" + octets, *picture
+
+
+def faulty_picture(rng, main):
+    """The same, but with a piece too few, too many, in another's place or cut, or one that is a
+    fault outside a scan; some are good all the same."""
+    pieces, *picture = random_pieces(rng, main)
+    markers = [k for k, piece in enumerate(pieces) if len(piece) > 2 or piece == b"\xff\xd9"]
+    at, other = (rng.choice([rng.choice(markers), rng.randrange(len(pieces))]) for _ in range(2))
+    kind = rng.randrange(6)
+    if kind == 0:
+        del pieces[at]
+    elif kind == 1:
+        pieces.insert(at, pieces[other])
+    elif kind == 2:
+        pieces[at], pieces[other] = pieces[other], pieces[at]
+    elif kind == 3:
+        pieces[at:] = [rng.choice([pieces[at][:-1], b"\xff", b"\xff\xff", b"\xfe"]) or b"\xff"]
+    else:
+        pieces.insert(at, rng.choice([b"\xff\0", b"\xff\xff\0", b"\xff\x02", b"\xff\xd3",
+                                      b"\xff\xd8", b"\xff\xff", b"\0"]))
+    return rng.choice([b"\xff\xd8"] * 9 + [b"\xff\xff\xd8"]) + padded(rng, pieces), *picture
+
+
+def faulty_layer(rng):
+    """A page of one stripe and one image layer, which may be faulty."""
+    main, kind = rng.choice(LISTED), rng.choice([1, 4])
+    page = start(main=main) + stripe(type=kind) + faulty_picture(rng, main)[0]
+    return page if rng.random() < 0.2 else page + rng.choice([b"", b"\xff"]) + END
 
 
 class PageInTheMaking:
     """A page's octets and the listing that reading it must give."""
 
-    def __init__(self, rng):
-        self.rng = rng
+    def __init__(self, rng, often):
+        self.rng, self.often = rng, often
         self.coders = rng.choice([(m, i) for m in (0, 1, 2, 4, 8) for i in (0, 1) if m or i])
         self.main = rng.choice(LISTED)
         self.width = number_between(rng, 1, 32768)
@@ -101,7 +150,7 @@ class PageInTheMaking:
         """Puts an image layer; answers coder, box, resolution and data of its record."""
         if not kind & bit:
             return 0, (0, 0, 0, 0), self.main, (0, 0)
-        octets, width, height, resolution = random_picture(self.rng, self.main)
+        octets, width, height, resolution = random_picture(self.rng, self.main, self.often)
         data = (len(self.octets), len(octets))
         self.octets += octets
         return 1, (*offset, width, height), resolution, data
@@ -127,9 +176,10 @@ class PageInTheMaking:
             self.add_record(stripe_number, layer, coder, box, resolution, colour, data)
 
 
-def random_page(rng, stripes=None):
-    """A page that keeps every rule, and the lines that a reader of it prints."""
-    page = PageInTheMaking(rng)
+def random_page(rng, stripes=None, often=0.5):
+    """A page that keeps every rule, and the lines that a reader of it prints. `often` is how often
+    a layer has fill, and changes nothing else in the page."""
+    page = PageInTheMaking(rng, often)
     for _ in range(rng.choice([0, 0, 1, 2, 3])):
         octets = random_octets(rng, random_size(rng))
         page.octets += (b"\xff\xed" + big(len(octets) + 6, 2) + b"MRC"
@@ -138,7 +188,7 @@ def random_page(rng, stripes=None):
         stripes = rng.choice([1, 1, 1, 2, 2, 3, 5]) if rng.random() < 0.98 else 64
     for stripe_number, height in enumerate(heights(rng, stripes)):
         page.add_stripe(stripe_number, height)
-    page.octets += b"\xff\xd9\xff\xd9" + bytes(rng.choice([0, 0, 1, 2, rng.randrange(200)]))
+    page.octets += END + bytes(rng.choice([0, 0, 1, 2, rng.randrange(200)]))
     return page.octets, page.lines
 
 
@@ -181,6 +231,30 @@ def change_field(rng, page):
     return page
 
 
+def pad(rng, page):
+    """More FF before one: fill before a marker, or FF FF 00; a page's own markers have none."""
+    places = [at for at in range(len(page)) if page[at] == 0xFF]
+    if places:
+        at = rng.choice(places)
+        page[at:at] = b"\xff" * rng.choice([1, 1, 2, 3, rng.randrange(70)])
+    return page
+
+
+def pad_zero(rng, page):
+    """Two FF or more before 00, where FF 00 or a restart marker stood."""
+    places = [found.start() for found in re.finditer(rb"\xff[\0\xd0-\xd7]", page)]
+    if places:
+        at = rng.choice(places)
+        page[at:at + 2] = b"\xff" * rng.choice([2, 2, 3, rng.randrange(2, 70)]) + b"\0"
+    return page
+
+
+def end_in_run(rng, page):
+    """The page ends with some FF, where one stood."""
+    places = [at for at in range(len(page)) if page[at] == 0xFF]
+    return page[:rng.choice(places)] + b"\xff" * rng.choice([1, 2, 3, 65]) if places else page
+
+
 def some_range(rng, page):
     first = rng.randint(0, len(page))
     return first, min(len(page), first + rng.choice([1, 2, 4, rng.randint(0, 60), len(page)]))
@@ -214,7 +288,8 @@ def extend(rng, page):
 
 
 CHANGES = [change_octet, change_octet, change_code, change_code, change_length, change_length,
-           change_field, change_field, change_field, drop, drop, double, swap, insert, extend]
+           change_field, change_field, change_field, change_field, drop, drop, double, swap, insert,
+           extend, pad, pad, pad_zero, end_in_run]
 
 
 def damaged(rng, page):

@@ -41,6 +41,9 @@ def layer_pages():
     for name, before, unit, behind in [
             ("FF 00 throughout", SCAN, b"\xff\0", b"\xff\xd9"),
             ("FF D0 throughout", SCAN, b"\xff\xd0", b"\xff\xd9"),
+            ("FF FF D0 throughout", SCAN, b"\xff\xff\xd0", b"\xff\xd9"),
+            ("one run before FF D9", SCAN, b"\xff", b"\xff\xd9"),
+            ("one run before the frame", b"\xff\xd8" + fax(), b"\xff", frame_scan),
             ("scan data without FF", SCAN, b"\xfe", b"\xff\xd9"),
             ("4,194,000 scans", SCAN, b"\xff\xda\0\2", b"\xff\xd9"),
             ("FF 01 throughout", b"\xff\xd8" + fax(), b"\xff\1", frame_scan),
@@ -64,8 +67,14 @@ def other_pages():
     size = LONGEST - 61 - len(END)
     page = start() + stripe(mask=size) + b"\xff" * size + END
     yield "the longest mask", page, listing(mask % (61, size))
-    page, _ = filled(start() + stripe(type=1) + SCAN, b"\xff\0", b"")
-    yield "FF 00 to the page's end", page, "refused 1 100\n"
+    scan_data = start() + stripe(type=1) + SCAN
+    for name, unit, behind, answer in [
+            ("FF 00 to the page's end", b"\xff\0", b"", "refused 1 100\n"),
+            ("one run in scan data to the page's end", b"\xff", b"", "refused 1 100\n"),
+            ("one run in scan data before 00", b"\xff", b"\0", "refused 11 100\n")]:
+        yield name, filled(scan_data, unit, behind)[0], answer
+    page, _ = filled(start() + stripe(type=1) + b"\xff\xd8", b"\xff", b"")
+    yield "one run outside a scan to the page's end", page, "refused 1 63\n"
     page, units = filled(start(), optional(), b"\xff")
     yield "optional segments to the page's end", page, "refused 1 %d\n" % (22 + units)
     yield full_stripes()

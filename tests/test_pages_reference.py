@@ -6,17 +6,21 @@ SEED makes a run again; LIBRARY names another archive than build/libspirerook.a.
 """
 
 import collections
+import itertools
 import os
 import random
 import sys
 
 import counts
+import fill_pages
 import page_making
 import page_random
 import reference_run
 
 GOOD = reference_run.trials(300)
+PADDED = reference_run.trials(150)
 DAMAGED = reference_run.trials(1800)
+LAYERS = reference_run.trials(900)
 POSITIONS = 140      # more than a reader looks at in one step
 LARGE = 10000        # a page above this is cut only at some octets
 FIRST_CODED = 61     # no coded data of a Mode 1 page stands before this
@@ -120,39 +124,49 @@ def made(what, words, answer):
 
 
 def code_pages():
-    """(what, page, answer): every marker code at three places of a layer, each time
-    followed by 00 04 5A 5A, which is the rest of a segment that can be skipped."""
-    data = {0x00, *range(0xD0, 0xD8)}
-    for code in range(256):
-        octets = "FF%02X00045A5A" % code
+    """(what, page, answer): every marker code at three places of a layer, behind one FF and behind
+    fill, each time followed by 00 04 5A 5A, which is the rest of a segment that can be skipped."""
+    for code, run in itertools.product(range(256), (1, 2, 9)):
+        octets = "FF" * run + "%02X00045A5A" % code
+        data = code in range(0xD0, 0xD8) or (code == 0x00 and run == 1)
         frame, skipped = code in page_random.FRAMES, code in page_random.SKIPPED
         # before the frame, at 77
-        answer = ("refused 11 79" if code == 0x01 else "refused 3 79" if frame
+        answer = ("refused 11 %d" % (78 + run) if code == 0x01
+                  else "refused 3 %d" % (78 + run) if frame
                   else "done 3" if skipped else "refused 11 77")
         yield made("before the frame", "head1 soi fax %s frame scan 12 eoi end" % octets, answer)
         # in scan data, where its marker is at 101; and outside of it, at 105
         for what, before, at in (("in scan data", "12", 101),
                                  ("behind a scan", "12FFDB0002", 105)):
-            taken = skipped or code == 0xDA or (code in data and at == 101)
-            answer = ("done 3" if taken else "refused 11 %d" % (at + 2) if code == 0x01
-                      else "refused 2 %d" % (at + 2) if code == 0xD9 else "refused 11 %d" % at)
+            taken = skipped or code == 0xDA or (data and at == 101)
+            behind = at + run + 1
+            answer = ("done 3" if taken else "refused 11 %d" % behind if code == 0x01
+                      else "refused 2 %d" % behind if code == 0xD9 else "refused 11 %d" % at)
             yield made(what, "head1 soi fax frame scan %s%s eoi end" % (before, octets), answer)
 
 
+# what may stand in scan data, and where its fault is counted from its first octet, if it has one
+IN_DATA = [(b"\xff\x00", None), (b"\xff\xd0", None), (b"\xff\xd7", None), (b"\xff\x01", 2),
+           (b"\xff\x02", 0), (b"\xff\xcf", 0), (b"\xff\xd8", 0), (b"\xff\xff\x00", 0),
+           (b"\xff\xff\xd0", None), (b"\xff\xff\xff\xd7", None), (b"\xff\xff\x01", 3),
+           (b"\xff\xff\x02", 0), (b"\xff\xff\xff\xd8", 0)]
+
+
 def position_pages():
-    """(what, page, answer): one pair at every octet of scan data, and one octet at
+    """(what, page, answer): a code behind its FF at every octet of scan data, and one octet at
     every place behind the end: a reader may well look at many octets at a time."""
     before = b"".join(map(page_making.part, "head1 soi fax frame scan".split()))
     end = b"\xff\xd9\xff\xd9\xff\xd9"
     for k in range(POSITIONS):
         yield "%d octets of scan data" % k, before + b"\xfe" * k + end, "done 3"
         yield "scan data of %d octets to the end" % k, before + b"\xfe" * k, "refused 1 100"
-        yield "FF after %d octets to the end" % k, before + b"\xfe" * k + b"\xff", "refused 1 100"
-        for code in (0x00, 0xD0, 0xD7, 0x01, 0x02, 0xCF, 0xD8, 0xFF):
-            data = b"\xfe" * k + bytes([0xFF, code]) + b"\xfe" * (POSITIONS - k)
-            yield "FF %02X in scan data at %d" % (code, k), before + data + end, (
-                "done 3" if code in (0x00, 0xD0, 0xD7)
-                else "refused 11 %d" % (len(before) + k + 2 * (code == 0x01)))
+        for run in (1, 2):
+            yield ("%d FF after %d octets to the end" % (run, k),
+                   before + b"\xfe" * k + b"\xff" * run, "refused 1 100")
+        for octets, fault in IN_DATA:
+            data = b"\xfe" * k + octets + b"\xfe" * (POSITIONS - k)
+            yield "%s in scan data at %d" % (octets.hex(), k), before + data + end, (
+                "done 3" if fault is None else "refused 11 %d" % (len(before) + k + fault))
         zeros = bytearray(POSITIONS)
         zeros[k] = 1 + k
         yield "zeros but at %d" % k, before + end + zeros, "refused 12 %d" % (
@@ -217,23 +231,42 @@ def check_good(tally, reader, rng):
         tally.check(inside(page, lines), "random page %d: data outside the page" % k)
 
 
-def check_damaged(tally, reader, rng):
-    """Damaged pages: an answer within the page, and every refusal is reached."""
-    pages = [page_random.damaged(rng, page_random.random_page(rng)[0]) for _ in range(DAMAGED)]
+def without_data(lines):
+    """A listing without where coded data stands and how long it is."""
+    return [line.split()[:-2] for line in lines.splitlines()]
+
+
+def check_padded(tally, reader, rng):
+    """Fill before markers changes no record but where data stands and how long it is."""
+    seeds = [rng.getrandbits(32) for _ in range(PADDED)]
+    plain, padded = ([page_random.random_page(random.Random(seed), often=often)[0]
+                      for seed in seeds] for often in (0, 1))
+    answers = reader.lines(lambda k: "page %d, with fill from %d on" % (k, PADDED), plain + padded)
+    for k, (before, lines) in enumerate(zip(answers, answers[PADDED:])):
+        tally.check(lines[:1].isdigit() and without_data(before) == without_data(lines),
+                    "page %d with fill: %s, and other records without" % (k, page_making.answer(lines)))
+    more = sum(before != page for before, page in zip(plain, padded))
+    print("%d pages without fill and with it, %d octets more" % (
+        more, sum(map(len, padded)) - sum(map(len, plain))))
+    tally.check(more > PADDED // 3, "of %d pages only %d have fill" % (PADDED, more))
+
+
+def check_damaged(tally, reader, what, pages, reached):
+    """Damaged pages: an answer within the page, and every number that is due is reached."""
     numbers = collections.Counter()
-    answers = reader.lines(lambda k: "damaged page %d" % k, pages)
+    answers = reader.lines(lambda k: "%s %d" % (what, k), pages)
     for k, (page, lines) in enumerate(zip(pages, answers)):
         refused = refusal(lines)
         if refused is not None:
             holds = refused[1] <= len(page)
         else:
             holds = lines[:1].isdigit() and inside(page, lines)
-        tally.check(holds, "damaged page %d: %s" % (k, page_making.answer(lines)))
+        tally.check(holds, "%s %d: %s" % (what, k, page_making.answer(lines)))
         numbers[refused[0] if refused else 0] += 1
-    print("%d damaged pages: %s" % (len(pages), ", ".join(
+    print("%d %ss: %s" % (len(pages), what, ", ".join(
         "answer %d %d times" % each for each in sorted(numbers.items()))))
-    missing = set(range(13)) - set(numbers)
-    tally.check(not missing, "no damaged page has the answers %s" % missing)
+    missing = reached - set(numbers)
+    tally.check(not missing, "no %s has the answers %s" % (what, missing))
 
 
 def main():
@@ -248,10 +281,17 @@ def main():
     check_table(tally, reader, cases)
     check_rooms(tally, plain, cases)
     check_pages(tally, reader, [*code_pages(), *position_pages()])
+    check_pages(tally, reader, [*fill_pages.run_pages(), *fill_pages.string_pages()])
     check_cuts(tally, plain, cases, random.Random(seed))
     check_cuts(tally, reader, cases[::12], random.Random(seed))
     check_good(tally, reader, random.Random(seed + 1))
-    check_damaged(tally, reader, random.Random(seed + 2))
+    check_padded(tally, reader, random.Random(seed + 3))
+    rng = random.Random(seed + 2)
+    check_damaged(tally, reader, "damaged page", [
+        page_random.damaged(rng, page_random.random_page(rng)[0]) for _ in range(DAMAGED)],
+                  set(range(13)))
+    check_damaged(tally, reader, "faulty layer", [page_random.faulty_layer(rng)
+                                                  for _ in range(LAYERS)], {0, 1, 2, 11})
     if library is not None:
         print("%d pages read by the reference and by the library"
               % (reader.compared + plain.compared))

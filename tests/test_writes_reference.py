@@ -6,6 +6,7 @@ SEED makes a run again; LIBRARY names another archive than build/libspirerook.a.
 """
 
 import collections
+import itertools
 import os
 import random
 import sys
@@ -18,7 +19,7 @@ import reference_run
 import test_outside
 import write_making
 import write_random
-from write_random import page_of, rows_of, sheet_of, without_starts
+from write_random import one_picture, page_of, rows_of, sheet_of, without_starts
 
 GOOD = reference_run.trials(150)
 DAMAGED = reference_run.trials(1200)
@@ -99,16 +100,6 @@ def check_round_trips(tally, writer, rng):
                 "a page made in the writer's form is in another")
 
 
-def one_picture(layer, picture, start, length):
-    """The rows of a stripe with one image layer; `picture` is its width, height and
-    resolution."""
-    rows = [[0, each, 0, 0, 0, 0, 0, 1200, each, 0, 0, 0, 0] for each in (1, 2, 3)]
-    rows[1][5:] = [9, 9, 1200, 0, 0, 0, 0, 0]
-    rows[layer - 1][2:8] = [1, 0, 0, *picture]
-    rows[layer - 1][11:] = [start, length]
-    return rows
-
-
 def picture_work(told, rows, data, good):
     """What is due to one of these: Done, or Mismatch at the picture's record."""
     coded = next(k for k, row in enumerate(rows) if row[12])
@@ -133,19 +124,22 @@ def check_lengths(writer, rng):
 
 
 def check_positions(writer):
-    """One pair at every octet of scan data, and the record's end around it."""
+    """A code behind its FF, or behind fill, at every octet of scan data, and the record's end
+    around it."""
     head = bytes(write_making.octets_of("soi fax frame scan"))
     works = []
-    for k in range(POSITIONS):
+    for k, code in itertools.product(range(POSITIONS), (0x00, 0xD0, 0xD7, 0xD9, 0xDA)):
         before = bytes(k % 9)
-        for code in (0x00, 0xD0, 0xD7, 0xD9, 0xDA, 0xFF):
-            octets = head + b"\xfe" * k + bytes([0xFF, code]) + b"\xfe" * 40 + b"\xff\xd9"
-            ends = {0xD9: len(head) + k + 2, 0xDA: None, 0xFF: None}.get(code, len(octets))
-            for length in (len(head) + k, len(head) + k + 1, len(head) + k + 2, len(octets)):
+        for run in (1, 2, 5):
+            at = len(head) + k      # of the first FF
+            octets = head + b"\xfe" * k + b"\xff" * run + bytes([code]) + b"\xfe" * 40 + b"\xff\xd9"
+            is_data = run == 1 if code == 0x00 else code < 0xD8
+            ends = at + run + 1 if code == 0xD9 else len(octets) if is_data else None
+            for length in {at, at + 1, at + run, at + run + 1, len(octets)}:
                 rows = one_picture(1, (50, 20, 200), len(before), length)
                 works.append(picture_work(
-                    "FF %02X in scan data at %d, a record of %d" % (code, k, length), rows,
-                    before + octets + b"\xff\xd9", length == ends))
+                    "%d FF and %02X in scan data at %d, a record of %d" % (run, code, k, length),
+                    rows, before + octets + b"\xff\xd9", length == ends))
     writer.check(works)
 
 
@@ -179,6 +173,7 @@ def check_good(writer, rng):
 def check_damaged(tally, writer, rng):
     """Damaged sheets and data: the answer that their parts tell, and every refusal is reached."""
     works = [write_random.damaged_work(rng) for _ in range(DAMAGED)]
+    works += [write_random.faulty_layer(rng) for _ in range(DAMAGED // 3)]
     numbers, due = collections.Counter(), []
     for k, ((sheet, data), (answer, page)) in enumerate(
             zip(works, write_random.Judge().verdicts(works))):

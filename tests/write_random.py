@@ -52,6 +52,16 @@ def page_of(rows, data):
     return b"".join(pieces) + END
 
 
+def one_picture(layer, picture, start, length):
+    """The rows of a stripe with one image layer; `picture` is its width, height and
+    resolution."""
+    rows = [[0, each, 0, 0, 0, 0, 0, 1200, each, 0, 0, 0, 0] for each in (1, 2, 3)]
+    rows[1][5:] = [9, 9, 1200, 0, 0, 0, 0, 0]
+    rows[layer - 1][2:8] = [1, 0, 0, *picture]
+    rows[layer - 1][11:] = [start, length]
+    return rows
+
+
 # Random sheets that keep every rule, over data where the pieces stand in any
 # order, with octets between them, and some are shared.
 
@@ -146,6 +156,13 @@ def damaged_work(rng):
     for _ in range(rng.choice([1, 1, 2, 3])):
         rows, data = rng.choice(CHANGES)(rng, rows, data)
     return sheet_of(rows), data
+
+
+def faulty_layer(rng):
+    """(sheet, data) of one image layer, which may be faulty; the record is what it was made as."""
+    octets, *picture = page_random.faulty_picture(rng, 1200)
+    before = rng.choice([b"", b"\xff"])
+    return sheet_of(one_picture(rng.choice([1, 3]), picture, len(before), len(octets))), before + octets
 
 
 # What a writer has to say.
