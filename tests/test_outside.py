@@ -2,12 +2,15 @@
 
 What is expected is worked out from how each page is put together: the widths,
 heights and resolutions that the coders were given, and the sizes of what they
-wrote (tests/outside/README.md). Cut pages are compared between the reference
-and the library; SEED makes a run again.
+wrote (tests/outside/README.md). Each JPEG layer comes with fill before its
+markers too. Cut pages are compared between the reference and the library; SEED
+makes a run again.
 """
 
+import copy
 import os
 import random
+import re
 import sys
 
 import page_making
@@ -39,6 +42,31 @@ class Layer:
 def stored():
     rows = page_making.rows(os.path.join(FOLDER, "README.md"))
     return {cells[0]: Layer(cells) for cells in rows if len(cells) == 8 and cells[1].isdigit()}
+
+
+def filled(octets, fill):
+    """A picture of exactly one FF a marker, with fill before each but the first: before restart
+    markers too."""
+    pieces, at = [octets[:2]], 2
+    while at < len(octets):
+        code, length = octets[at + 1], int.from_bytes(octets[at + 2:at + 4], "big")
+        behind = at + 2 + (0 if code == 0xD9 else length)
+        pieces.append(fill + octets[at:behind])
+        at = behind
+        if code == 0xDA:
+            at = re.compile(rb"(?:[^\xff]|\xff[\0\xd0-\xd7])*").match(octets, behind).end()
+            pieces.append(re.sub(rb"\xff(?=[\xd0-\xd7])", fill + b"\xff", octets[behind:at]))
+    return b"".join(pieces)
+
+
+def with_fill(layers, count):
+    """The JPEG layers that the paper takes, each with so many octets of fill before its markers."""
+    for name, layer in layers.items():
+        if layer.resolution not in (0, 12343):
+            layer = copy.copy(layer)
+            layer.octets = filled(layer.octets, b"\xff" * count)
+            layer.size = len(layer.octets)
+            yield "%s with %d FF more" % (name, count), layer
 
 
 class Page:
@@ -98,6 +126,10 @@ def good_pages(layers):
         if layer.resolution not in (0, 12343):
             yield "background " + name, page(1200, 0).stripe(back=name).end()
             yield "foreground " + name, page(1200, 4).stripe(fore=name).end(zeros=1000)
+    for count in (1, 2, 63):
+        more = dict(with_fill(layers, count))
+        for name, other in zip(more, reversed(more)):
+            yield name, Page(more, 1200, 0).stripe(back=name).stripe(fore=other).end()
     yield "six stripes of the six types", (
         page(600, 4).stripe(back="cjpeg.jpg").stripe("mask.mmr", height=59)
         .stripe("mask.mmr", "arithmetic.jpg").stripe(fore="half.jpg", at=((2 ** 32 - 1, 0), (0, 1)))

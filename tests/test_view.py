@@ -248,12 +248,15 @@ def build_decoder(coders):
 
 
 def check_outside(results, coders, program):
+    """The stored layers, and some with fill before their markers: decoders pass it by, too."""
     layers = test_outside.stored()
+    some = {name: layers[name] for name in ("progressive.jpg", "restart.jpg", "arithmetic.jpg")}
+    layers.update(test_outside.with_fill(some, 3))
     count = 0
     for name, page in outside_pages(coders, program, layers):
         check_page(results, coders, page, name)
         count += 1
-    results.check(count == 22, "%d pages of outside layers" % count)
+    results.check(count == 28, "%d pages of outside layers" % count)
 
 
 def check_exact(results, coders, program, rng):
