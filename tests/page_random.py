@@ -98,13 +98,20 @@ def random_picture(rng, main, often=0.5):
     return b"\xff\xd8" + octets, *picture
 
 
+def faulty_piece(rng, piece):
+    """A piece with a small number where a segment has its length, a frame its height or width, or
+    a tagged segment its resolution."""
+    at = rng.choice([at for at in (2, 2, 5, 7, 12) if at + 2 <= len(piece)])
+    return piece[:at] + rng.choice([b"\0\0", b"\0\1", b"\0\7"]) + piece[at + 2:]
+
+
 def faulty_picture(rng, main):
-    """The same, but with a piece too few, too many, in another's place or cut, or one that is a
-    fault outside a scan; some are good all the same."""
+    """The same, but with a piece too few, too many, in another's place, changed or cut, or one that
+    is a fault outside a scan; some are good all the same."""
     pieces, *picture = random_pieces(rng, main)
     markers = [k for k, piece in enumerate(pieces) if len(piece) > 2 or piece == b"\xff\xd9"]
     at, other = (rng.choice([rng.choice(markers), rng.randrange(len(pieces))]) for _ in range(2))
-    kind = rng.randrange(6)
+    kind = rng.randrange(8)
     if kind == 0:
         del pieces[at]
     elif kind == 1:
@@ -113,6 +120,8 @@ def faulty_picture(rng, main):
         pieces[at], pieces[other] = pieces[other], pieces[at]
     elif kind == 3:
         pieces[at:] = [rng.choice([pieces[at][:-1], b"\xff", b"\xff\xff", b"\xfe"]) or b"\xff"]
+    elif kind in (4, 5) and len(pieces[at]) > 3:
+        pieces[at] = faulty_piece(rng, pieces[at])
     else:
         pieces.insert(at, rng.choice([b"\xff\0", b"\xff\xff\0", b"\xff\x02", b"\xff\xd3",
                                       b"\xff\xd8", b"\xff\xff", b"\0"]))

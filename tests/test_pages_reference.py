@@ -248,7 +248,7 @@ def check_padded(tally, reader, rng):
     more = sum(before != page for before, page in zip(plain, padded))
     print("%d pages without fill and with it, %d octets more" % (
         more, sum(map(len, padded)) - sum(map(len, plain))))
-    tally.check(more > PADDED // 3, "of %d pages only %d have fill" % (PADDED, more))
+    tally.check(more > PADDED // 5, "of %d pages only %d have fill" % (PADDED, more))
 
 
 def check_damaged(tally, reader, what, pages, reached):
@@ -291,7 +291,7 @@ def main():
         page_random.damaged(rng, page_random.random_page(rng)[0]) for _ in range(DAMAGED)],
                   set(range(13)))
     check_damaged(tally, reader, "faulty layer", [page_random.faulty_layer(rng)
-                                                  for _ in range(LAYERS)], {0, 1, 2, 11})
+                                                  for _ in range(LAYERS)], {0, 1, 2, 3, 11})
     if library is not None:
         print("%d pages read by the reference and by the library"
               % (reader.compared + plain.compared))
