@@ -1,19 +1,26 @@
 // Reading a page as C would have it: one pass, fields read where they are tested, out at the first
 // fault. Records stand in a scratch and reach the sheet when all is judged and fits, as the proved
-// call has it. Compiled twice: with BY_MEMCHR scan data is searched by memchr, else octet by octet.
+// call has it. Compiled twice, as layer.c is, whose walk it uses.
 #include "page.h"
 
-#include <stdbool.h>
 #include <string.h>
 
 #define MOST_OCTETS 16777215
 #define MOST_STRIPES 64
 #define STRIPE_RECORDS (3 * RECORD_SIZE)
 
+#ifdef BY_MEMCHR
+#define READ c_read_by_memchr
+#define WALK c_walk_by_memchr
+#else
+#define READ c_read_by_octets
+#define WALK c_walk_by_octets
+#endif
+
 struct reader {
     const uint8_t *page;
-    size_t size, at;        // at: the first octet not read, never past size
-    uint32_t number, place; // of a fault
+    size_t size, at; // at: the first octet not read, never past size
+    struct fault fault;
     uint32_t mask_coder, image_coder, main, width;
     uint32_t left; // of the page's height
     unsigned stripes;
@@ -22,8 +29,7 @@ struct reader {
 
 static bool fail(struct reader *r, uint32_t number, size_t place)
 {
-    r->number = number;
-    r->place = (uint32_t)place;
+    r->fault = (struct fault){number, (uint32_t)place};
     return false;
 }
 
@@ -37,160 +43,6 @@ static inline const uint8_t *take(struct reader *r, size_t octets)
     }
     r->at += octets;
     return p;
-}
-
-// ---- a JPEG layer
-
-enum class { ALONE, FRAME, SCAN, END, FAULT, SEGMENT };
-
-static inline enum class class_of(uint32_t code) {
-    if (code >= 0xDB) return code == 0xFF ? FAULT : SEGMENT;
-    if (code >= 0xD0) return code == 0xDA ? SCAN
-    : code == 0xD9                        ? END
-                                          : FAULT;
-    if (code >= 0xC0) return code % 4 == 0 && code != 0xC0 ? SEGMENT : FRAME;
-    return code == 0x01 ? ALONE : FAULT;
-}
-
-static inline bool is_data(uint32_t code)
-{
-    return code == 0x00 || (code & 0xF8) == 0xD0;
-}
-
-// The marker that ends scan data, or the page's size where there is none.
-static size_t scan_end(const uint8_t *page, size_t at, size_t size)
-{
-#ifdef BY_MEMCHR
-    while (size - at >= 2) {
-        const uint8_t *p = memchr(page + at, 0xFF, size - at - 1);
-        if (p == NULL)
-            break;
-        at = (size_t)(p - page);
-        if (!is_data(p[1]))
-            return at;
-        at += 2;
-    }
-#else
-    while (size - at >= 2) {
-        if (page[at] != 0xFF)
-            at++;
-        else if (is_data(page[at + 1]))
-            at += 2;
-        else
-            return at;
-    }
-#endif
-    return size;
-}
-
-static bool listed(uint32_t res)
-{
-    switch (res) {
-    case 100:
-    case 200:
-    case 300:
-    case 400:
-    case 600:
-    case 1200: return true;
-    default: return false;
-    }
-}
-
-// What is known of a layer so far: 0 is not known.
-struct layer {
-    uint32_t res, width, height;
-    bool scanned;
-};
-
-// Whether a marker may not stand here.
-static inline bool out_of_turn(const struct layer *l, enum class c)
-{
-    switch (c) {
-    case FRAME: return l->res == 0 || l->width != 0;
-    case SCAN: return l->width == 0;
-    case END: return !l->scanned;
-    default: return c == FAULT;
-    }
-}
-
-static bool read_frame(struct reader *r, struct layer *l, size_t body)
-{
-    l->height = be16(r->page + body + 1);
-    if (l->height == 0)
-        return fail(r, SPIREROOK_BAD_LAYER, body + 1);
-    l->width = be16(r->page + body + 3);
-    return l->width != 0 || fail(r, SPIREROOK_BAD_LAYER, body + 3);
-}
-
-// The first G3FAX0 counts.
-static bool read_tagged(struct reader *r, struct layer *l, size_t body)
-{
-    if (l->res != 0 || memcmp(r->page + body, "G3FAX", 6) != 0)
-        return true;
-    l->res = be16(r->page + body + 8);
-    return (listed(l->res) && r->main % l->res == 0) || fail(r, SPIREROOK_BAD_RES, body + 8);
-}
-
-static void put_layer(const struct layer *l, size_t begin, size_t end, uint8_t *record)
-{
-    put16(record + 8, l->width);
-    put16(record + 10, l->height);
-    put16(record + 12, l->res);
-    put32(record + 18, (uint32_t)begin);
-    put32(record + 22, (uint32_t)(end - begin));
-}
-
-// A marker that has a length, and the scan data behind a scan header. Answers where the next marker
-// is due, or 0.
-static inline size_t segment(struct reader *r, struct layer *l, enum class c, uint32_t code,
-                             size_t at)
-{
-    if (r->size - at < 4)
-        return fail(r, SPIREROOK_SHORT, at + 2);
-    uint32_t length = be16(r->page + at + 2);
-    if (length < (c == FRAME ? 8 : 2))
-        return fail(r, SPIREROOK_BAD_LENGTH, at + 2);
-    if (r->size - at - 2 < length)
-        return fail(r, SPIREROOK_SHORT, at + 4);
-    if (c == FRAME && !read_frame(r, l, at + 4))
-        return 0;
-    if (code == 0xE1 && length >= 12 && !read_tagged(r, l, at + 4))
-        return 0;
-    at += 2 + length;
-    if (c != SCAN)
-        return at;
-    l->scanned = true;
-    size_t end = scan_end(r->page, at, r->size);
-    return end != r->size ? end : fail(r, SPIREROOK_SHORT, at);
-}
-
-// Walks the layer to its end; the place is kept in a register, since most of the time goes here.
-static bool walk(struct reader *r, uint8_t *record)
-{
-    const uint8_t *page = r->page;
-    const size_t size = r->size, begin = r->at;
-    struct layer l = {0, 0, 0, false};
-    if (size - begin < 2)
-        return fail(r, SPIREROOK_SHORT, begin);
-    if (be16(page + begin) != 0xFFD8)
-        return fail(r, SPIREROOK_BAD_LAYER, begin);
-    for (size_t at = begin + 2;;) {
-        if (size - at < 2)
-            return fail(r, SPIREROOK_SHORT, at);
-        uint32_t code = page[at + 1];
-        enum class c = page[at] == 0xFF ? class_of(code) : FAULT;
-        if (out_of_turn(&l, c))
-            return fail(r, SPIREROOK_BAD_LAYER, at);
-        if (c == ALONE || c == END)
-            at += 2;
-        else if (!(at = segment(r, &l, c, code, at)))
-            return false;
-        if (c == END) {
-            put_layer(&l, begin, at, record);
-            r->at = at;
-            return true;
-        }
-    }
 }
 
 // ---- a stripe
@@ -242,6 +94,14 @@ static bool height_and_mask(struct reader *r, bool masked, uint8_t *record)
     return take(r, length) != NULL;
 }
 
+// The layer that begins here.
+static bool layer(struct reader *r, uint8_t *record)
+{
+    size_t end = WALK(r->page, r->size, r->at, r->main, record, &r->fault);
+    r->at = end;
+    return end != 0;
+}
+
 static bool stripe(struct reader *r)
 {
     uint8_t *back = r->records + r->stripes * STRIPE_RECORDS, *mask = back + RECORD_SIZE,
@@ -265,7 +125,7 @@ static bool stripe(struct reader *r)
     if (!offset(r, type & 1, back) || !offset(r, type & 4, fore) ||
         !height_and_mask(r, type & 2, mask))
         return false;
-    if (((type & 1) && !walk(r, back)) || ((type & 4) && !walk(r, fore)))
+    if (((type & 1) && !layer(r, back)) || ((type & 4) && !layer(r, fore)))
         return false;
     r->stripes++;
     return true;
@@ -376,24 +236,6 @@ static bool zeros(struct reader *r)
     return true;
 }
 
-#ifdef BY_MEMCHR
-#define READ c_read_by_memchr
-#define WALK c_walk_by_memchr
-#else
-#define READ c_read_by_octets
-#define WALK c_walk_by_octets
-#endif
-
-bool WALK(const uint8_t *data, size_t size, uint32_t main, uint8_t *record)
-{
-    struct reader r;
-    r.page = data;
-    r.size = size;
-    r.at = 0;
-    r.main = main;
-    return walk(&r, record);
-}
-
 spirerook_answer READ(const uint8_t *page, size_t page_len, uint8_t *sheet, size_t sheet_len)
 {
     struct reader r;
@@ -402,11 +244,11 @@ spirerook_answer READ(const uint8_t *page, size_t page_len, uint8_t *sheet, size
     r.page = page;
     r.size = page_len;
     r.at = 0;
-    r.number = r.place = 0;
+    r.fault = (struct fault){SPIREROOK_DONE, 0};
     r.left = 65535;
     r.stripes = 0;
     if (!start(&r) || !body(&r) || !marker(&r, 0xFFD9) || !zeros(&r))
-        return (spirerook_answer){r.number, r.place, 0};
+        return (spirerook_answer){r.fault.number, r.fault.place, 0};
     if (sheet_len < (size_t)r.stripes * STRIPE_RECORDS)
         return (spirerook_answer){SPIREROOK_NO_ROOM, 0, 0};
     memcpy(sheet, r.records, (size_t)r.stripes * STRIPE_RECORDS);

@@ -18,9 +18,30 @@ spirerook_answer c_write_by_octets(const uint8_t *sheet, size_t sheet_len, const
 spirerook_answer c_write_by_memchr(const uint8_t *sheet, size_t sheet_len, const uint8_t *data,
                                    size_t data_len, uint8_t *page, size_t page_len);
 
-// The walk over a JPEG layer: whether it comes to an end, and then width, height, resolution and
-// length in their places of a record.
-bool c_walk_by_octets(const uint8_t *data, size_t size, uint32_t main, uint8_t *record);
-bool c_walk_by_memchr(const uint8_t *data, size_t size, uint32_t main, uint8_t *record);
+// The resolutions that the paper lists.
+static inline bool listed(uint32_t res)
+{
+    switch (res) {
+    case 100:
+    case 200:
+    case 300:
+    case 400:
+    case 600:
+    case 1200: return true;
+    default: return false;
+    }
+}
+
+// What a refusal tells.
+struct fault {
+    uint32_t number, place;
+};
+
+// The walk over the JPEG layer that begins at `begin`, under a main resolution: where it ends, with
+// width, height, resolution, start and length in their places of a record; or 0, with the fault.
+size_t c_walk_by_octets(const uint8_t *page, size_t size, size_t begin, uint32_t main,
+                        uint8_t *record, struct fault *fault);
+size_t c_walk_by_memchr(const uint8_t *page, size_t size, size_t begin, uint32_t main,
+                        uint8_t *record, struct fault *fault);
 
 #endif

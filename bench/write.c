@@ -1,7 +1,6 @@
 // Writing a page as C would have it: the sheet is judged, then one pass over the records looks at
 // their data and adds up the page, then memcpy.
-// Compiled twice, as page.c is: with BY_MEMCHR scan data is searched by memchr, else octet by
-// octet.
+// Compiled twice, as layer.c is, whose walk it uses.
 #include "page.h"
 #include "sheet.h"
 
@@ -31,8 +30,9 @@ struct writer {
 static bool agrees(const struct writer *w, const uint8_t *record)
 {
     uint8_t found[RECORD_SIZE];
+    struct fault fault;                                // any is Mismatch
     uint32_t main = be16(w->sheet + RECORD_SIZE + 12); // layer 2's, the same in all stripes
-    if (!WALK(w->data + be32(record + 18), be32(record + 22), main, found))
+    if (WALK(w->data + be32(record + 18), be32(record + 22), 0, main, found, &fault) == 0)
         return false;
     return memcmp(found + 8, record + 8, 6) == 0 && memcmp(found + 22, record + 22, 4) == 0;
 }
