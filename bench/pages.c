@@ -1,6 +1,7 @@
 // Times the proved reading of a page beside two readers in C, on the same pages in one run. First
 // the three must agree, answer and sheet octet for octet, on the pages that are timed and on
 // damaged ones: a fast wrong answer is no result.
+#include "fillers.h"
 #include "kit.h"
 #include "page.h"
 
@@ -17,6 +18,7 @@
 #define PASSES 6 // over all rows, since a machine can be slow for seconds
 #define ROUNDS 12
 #define ROUND_NS 20000.0
+#define GROWTH_LIMIT 1.3
 #define SHEET_SIZE (64 * 3 * RECORD_SIZE)
 
 struct page {
@@ -53,87 +55,24 @@ static void add_stripe(struct page *p, unsigned type, uint32_t mask)
         p->octets[p->size++] = (uint8_t)any(256);
 }
 
+static void put(struct page *p, filler *f, size_t size)
+{
+    p->size = f(p->octets, p->size, size);
+}
+
 static void add_resolution(struct page *p)
 {
-    add(p, "\xff\xd8\xff\xe1\0\14G3FAX\0\7\xca\0\xc8", 16);
+    add(p, "\xff\xe1\0\14G3FAX\0\7\xca\0\xc8", 14);
 }
 
 static void add_frame(struct page *p)
 {
-    add(p, "\xff\xc0\0\13\10\2\0\3\0\1\1\21\0\xff\xda\0\10\1\1\0\0\77\0", 23);
+    add(p, "\xff\xc0\0\13\10\2\0\3\0\1\1\21\0", 13);
 }
 
-// What fills a page, up to `size` octets.
-typedef void filler(struct page *p, size_t size);
-
-static void random_scan(struct page *p, size_t size)
+static void add_scan(struct page *p)
 {
-    while (p->size < size) {
-        uint8_t v = (uint8_t)any(256);
-        p->octets[p->size++] = v;
-        if (v == 0xFF)
-            p->octets[p->size++] = 0;
-    }
-}
-
-static void stuffed_scan(struct page *p, size_t size)
-{
-    while (p->size < size)
-        add(p, "\xff", 2);
-}
-
-static void zero_octets(struct page *p, size_t size)
-{
-    memset(p->octets + p->size, 0, size - p->size);
-    p->size = size;
-}
-
-static void optional_segments(struct page *p, size_t size)
-{
-    while (p->size < size)
-        add(p, "\xff\xed\0\6MRC\3", 8);
-}
-
-// A marker with a length, then so many octets that none of them is FF.
-static void marked(struct page *p, size_t size, uint32_t code, uint32_t length, uint32_t step)
-{
-    while (p->size < size) {
-        uint8_t head[4] = {0xFF, (uint8_t)code, 0, (uint8_t)length};
-        add(p, head, 4);
-        for (uint32_t k = 4; k < step; k++)
-            p->octets[p->size++] = (uint8_t)any(255);
-    }
-}
-
-static void segments_of_4(struct page *p, size_t size)
-{
-    marked(p, size, 0xE0, 2, 4);
-}
-static void segments_of_32(struct page *p, size_t size)
-{
-    marked(p, size, 0xE0, 30, 32);
-}
-static void segments_of_64(struct page *p, size_t size)
-{
-    marked(p, size, 0xE0, 62, 64);
-}
-static void scans_of_4(struct page *p, size_t size)
-{
-    marked(p, size, 0xDA, 2, 4);
-}
-static void scans_of_32(struct page *p, size_t size)
-{
-    marked(p, size, 0xDA, 2, 32);
-}
-static void scans_of_64(struct page *p, size_t size)
-{
-    marked(p, size, 0xDA, 2, 64);
-}
-
-static void nothing(struct page *p, size_t size)
-{
-    (void)p;
-    (void)size;
+    add(p, "\xff\xda\0\10\1\1\0\0\77\0", 10);
 }
 
 // One stripe with a background alone; one of the four places of the page is filled, the others get
@@ -143,36 +82,58 @@ static void make_large(struct page *p, size_t size, filler *optionals, filler *s
 {
     size_t full = size - ENDS;
     add_start(p);
-    optionals(p, full);
+    put(p, optionals, full);
     add_stripe(p, 1, 0);
     p->start = p->size;
+    add(p, "\xff\xd8", 2);
     add_resolution(p);
-    segments(p, full);
+    put(p, segments, full);
     add_frame(p);
-    data(p, full);
+    add_scan(p);
+    put(p, data, full);
     add(p, "\xff\xd9", 2);
     p->end = p->size;
     add(p, "\xff\xd9\xff\xd9", 4);
-    behind(p, full);
+    put(p, behind, full);
+}
+
+// Before a third of the markers.
+static void add_fill(struct page *p, bool filled)
+{
+    if (filled && any(3) == 0)
+        put(p, fill_octets, p->size + 1 + any(8));
+}
+
+static void add_layer(struct page *p, bool filled)
+{
+    add(p, "\xff\xd8", 2);
+    add_fill(p, filled);
+    add_resolution(p);
+    for (uint32_t k = any(4); k != 0; k--) {
+        add_fill(p, filled);
+        put(p, tables_of_9, p->size + 1);
+    }
+    add_fill(p, filled);
+    add_frame(p);
+    add_fill(p, filled);
+    add_scan(p);
+    put(p, filled && any(2) == 0 ? dense_restarts : random_scan, p->size + any(90));
+    add_fill(p, filled);
+    add(p, "\xff\xd9", 2);
 }
 
 // A few stripes of small layers, as most damage wants them.
-static void make_small(struct page *p, unsigned stripes)
+static void make_small(struct page *p, unsigned stripes, bool filled)
 {
     static const uint8_t types[] = {1, 2, 3, 4, 6, 7};
     add_start(p);
     for (uint32_t k = any(3); k != 0; k--)
-        optional_segments(p, p->size + 1);
+        put(p, optional_segments, p->size + 1);
     while (stripes-- != 0) {
         unsigned type = types[any(6)];
         add_stripe(p, type, type & 2 ? 1 + any(40) : 0);
-        for (unsigned layers = (type & 1) + (type >> 2); layers != 0; layers--) {
-            add_resolution(p);
-            marked(p, p->size + any(20), 0xDB, 7, 9);
-            add_frame(p);
-            random_scan(p, p->size + any(90));
-            add(p, "\xff\xd9", 2);
-        }
+        for (unsigned layers = (type & 1) + (type >> 2); layers != 0; layers--)
+            add_layer(p, filled);
     }
     add(p, "\xff\xd9\xff\xd9\0\0", 4 + any(3));
 }
@@ -183,10 +144,14 @@ static void damage(struct page *p)
     if (any(4) == 0) // a code behind an FF
         while (at > 0 && p->octets[at - 1] != 0xFF)
             at--;
-    if (any(8) == 0)
-        p->size = at;
-    else
-        p->octets[at] = octet_near(p->octets[at]);
+    switch (any(8)) {
+    case 0: p->size = at; break;
+    case 1: // an FF more
+        memmove(p->octets + at + 1, p->octets + at, p->size++ - at);
+        p->octets[at] = 0xFF;
+        break;
+    default: p->octets[at] = octet_near(p->octets[at]);
+    }
 }
 
 // ---- all must agree
@@ -256,7 +221,7 @@ static void agree_on_damaged(struct page *p)
     for (int i = 0; i < DAMAGED; i++) {
         uint32_t stripes = 1 + any(any(16) == 0 ? 65 : 3);
         size_t room = any(2) == 0 ? SHEET_SIZE : any(600);
-        make_small(p, stripes);
+        make_small(p, stripes, any(2) == 0);
         expect_small(p, stripes, room, sheet);
         for (uint32_t times = 1 + any(2); times != 0 && p->size != 0; times--)
             damage(p);
@@ -315,6 +280,12 @@ static const struct row rows[] = {
     {"random scan data, 1 MB", MB, nothing, nothing, random_scan, nothing, 0.5, 2.0},
     {"random scan data, 4 MB", 4 * MB, nothing, nothing, random_scan, nothing, 0.5, 2.0},
     {"random scan data, 16 MB", LONGEST, nothing, nothing, random_scan, nothing, 0.5, 2.0},
+    {"FF before the end of image, 4 MB", 4 * MB, nothing, nothing, fill_octets, nothing, 1.2, 0},
+    {"FF before the end of image, 16 MB", LONGEST, nothing, nothing, fill_octets, nothing, 1.2, 0},
+    {"FF before the frame, 4 MB", 4 * MB, nothing, fill_octets, nothing, nothing, 1.2, 0},
+    {"FF before the frame, 16 MB", LONGEST, nothing, fill_octets, nothing, nothing, 1.2, 0},
+    {"fill and restart every 6 to 20", LONGEST, nothing, nothing, dense_restarts, nothing, 1.2, 0},
+    {"fill and restart every 200", LONGEST, nothing, nothing, sparse_restarts, nothing, 1.2, 0},
     {"FF 00 throughout", LONGEST, nothing, nothing, stuffed_scan, nothing, 0, 0.3},
     {"a segment every 4 octets", LONGEST, nothing, segments_of_4, nothing, nothing, 2.0, 0},
     {"a segment every 32 octets", LONGEST, nothing, segments_of_32, nothing, nothing, 2.0, 0},
@@ -327,6 +298,9 @@ static const struct row rows[] = {
 };
 
 #define ROWS (sizeof rows / sizeof rows[0])
+
+// The first of the rows of one kind, by size.
+enum { RANDOM, FILL_IN_SCAN = 3, FILL_OUTSIDE = 5 };
 
 static double best[ROWS + 1][3]; // of each side; the last row is the small page
 static size_t sizes[ROWS + 1];
@@ -346,7 +320,7 @@ static void time_all(struct page *p)
         expect(r->name, p);
         time_page(i, p);
     }
-    make_small(p, 64);
+    make_small(p, 64, false);
     time_page(ROWS, p);
 }
 
@@ -357,6 +331,20 @@ static void print_row(size_t row, const char *name, double octets_limit, double 
     print_ratio(t[0] / t[1], octets_limit);
     print_ratio(t[0] / t[2], memchr_limit);
     printf(" %7.2f\n", (double)sizes[row] / t[0]);
+}
+
+// Fill is walked once: an octet of it takes as long in 16 MB as in 4 MB, as far as the machine's
+// memory lets it, which the C side shows too.
+static void print_growth(const char *name, size_t row)
+{
+    double octets = (double)sizes[row + 1] / (double)sizes[row];
+    double rattle_growth = best[row + 1][0] / best[row][0] / octets;
+    bool is_over = rattle_growth > GROWTH_LIMIT;
+    over += is_over;
+    printf(
+        "%s: an octet of 16 MB takes %.2f%s times what one of 4 MB takes, limit %.1f; in C %.2f\n",
+        name, rattle_growth, is_over ? "!" : "", GROWTH_LIMIT,
+        best[row + 1][1] / best[row][1] / octets);
 }
 
 int main(void)
@@ -374,7 +362,9 @@ int main(void)
         print_row(i, rows[i].name, rows[i].octets_limit, rows[i].memchr_limit);
     print_row(ROWS, "64 stripes of small layers", 0, 0);
     printf("\nrandom scan data: 4 MB take %.2f times what 1 MB takes, 16 MB %.2f times\n",
-           best[1][0] / best[0][0], best[2][0] / best[0][0]);
+           best[RANDOM + 1][0] / best[RANDOM][0], best[RANDOM + 2][0] / best[RANDOM][0]);
+    print_growth("FF before the end of image", FILL_IN_SCAN);
+    print_growth("FF before the frame", FILL_OUTSIDE);
     printf(
         "ratios: Rattle / C, below 1 is faster than C; %u over their limits, marked !; GB/s: octets of the page that the Rattle call reads\n",
         over);

@@ -51,6 +51,8 @@ def pages(lines):
         name, numbers = line[:36].strip(), line[36:].replace("!", "")
         rows.append((name, numbers[33:42].strip(), numbers[49:60].strip()))
     table("Reading a page", "Beside C that looks at each octet, and C that finds FF by memchr.", ("page", "beside C by octets", "beside C by memchr"), rows)
+    growth = [line.rstrip().replace("!", "") for line in lines if ": an octet of 16 MB takes " in line]
+    print("\n" + wrapped(" ".join("%s." % line for line in growth)))
 
 
 def writes(lines):

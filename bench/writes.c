@@ -2,6 +2,7 @@
 // one proved reading of it, on the same sheets in one run. First all must agree, answer and page
 // octet for octet, on what is timed and on damaged sheets and data: a fast wrong answer is no
 // result.
+#include "fillers.h"
 #include "kit.h"
 #include "page.h"
 
@@ -34,36 +35,13 @@ static void add(struct work *w, const void *octets, size_t size)
     w->data_size += size;
 }
 
-// What fills a layer, up to `size` octets of data.
-typedef void filler(struct work *w, size_t size);
-
-static void random_scan(struct work *w, size_t size)
-{
-    while (w->data_size < size) {
-        uint8_t v = (uint8_t)any(256);
-        add(w, (const uint8_t[]){v, 0}, v == 0xFF ? 2 : 1);
-    }
-}
-
-static void stuffed_scan(struct work *w, size_t size)
-{
-    while (w->data_size < size)
-        add(w, "\xff", 2);
-}
-
-static void short_scans(struct work *w, size_t size)
-{
-    while (w->data_size < size)
-        add(w, "\xff\xda\0\2", 4);
-}
-
 // A picture of 768 by 512 at 200; answers where it begins.
 static size_t add_picture(struct work *w, filler *scan, size_t size)
 {
     size_t begin = w->data_size;
     add(w, "\xff\xd8\xff\xe1\0\14G3FAX\0\7\xca\0\xc8", 16);
     add(w, "\xff\xc0\0\13\10\2\0\3\0\1\1\21\0\xff\xda\0\10\1\1\0\0\77\0", 23);
-    scan(w, begin + size);
+    w->data_size = scan(w->data, w->data_size, begin + size);
     add(w, "\xff\xd9", 2);
     return begin;
 }
@@ -134,7 +112,11 @@ static void make_stuffed(struct work *w)
 }
 static void make_scans(struct work *w)
 {
-    make_background(w, short_scans);
+    make_background(w, scans_of_4);
+}
+static void make_restarts(struct work *w)
+{
+    make_background(w, dense_restarts);
 }
 
 // Image layers 1 and 3 of 64 stripes, all on one picture of so many octets; the masks are its first
@@ -174,7 +156,7 @@ static void make_some(struct work *w, unsigned stripes)
             if ((type >> k & 1) == 0)
                 continue;
             if (k != 1)
-                add_picture(w, random_scan, 40 + any(90));
+                add_picture(w, any(2) == 0 ? random_scan : dense_restarts, 40 + any(90));
             else
                 for (uint32_t n = 1 + any(40); n != 0; n--)
                     w->data[w->data_size++] = (uint8_t)any(256);
@@ -322,6 +304,7 @@ static const struct row rows[] = {
     {"random scan data, 16 MB", make_random, SPIREROOK_DONE, ROUNDS, PASSES},
     {"FF 00 throughout, 16 MB", make_stuffed, SPIREROOK_DONE, ROUNDS, PASSES},
     {"a scan every 4 octets, 16 MB", make_scans, SPIREROOK_DONE, ROUNDS, PASSES},
+    {"fill and restart every 6 to 20", make_restarts, SPIREROOK_DONE, ROUNDS, PASSES},
     {"64 stripes on one layer of 130 KB", make_shared_small, SPIREROOK_DONE, ROUNDS, PASSES},
     {"64 stripes of small layers", make_small, SPIREROOK_DONE, ROUNDS, PASSES},
     {"128 walks of 16 MB, then TooLong", make_shared_large, SPIREROOK_TOO_LONG, 1, 2},
