@@ -48,7 +48,7 @@ def judge(lines):
 def pages(lines):
     rows = []
     for line in block(lines, "/ octets  limit"):
-        name, numbers = line[:36].strip(), line[36:].replace("!", "")
+        name, numbers = line[:36].strip(), line[36:].replace("!", " ")
         rows.append((name, numbers[33:42].strip(), numbers[49:60].strip()))
     table("Reading a page", "Beside C that looks at each octet, and C that finds FF by memchr.", ("page", "beside C by octets", "beside C by memchr"), rows)
     growth = [line.rstrip().replace("!", "") for line in lines if ": an octet of 16 MB takes " in line]
