@@ -238,11 +238,10 @@ def check_pages(tally, coders, rng):
         check_page(tally, folder, "a page of spirerook-make", page, counts)
     kinds = 0
     for name, (page, _) in test_outside.good_pages(test_outside.stored()):
-        # the largest takes the viewer seconds, and pages of a mask have nothing to fill
-        if name != "64 stripes" and not name.startswith("only"):
+        if name.startswith(("all layers", "background", "six stripes")):   # these show each layer
             check_page(tally, folder, name, page, rng.choice(COUNTS))
             kinds += 1
-    tally.check(kinds > 20, "only %d pages of outside layers" % kinds)
+    tally.check(kinds >= 14, "only %d pages of outside layers" % kinds)
 
 
 def check_random(tally, coders, rng):
