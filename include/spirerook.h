@@ -25,11 +25,13 @@ extern "C" {
 #endif
 
 /* The first number changes with a call or struct that viewers link, the second with a call that is
- * added. */
+ * added or with pages that are read and were not. */
 /* 1.1.0: spirerook_judge.
  * 1.2.0: spirerook_line_unseen; unseen pixels of spirerook_line are 128 128 96 0, no longer 0 0 0 0
- *        (what a program does that looks for those: at spirerook_line_unseen). */
-#define SPIREROOK_VERSION "1.2.0"
+ *        (what a program does that looks for those: at spirerook_line_unseen).
+ * 1.3.0: octets FF before a marker of a JPEG layer are fill; such pages were BadLayer, and such
+ *        layers Mismatch.  What was Done before is Done with the same octets. */
+#define SPIREROOK_VERSION "1.3.0"
 
 /* ---- Bounds ---- */
 
@@ -157,7 +159,8 @@ enum { SPIREROOK_FROM_PAGE = 0, SPIREROOK_FROM_PENCIL = 1 };
  *   Short, BadMark, BadLength, BadVersion, BadMode, BadCoder, BadRes, BadWidth, BadType, BadStripe,
  *     BadLayer, Trailing: the first fault in the order of the page's octets.  The place is the
  *     first octet of the field at fault, from 0; it equals the page's length where a field is due
- *     at its end.
+ *     at its end.  A marker of a JPEG layer may have any number of octets FF before it, but for the
+ *     layer's first, and its place is the first of them.  The page's own markers have none.
  *   NoRoom, place 0: 28 octets a record do not fit.
  *   Done.  Octets behind the records stay as they were. */
 spirerook_answer spirerook_read(const uint8_t *page, size_t page_len, uint8_t *sheet,

@@ -159,93 +159,10 @@ pub record Passed (s : List ℕ) (i p : ℕ) : Type 0 where
   pub stop : DataRun (marked .fill) code → ⊥
   pub coded : Data (take (p - i) (drop i s))
 
--- what is taken after octets in front
-taken : (s a : List ℕ) (i j p : ℕ) → drop i s ≡ a ++ drop j s → j ≡ i + length a → j ≤ p → take (p - i) (drop i s) ≡ a ++ take (p - j) (drop j s)
-taken s a i j p e q h =
-    let z : p - i ≡ length a + (p - j) = omega arith in
-    ap₂ (λ (n : ℕ) (l : List ℕ). take n l) z e ∙ take-append-add a (drop j s) (p - j)
-
-nothing-taken : (s : List ℕ) (i : ℕ) → Data (take (i - i) (drop i s))
-nothing-taken s i = let z : i - i ≡ 0 = omega arith in subst (λ (n : ℕ). Data (take n (drop i s))) (sym z) none
-
-module _ (s : List ℕ) (p : ℕ) where
-  plain-before : (i : ℕ) → i < length s → getD s i 0 ≢ 0xFF → Passed s (i + 1) p → Passed s i p
-  plain-before i l n m =
-      let a = m .after in
-      record {
-        after = omega arith;
-        code = m .code;
-        next = m .next;
-        marked = m .marked;
-        stop = m .stop;
-        coded = subst Data (sym (taken s (getD s i 0 ∷ []) i (i + 1) p (drop-octet s i l) (omega arith) a)) (plain n (m .coded));
-      }
-
-  run-before : (i : ℕ) (c n : ℕ) (k : Marked s i c n) → DataRun (k .fill) c → Passed s n p → Passed s i p
-  run-before i c n k d m =
-      let a = m .after in
-      let b = k .ends in
-      let l = length-marker (k .fill) c in
-      record {
-        after = omega arith;
-        code = m .code;
-        next = m .next;
-        marked = m .marked;
-        stop = m .stop;
-        coded = subst Data (sym (taken s (marker (k .fill) c) i n p (k .stands) (omega arith) a)) (stuffed d (m .coded));
-      }
-
-  -- a run from i on
-  run-back : (i : ℕ) → getD s i 0 ≡ 0xFF → scanOf s i ≡ At p → ((j : ℕ) → i < j → scanOf s j ≡ At p → Passed s j p) → Passed s i p
-  run-back i ff q more =
-      let l = ff-inside s i ff in
-      let e : ℕ = fillEnd s (i + 1) in
-      let a = fill-ahead s (i + 1) in
-      ⊎-elim
-      (λ (h : e < length s).
-      let k = run-marked s i l ff e refl h in
-      let b = k .ends in
-      let y : k .fill ≡ e - (i + 1) = omega arith in
-      ⊎-elim
-      (λ (d : DataRun (e - (i + 1)) (getD s e 0)).
-      run-before i (getD s e 0) (e + 1) k (subst (λ (f : ℕ). DataRun f (getD s e 0)) (sym y) d)
-      (more (e + 1) (omega arith) (sym (run-next s i e ff refl h d) ∙ q)))
-      (λ (d : DataRun (e - (i + 1)) (getD s e 0) → ⊥).
-      let w : At i ≡ At p = sym (run-here s i e ff refl h d) ∙ q in
-      let z : i ≡ p = cc in
-      subst (Passed s i) z
-      (record {
-        after = omega arith;
-        code = getD s e 0;
-        next = e + 1;
-        marked = k;
-        stop = λ g. d (subst (λ (f : ℕ). DataRun f (getD s e 0)) y g);
-        coded = nothing-taken s i;
-      }))
-      (says-else (says-data (e - (i + 1)) (getD s e 0))))
-      (λ (h : e < length s → ⊥). let z : Nothing ≡ At p = sym (run-over s i e ff refl (omega arith)) ∙ q in clash cc)
-      (says-else (says-lt e (length s)))
-
-  scan-back-from : (m i : ℕ) → length s ≤ i + m → scanOf s i ≡ At p → Passed s i p
-  scan-back-from zero i h q = let z : Nothing ≡ At p = sym (scan-over s i (omega arith)) ∙ q in clash cc
-  scan-back-from (suc m) i h q =
-      ⊎-elim (λ (l : length s ≤ i). let z : Nothing ≡ At p = sym (scan-over s i l) ∙ q in clash cc)
-      (λ (l : length s ≤ i → ⊥).
-      ⊎-elim (λ (ff : getD s i 0 ≡ 0xFF). run-back i ff q (λ j g y. scan-back-from m j (omega arith) y))
-      (λ (n : getD s i 0 ≢ 0xFF). plain-before i (omega arith) n (scan-back-from m (i + 1) (omega arith) (sym (plain-next s i n) ∙ q)))
-      (says-else (says-eq (getD s i 0) 0xFF)))
-      (says-else (says-le (length s) i))
-
-pub scan-back : (s : List ℕ) (i p : ℕ) → scanOf s i ≡ At p → Passed s i p
-scan-back s i p e = scan-back-from s p (length s) i (omega arith) e
-
--- the octets that were passed, and the marker after them
-pub scan-split : (s : List ℕ) (i p : ℕ) → i ≤ p → drop i s ≡ take (p - i) (drop i s) ++ drop p s
-scan-split s i p h =
-    let z : i + (p - i) ≡ p = omega arith in
-    sym (ap (λ (l : List ℕ). take (p - i) (drop i s) ++ l) (sym (drop-drop (p - i) i s ∙ ap (λ (k : ℕ). drop k s) z)) ∙ take-append-drop (p - i) (drop i s))
-
--- ---- where there is none, the data goes on to the end
+-- what a search came to: a marker after scan data, or data to the end
+data Scanned (s : List ℕ) (i : ℕ) : Found → Type 0 where
+  to-marker : {p : ℕ} → Passed s i p → Scanned s i (At p)
+  to-end : Endless (drop i s) → Scanned s i Nothing
 
 endless-plain : {x : ℕ} {l : List ℕ} → x ≢ 0xFF → Endless l → Endless (x ∷ l)
 endless-plain n (all-data k) = all-data (plain n k)
@@ -256,10 +173,35 @@ endless-stuffed n (all-data k) = all-data (stuffed n k)
 endless-stuffed {fill = fill} {c = c} n (in-run {d = d} more k) =
     subst Endless (append-assoc (marker fill c) d (0xFF ∷ replicate more 0xFF)) (in-run more (stuffed n k))
 
+-- what is taken after octets in front
+taken : (s a : List ℕ) (i j p : ℕ) → drop i s ≡ a ++ drop j s → j ≡ i + length a → j ≤ p → take (p - i) (drop i s) ≡ a ++ take (p - j) (drop j s)
+taken s a i j p e q h =
+    let z : p - i ≡ length a + (p - j) = omega arith in
+    ap₂ (λ (n : ℕ) (l : List ℕ). take n l) z e ∙ take-append-add a (drop j s) (p - j)
+
+nothing-taken : (s : List ℕ) (i : ℕ) → Data (take (i - i) (drop i s))
+nothing-taken s i = let z : i - i ≡ 0 = omega arith in subst (λ (n : ℕ). Data (take n (drop i s))) (sym z) none
+
 module _ (s : List ℕ) where
-  -- a run that is data, or that the list cuts
-  endless-run : (i : ℕ) → getD s i 0 ≡ 0xFF → scanOf s i ≡ Nothing → ((j : ℕ) → i < j → scanOf s j ≡ Nothing → Endless (drop j s)) → Endless (drop i s)
-  endless-run i ff q more =
+  -- scan data in front of what a search came to: octets that stand from i up to j
+  before : {x : Found} (a : List ℕ) (i j : ℕ) → drop i s ≡ a ++ drop j s → j ≡ i + length a → ((d : List ℕ) → Data d → Data (a ++ d))
+      → ((d : List ℕ) → Endless d → Endless (a ++ d)) → Scanned s j x → Scanned s i x
+  before a i j e q more on (to-marker {p = p} m) =
+      let h = m .after in
+      to-marker {p = p}
+      (record {
+        after = omega arith;
+        code = m .code;
+        next = m .next;
+        marked = m .marked;
+        stop = m .stop;
+        coded = subst Data (sym (taken s a i j p e q h)) (more (take (p - j) (drop j s)) (m .coded));
+      })
+  before a i j e q more on (to-end k) = to-end (subst Endless (sym e) (on (drop j s) k))
+
+  -- a run from i on
+  run-scanned : (i : ℕ) → getD s i 0 ≡ 0xFF → ((j : ℕ) → i < j → Scanned s j (scanOf s j)) → Scanned s i (scanOf s i)
+  run-scanned i ff more =
       let l = ff-inside s i ff in
       let e : ℕ = fillEnd s (i + 1) in
       let a = fill-ahead s (i + 1) in
@@ -268,31 +210,68 @@ module _ (s : List ℕ) where
       let k = run-marked s i l ff e refl h in
       let b = k .ends in
       let y : k .fill ≡ e - (i + 1) = omega arith in
+      let m = length-marker (k .fill) (getD s e 0) in
       ⊎-elim
       (λ (d : DataRun (e - (i + 1)) (getD s e 0)).
-      subst Endless (sym (k .stands)) (endless-stuffed (subst (λ (f : ℕ). DataRun f (getD s e 0)) (sym y) d) (more (e + 1) (omega arith) (sym (run-next s i e ff refl h d) ∙ q))))
-      (λ (d : DataRun (e - (i + 1)) (getD s e 0) → ⊥). let z : At i ≡ Nothing = sym (run-here s i e ff refl h d) ∙ q in clash cc)
+      let w = subst (λ (f : ℕ). DataRun f (getD s e 0)) (sym y) d in
+      subst (Scanned s i) (sym (run-next s i e ff refl h d))
+      (before (marker (k .fill) (getD s e 0)) i (e + 1) (k .stands) (omega arith) (λ d. stuffed w) (λ d. endless-stuffed w) (more (e + 1) (omega arith))))
+      (λ (d : DataRun (e - (i + 1)) (getD s e 0) → ⊥).
+      subst (Scanned s i) (sym (run-here s i e ff refl h d))
+      (to-marker
+      (record {
+        after = omega arith;
+        code = getD s e 0;
+        next = e + 1;
+        marked = k;
+        stop = λ g. d (subst (λ (f : ℕ). DataRun f (getD s e 0)) y g);
+        coded = nothing-taken s i;
+      })))
       (says-else (says-data (e - (i + 1)) (getD s e 0))))
-      (λ (h : e < length s → ⊥). subst Endless (sym (run-cut s i l ff (omega arith))) (in-run (e - (i + 1)) none))
+      (λ (h : e < length s → ⊥).
+      subst (Scanned s i) (sym (run-over s i e ff refl (omega arith)))
+      (to-end (subst Endless (sym (run-cut s i l ff (omega arith))) (in-run (e - (i + 1)) none))))
       (says-else (says-lt e (length s)))
 
-  endless-over : (i : ℕ) → length s ≤ i → Endless (drop i s)
-  endless-over i h = subst Endless (sym (drop-of-length-le s h)) (all-data none)
+  over-scanned : (i : ℕ) → length s ≤ i → Scanned s i (scanOf s i)
+  over-scanned i h = subst (Scanned s i) (sym (scan-over s i h)) (to-end (subst Endless (sym (none-left s i h)) (all-data none)))
 
-  endless-from : (m i : ℕ) → length s ≤ i + m → scanOf s i ≡ Nothing → Endless (drop i s)
-  endless-from zero i h q = endless-over i (omega arith)
-  endless-from (suc m) i h q =
-      ⊎-elim (λ (z : length s ≤ i). endless-over i z)
-      (λ (z : length s ≤ i → ⊥).
-      ⊎-elim
-      (λ (ff : getD s i 0 ≡ 0xFF). endless-run i ff q (λ j g y. endless-from m j (omega arith) y))
+  scanned-from : (m i : ℕ) → length s ≤ i + m → Scanned s i (scanOf s i)
+  scanned-from zero i h = over-scanned i (omega arith)
+  scanned-from (suc m) i h =
+      ⊎-elim (over-scanned i)
+      (λ (l : length s ≤ i → ⊥).
+      ⊎-elim (λ (ff : getD s i 0 ≡ 0xFF). run-scanned i ff (λ j g. scanned-from m j (omega arith)))
       (λ (n : getD s i 0 ≢ 0xFF).
-      subst Endless (sym (drop-octet s i (omega arith))) (endless-plain n (endless-from m (i + 1) (omega arith) (sym (plain-next s i n) ∙ q))))
+      subst (Scanned s i) (sym (plain-next s i n))
+      (before (getD s i 0 ∷ []) i (i + 1) (drop-octet s i (omega arith)) (omega arith) (λ d. plain n) (λ d. endless-plain n) (scanned-from m (i + 1) (omega arith))))
       (says-else (says-eq (getD s i 0) 0xFF)))
       (says-else (says-le (length s) i))
 
+  scanned : (i : ℕ) → Scanned s i (scanOf s i)
+  scanned i = scanned-from (length s) i (omega arith)
+
+pub scan-back : (s : List ℕ) (i p : ℕ) → scanOf s i ≡ At p → Passed s i p
+scan-back s i p e = by (subst (Scanned s i) e (scanned s i)) refl
+  where
+    by : {x : Found} → Scanned s i x → x ≡ At p → Passed s i p
+    by (to-marker {p = q} m) z = let y : q ≡ p = cc in subst (Passed s i) y m
+    by (to-end k) z = clash cc
+
+-- the octets that were passed, and the marker after them
+pub scan-split : (s : List ℕ) (i p : ℕ) → i ≤ p → drop i s ≡ take (p - i) (drop i s) ++ drop p s
+scan-split s i p h =
+    let z : i + (p - i) ≡ p = omega arith in
+    sym (ap (λ (l : List ℕ). take (p - i) (drop i s) ++ l) (sym (drop-drop (p - i) i s ∙ ap (λ (k : ℕ). drop k s) z)) ∙ take-append-drop (p - i) (drop i s))
+
+-- ---- where there is none, the data goes on to the end
+
 pub none-endless : (s : List ℕ) (i : ℕ) → scanOf s i ≡ Nothing → Endless (drop i s)
-none-endless s i e = endless-from s (length s) i (omega arith) e
+none-endless s i e = by (subst (Scanned s i) e (scanned s i)) refl
+  where
+    by : {x : Found} → Scanned s i x → x ≡ Nothing → Endless (drop i s)
+    by (to-marker m) z = clash cc
+    by (to-end k) z = k
 
 pub endless-none : (s : List ℕ) (i : ℕ) {l : List ℕ} → drop i s ≡ l → Endless l → scanOf s i ≡ Nothing
 endless-none s i e (all-data {d = d} k) =
