@@ -1,4 +1,4 @@
--- The walk over a JPEG layer's markers, from its first octet to the end of its FF D9 (01, "Where an image layer ends").
+-- The walk over a JPEG layer's markers, from its first octet to the end of its FF D9 (01, "Where an image layer ends"; 02, 2026-03).
 --
 --   segOf s n least     the segment whose length stands at n
 --   scanOf s i          the next marker after scan data, at the first FF of its run
