@@ -79,11 +79,11 @@ module _ (s : List ℕ) (st : Reach) (n : ℕ) where
       unfolding scanStepOf Steps Shows
       scan-open e = let w : scanOf s from ≡ Nothing = subst (λ (x : Next). Shows s x (scanOf s from)) e y in simp (f, sym z ∙ b, w)
 
-      pub scan-whole : {p c next : ℕ} → r ≡ Next.At p c next → Steps s (Step.Go (passed st p) (Code c next)) (scanStepOf s st n)
+      pub scan-whole : {p c next : ℕ} → r ≡ Next.At p c next → Steps s (Step.Go (passed st p) c next) (scanStepOf s st n)
       unfolding scanStepOf Steps Shows
       scan-whole {p} {c} {next} e =
           let w : (scanOf s from ≡ At p) × (markerOf s p ≡ Code c next) = subst (λ (x : Next). Shows s x (scanOf s from)) e y in
-          (simp (f, sym z ∙ b, w .0), sym (w .1))
+          (simp (f, sym z ∙ b, w .0), w .1)
 
 pub ruleset scan-laws = (scan-early, scan-bad, scan-open, scan-whole)
 

@@ -6,7 +6,6 @@ ghost use Rattle.jpeg_rules.specs.Walk.{frameBodyOf, frameOf, scanStepOf, endOf
 ghost use Rattle.jpeg_marks.specs.Step.{Steps};
 ghost use Rattle.jpeg_segment.specs.Room.{Room};
 use jpeg_rules::Fault;
-use jpeg_rules::Marker;
 use jpeg_rules::Reach;
 use jpeg_rules::Seg;
 use jpeg_rules::Turn;
@@ -53,9 +52,9 @@ pub fn frame_step(s: &[u8], st: Reach, n: usize) -> Turn
     }
 }
 
-// One marker on, with the marker that is due there; or the walk's answer.
+// One marker on, with the code of the marker that is due there and the place after it; or the walk's answer.
 pub enum Step {
-    Go { st: Reach, mark: Marker },
+    Go { st: Reach, code: u8, next: usize },
     Stop(Walk),
 }
 
@@ -78,7 +77,8 @@ pub fn scan_step(s: &[u8], st: Reach, n: usize) -> Step
                         width: st.width,
                         height: st.height,
                     },
-                    mark: Marker::Code { code, next },
+                    code,
+                    next,
                 },
             },
         }

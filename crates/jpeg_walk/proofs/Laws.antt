@@ -2,7 +2,7 @@
 -- Assumes nothing.
 use Prim.Native.Nat.{ℕ, zero, suc, _+_, _-_, _≤_, _<_}
 use mathlib.Core.List.{List}
-use mathlib.Core.Path.{_≡_, sym, ap, subst, _∙_}
+use mathlib.Core.Path.{_≡_, refl, sym, ap, subst, _∙_}
 use native.Mathlib.Omega.{arith}
 use lib.ListN.{length, getD}
 use borrow.Author.Tests.{eq-eqb, ne-eqb, lt-ltb, le-ltb}
@@ -20,19 +20,38 @@ use Rattle.jpeg_rules.specs.Marker.{classOf, markerOf}
 use Rattle.jpeg_rules.specs.Walk.{moved, frameOf, scanStepOf, segmentOf, endOf, markOf, onMarker, turnOf, walkFrom, begun, walkOf}
 use Rattle.jpeg_marks.specs.declared.Step.{Step}
 use Rattle.jpeg_marks.specs.Step.{Steps}
+use Rattle.laws.proofs.Cases.{clash}
+use Rattle.jpeg_walk.specs.Lead.{Comes, Leads}
 use Rattle.jpeg_walk.proofs.Ahead.{ahead, behind}
 
 -- ---- after
 module _ (s : List ℕ) {t : Turn} where
-  pub after-go : {st : Reach} {m : Marker} → t ≡ Go st → m ≡ markerOf s (st .at) → Steps s (Step.Go st m) t
-  unfolding Steps
-  after-go e q = (e, q)
+  pub after-stop : {w : Walk} → t ≡ Stop w → (main : ℕ) → Leads s main (Step.Stop w) t
+  unfolding Leads Comes
+  after-stop {w} e main = subst (λ (x : Turn). Comes s main x w) (sym e) refl
 
-  pub after-stop : {w : Walk} → t ≡ Stop w → Steps s (Step.Stop w) t
-  unfolding Steps
-  after-stop e = e
+  module _ {st : Reach} (e : t ≡ Go st) {m : Marker} (q : m ≡ markerOf s (st .at)) where
+    pub after-go : {c n : ℕ} → m ≡ Code c n → (main : ℕ) → Leads s main (Step.Go st c n) t
+    unfolding Leads
+    after-go a main = (e, sym q ∙ a)
 
-pub ruleset after-laws = (after-go, after-stop)
+    bare : (main : ℕ) (w : Walk) → turnOf s main st ≡ Stop w → Leads s main (Step.Stop w) t
+    unfolding Leads Comes
+    bare main w h = subst (λ (x : Turn). Comes s main x w) (sym e) h
+
+    pub after-missing : m ≡ Missing → (main : ℕ) → Leads s main (Step.Stop (Refused (BadLayer (st .at)))) t
+    unfolding turnOf
+    after-missing a main =
+        bare main (Refused (BadLayer (st .at)))
+        (ap (λ (x : Marker). onMarker x (st .at) (λ (c n : ℕ). markOf s main st c n (classOf c))) (sym q ∙ a))
+
+    pub after-cut : m ≡ Cut → (main : ℕ) → Leads s main (Step.Stop (Refused (Short (st .at)))) t
+    unfolding turnOf
+    after-cut a main =
+        bare main (Refused (Short (st .at)))
+        (ap (λ (x : Marker). onMarker x (st .at) (λ (c n : ℕ). markOf s main st c n (classOf c))) (sym q ∙ a))
+
+pub ruleset after-laws = (after-go, after-missing, after-cut, after-stop)
 
 -- ---- mark_step
 module _ (s : List ℕ) (main : ℕ) (st : Reach) (c n : ℕ) {k : Class} (e : k ≡ classOf c) where
@@ -40,51 +59,40 @@ module _ (s : List ℕ) (main : ℕ) (st : Reach) (c n : ℕ) {k : Class} (e : k
   classed a = ap (markOf s main st c n) (sym a ∙ e)
 
   -- a step for a turn in other words
-  said : (x : Step) {t u : Turn} → t ≡ u → Steps s x t → Steps s x u
-  said x q h = subst (Steps s x) q h
+  said : (x : Step) {t u : Turn} → t ≡ u → Leads s main x t → Leads s main x u
+  said x q h = subst (Leads s main x) q h
 
-  pub mark-alone : {u : Reach} (x : Step) → k ≡ Alone → u ≡ moved st n (st .res) → Steps s x (Go u) → Steps s x (markOf s main st c n (classOf c))
+  pub mark-alone : {u : Reach} (x : Step) → k ≡ Alone → u ≡ moved st n (st .res) → ((m : ℕ) → Leads s m x (Go u))
+      → Leads s main x (markOf s main st c n (classOf c))
   unfolding markOf
-  mark-alone x a y h = said x (ap Go y ∙ classed a) h
+  mark-alone x a y h = said x (ap Go y ∙ classed a) (h main)
 
-  pub mark-frame : {t : Turn} (x : Step) → k ≡ Frame → t ≡ frameOf s st n → Steps s x t → Steps s x (markOf s main st c n (classOf c))
+  pub mark-frame : {t : Turn} (x : Step) → k ≡ Frame → t ≡ frameOf s st n → ((m : ℕ) → Leads s m x t) → Leads s main x (markOf s main st c n (classOf c))
   unfolding markOf
-  mark-frame x a y h = said x (y ∙ classed a) h
+  mark-frame x a y h = said x (y ∙ classed a) (h main)
 
-  pub mark-scan : (x : Step) → k ≡ Scan → Steps s x (scanStepOf s st n) → Steps s x (markOf s main st c n (classOf c))
+  pub mark-scan : (x : Step) → k ≡ Scan → Steps s x (scanStepOf s st n) → Leads s main x (markOf s main st c n (classOf c))
+  unfolding markOf Leads Steps Comes
+  mark-scan x a h = said x (classed a) (led x h)
+    where
+      led : (y : Step) → Steps s y (scanStepOf s st n) → Leads s main y (scanStepOf s st n)
+      led (Step.Go t b m) g = g
+      led (Step.Stop w) g = subst (λ (z : Turn). Comes s main z w) (sym g) refl
+
+  pub mark-end : {t : Turn} (x : Step) → k ≡ End → t ≡ endOf st n → ((m : ℕ) → Leads s m x t) → Leads s main x (markOf s main st c n (classOf c))
   unfolding markOf
-  mark-scan x a h = said x (classed a) h
+  mark-end x a y h = said x (y ∙ classed a) (h main)
 
-  pub mark-end : {t : Turn} (x : Step) → k ≡ End → t ≡ endOf st n → Steps s x t → Steps s x (markOf s main st c n (classOf c))
+  pub mark-wrong : k ≡ Wrong → Leads s main (Step.Stop (Refused (BadLayer (st .at)))) (markOf s main st c n (classOf c))
   unfolding markOf
-  mark-end x a y h = said x (y ∙ classed a) h
+  mark-wrong a = said (Step.Stop (Refused (BadLayer (st .at)))) (classed a) (after-stop s refl main)
 
-  pub mark-wrong : k ≡ Wrong → Steps s (Step.Stop (Refused (BadLayer (st .at)))) (markOf s main st c n (classOf c))
-  unfolding markOf Steps
-  mark-wrong a = sym (classed a)
-
-  pub mark-segment : {t : Turn} (x : Step) → k ≡ Segment → t ≡ segmentOf s main st c n → Steps s x t → Steps s x (markOf s main st c n (classOf c))
+  pub mark-segment : {t : Turn} (x : Step) → k ≡ Segment → t ≡ segmentOf s main st c n → ((m : ℕ) → Leads s m x t)
+      → Leads s main x (markOf s main st c n (classOf c))
   unfolding markOf
-  mark-segment x a y h = said x (y ∙ classed a) h
+  mark-segment x a y h = said x (y ∙ classed a) (h main)
 
 pub ruleset mark-laws = (mark-alone, mark-frame, mark-scan, mark-end, mark-wrong, mark-segment)
-
--- ---- step_at
-module _ (s : List ℕ) (main : ℕ) (st : Reach) {m : Marker} (e : m ≡ markerOf s (st .at)) where
-  pub turn-cut : m ≡ Cut → Steps s (Step.Stop (Refused (Short (st .at)))) (turnOf s main st)
-  unfolding turnOf Steps
-  turn-cut a = simp (sym e ∙ a)
-
-  pub turn-missing : m ≡ Missing → Steps s (Step.Stop (Refused (BadLayer (st .at)))) (turnOf s main st)
-  unfolding turnOf Steps
-  turn-missing a = simp (sym e ∙ a)
-
-  pub turn-code : {c n : ℕ} (x : Step) → m ≡ Code c n → Steps s x (markOf s main st c n (classOf c)) → Steps s x (turnOf s main st)
-  unfolding turnOf
-  turn-code x a h =
-      subst (Steps s x) (ap (λ (y : Marker). onMarker y (st .at) (λ (c n : ℕ). markOf s main st c n (classOf c))) (sym a ∙ e)) h
-
-pub ruleset turn-laws = (behind, turn-cut, turn-missing, turn-code)
 
 -- ---- the walk: before the loop
 module _ (s : List ℕ) (start main : ℕ) where
@@ -117,41 +125,18 @@ pub record Going (s : List ℕ) (start main : ℕ) (st : Reach) : Type 0 where
   pub fits : st .at ≤ length s
   pub same : walkOf s start main ≡ walkFrom fuel s main st
 
--- and the marker that is due is known
-pub record Ready (s : List ℕ) (start main : ℕ) (st : Reach) (m : Marker) : Type 0 where
-  pub going : Going s start main st
-  pub due : m ≡ markerOf s (st .at)
+-- a step is on the way, or it has the answer
+unfoldable pub Ready : List ℕ → ℕ → ℕ → Step → Type 0
+Ready s start main (Step.Go st code next) = Going s start main st × (markerOf s (st .at) ≡ Code code next)
+Ready s start main (Step.Stop w) = w ≡ walkOf s start main
+
+-- and how much is left
+unfoldable pub left : List ℕ → Step → ℕ
+left s (Step.Go st code next) = suc (length s - st .at)
+left s (Step.Stop w) = 0
 
 module _ (s : List ℕ) (start main : ℕ) where
-  pub walk-begun : {m : Marker} → 2 ≤ length s - start → getD s start 0 ≡ 0xFF → getD s (start + 1) 0 ≡ 0xD8 → m ≡ markerOf s (start + 2)
-      → Ready s start main (begun (start + 2)) m
-  unfolding walkOf
-  walk-begun l e d q =
-      record {
-        going =
-            record {
-              fuel = length s;
-              enough = omega arith;
-              fits = omega arith;
-              same =
-                  simp (
-                    le-ltb (length s) (start + 2) (omega arith),
-                    eq-eqb (getD s start 0) 0xFF e,
-                    eq-eqb (getD s (start + 1) 0) 0xD8 d,
-                  );
-            };
-        due = q;
-      }
-
-  module _ (st : Reach) (m : Marker) (g : Ready s start main st m) (r : Step) (h : Steps s r (turnOf s main st)) where
-    turned : {t : Reach} {n : Marker} → r ≡ Step.Go t n → (turnOf s main st ≡ Go t) × (n ≡ markerOf s (t .at))
-    unfolding Steps
-    turned e = subst (λ (x : Step). Steps s x (turnOf s main st)) e h
-
-    stopped : {w : Walk} → r ≡ Step.Stop w → turnOf s main st ≡ Stop w
-    unfolding Steps
-    stopped e = subst (λ (x : Step). Steps s x (turnOf s main st)) e h
-
+  module _ (st : Reach) (g : Going s start main st) where
     on : {t : Reach} (k : ℕ) → length s < k + st .at → st .at ≤ length s → walkOf s start main ≡ walkFrom k s main st → turnOf s main st ≡ Go t
         → Going s start main t
     unfolding walkFrom
@@ -166,16 +151,79 @@ module _ (s : List ℕ) (start main : ℕ) where
     ends zero l f e b = absurd (omega arith)
     ends (suc k) l f e b = sym (e ∙ simp b)
 
-    pub walk-on : {t : Reach} {n : Marker} → r ≡ Step.Go t n → Ready s start main t n
-    walk-on b =
-        let y = g .going in
-        let w = turned b in
-        record { going = on (y .fuel) (y .enough) (y .fits) (y .same) (w .0); due = w .1 }
+    going-on : {t : Reach} → turnOf s main st ≡ Go t → Going s start main t
+    going-on b = on (g .fuel) (g .enough) (g .fits) (g .same) b
 
-    pub walk-less : {t : Reach} {n : Marker} → r ≡ Step.Go t n → length s - t .at < length s - st .at
-    walk-less b = let a = rw (turned b .0) at (ahead s main st) in omega arith
+    going-ends : {w : Walk} → turnOf s main st ≡ Stop w → w ≡ walkOf s start main
+    going-ends b = ends (g .fuel) (g .enough) (g .fits) (g .same) b
 
-    pub walk-ends : {w : Walk} → r ≡ Step.Stop w → w ≡ walkOf s start main
-    walk-ends b = let y = g .going in ends (y .fuel) (y .enough) (y .fits) (y .same) (stopped b)
+    -- from where the walk stands
+    ready-from : (r : Step) → Leads s main r (Go st) → Ready s start main r
+    unfolding Ready Leads Comes
+    ready-from (Step.Go t c n) h = let z : st ≡ t = cc in (subst (Going s start main) z g, h .1)
+    ready-from (Step.Stop w) h = going-ends h
 
-pub ruleset walk-laws = (walk-past, walk-short, walk-stray, walk-other, walk-begun, walk-on, walk-less, walk-ends)
+  -- and one turn on
+  ready-on : (st : Reach) (g : Going s start main st) (r : Step) → Leads s main r (turnOf s main st) → Ready s start main r
+  unfolding Ready Leads Comes
+  ready-on st g r h = by (turnOf s main st) refl r h
+    where
+      stopped : {v : Walk} (y : Step) → v ≡ walkOf s start main → Leads s main y (Stop v) → Ready s start main y
+      stopped (Step.Go t c n) e k = clash cc
+      stopped (Step.Stop w) e k = sym k ∙ e
+
+      by : (x : Turn) → turnOf s main st ≡ x → (y : Step) → Leads s main y x → Ready s start main y
+      by (Go t) e y k = ready-from t (going-on st g e) y k
+      by (Stop v) e y k = stopped y (going-ends st g e) k
+
+  pub walk-begun : (r : Step) → 2 ≤ length s - start → getD s start 0 ≡ 0xFF → getD s (start + 1) 0 ≡ 0xD8
+      → ((m : ℕ) → Leads s m r (Go (begun (start + 2)))) → Ready s start main r
+  unfolding walkOf
+  walk-begun r l e d h =
+      ready-from (begun (start + 2))
+      (record {
+        fuel = length s;
+        enough = omega arith;
+        fits = omega arith;
+        same =
+            simp (
+              le-ltb (length s) (start + 2) (omega arith),
+              eq-eqb (getD s start 0) 0xFF e,
+              eq-eqb (getD s (start + 1) 0) 0xD8 d,
+            );
+      })
+      r (h main)
+
+  module _ (x : Step) (g : Ready s start main x) where
+    pub walk-ends : {w : Walk} → x ≡ Step.Stop w → w ≡ walkOf s start main
+    unfolding Ready
+    walk-ends e = subst (Ready s start main) e g
+
+    module _ {st : Reach} {c n : ℕ} (e : x ≡ Step.Go st c n) where
+      stands : Going s start main st × (markerOf s (st .at) ≡ Code c n)
+      unfolding Ready
+      stands = subst (Ready s start main) e g
+
+      turned : turnOf s main st ≡ markOf s main st c n (classOf c)
+      unfolding turnOf
+      turned = ap (λ (m : Marker). onMarker m (st .at) (λ (c n : ℕ). markOf s main st c n (classOf c))) (stands .1)
+
+      pub walk-inside-list : n ≤ length s
+      walk-inside-list = behind s (st .at) c n refl (stands .1)
+
+      module _ (r : Step) (h : Leads s main r (markOf s main st c n (classOf c))) where
+        led : Leads s main r (turnOf s main st)
+        led = subst (Leads s main r) (sym turned) h
+
+        pub walk-on : Ready s start main r
+        walk-on = ready-on st (stands .0) r led
+
+        pub walk-less : left s r < left s x
+        unfolding left Leads
+        walk-less = subst (λ (y : Step). left s r < left s y) (sym e) (by r led)
+          where
+            by : (y : Step) → Leads s main y (turnOf s main st) → left s y < left s (Step.Go st c n)
+            by (Step.Go t b m) k = let a = rw (k .0) at (ahead s main st) in omega arith
+            by (Step.Stop w) k = omega arith
+
+pub ruleset walk-laws = (walk-past, walk-short, walk-stray, walk-other, walk-begun, walk-inside-list, walk-on, walk-less, walk-ends)

@@ -1,15 +1,13 @@
 use borrow.Author.Needs.{needs}
-use Rattle.jpeg_walk.proofs.Laws.{Ready, walk-laws}
-use Prim.Native.Nat.{_-_}
-use lib.ListN.{length}
+use Rattle.jpeg_walk.proofs.Laws.{Ready, left, walk-laws}
 use Rattle.jpeg_walk.proofs.walk_layer.Statement.{statement}
 use Rattle.jpeg_walk.proofs.walk_layer.Tie as tie
 
 abbrev Inv-loop : tie.InvT-loop
-Inv-loop s start main st₀ mark₀ st mark = Ready s start main st mark
+Inv-loop s start main step₀ step = Ready s start main step
 
 abbrev μ-loop : tie.MeasureT-loop
-μ-loop s start main st₀ mark₀ st mark = length s - st .at
+μ-loop s start main step₀ step = left s step
 
 returns : tie.Need-returns Inv-loop μ-loop
 returns c = search walk-laws
@@ -38,20 +36,17 @@ returns-4 c = search walk-laws
 add-t12 : tie.Need-add-t12 Inv-loop μ-loop
 add-t12 c = search needs
 
-add-marker-at : tie.Need-add-marker-at Inv-loop μ-loop
-add-marker-at c = search needs
-
-marker-at-requires : tie.Need-marker-at-requires Inv-loop μ-loop
-marker-at-requires c κs = search needs
+after-requires : tie.Need-after-requires Inv-loop μ-loop
+after-requires c κs = search needs
 
 loop-holds : tie.Need-loop-holds Inv-loop μ-loop
 loop-holds c = search walk-laws
 
-step-at-requires : tie.Need-step-at-requires Inv-loop μ-loop
-step-at-requires c κs = search needs
+enum-known-step : tie.Need-enum-known-step Inv-loop μ-loop
+enum-known-step c = search needs
 
-enum-known-t : tie.Need-enum-known-t Inv-loop μ-loop
-enum-known-t c = search needs
+mark-step-requires : tie.Need-mark-step-requires Inv-loop μ-loop
+mark-step-requires c κs = search walk-laws
 
 loop-less : tie.Need-loop-less Inv-loop μ-loop
 loop-less c = search walk-laws
@@ -59,8 +54,8 @@ loop-less c = search walk-laws
 loop-again : tie.Need-loop-again Inv-loop μ-loop
 loop-again c = search walk-laws
 
-enum-known-w : tie.Need-enum-known-w Inv-loop μ-loop
-enum-known-w c = search needs
+enum-known-step-2 : tie.Need-enum-known-step-2 Inv-loop μ-loop
+enum-known-step-2 c = search needs
 
 returns-5 : tie.Need-returns-5 Inv-loop μ-loop
 returns-5 c = search walk-laws
@@ -80,12 +75,11 @@ walk-layer-spec =
     shared-slice-read-if4
     returns-4
     add-t12
-    add-marker-at
-    marker-at-requires
+    after-requires
     loop-holds
-    step-at-requires
-    enum-known-t
+    enum-known-step
+    mark-step-requires
     loop-less
     loop-again
-    enum-known-w
+    enum-known-step-2
     returns-5)
