@@ -1,5 +1,6 @@
 """tell.py <LOG >docs/BENCH.md: the ratios of a run of `make bench` as a page."""
 
+import platform
 import re
 import sys
 import textwrap
@@ -9,9 +10,9 @@ HEAD = """# How fast it is
 `make bench` builds the proved calls and the same work in plain C, checks that both give the same
 answers, and times them side by side, in turns, in one run. Only ratios are told: the library's time
 over the other's, so below 1 it is faster. Seconds belong to a machine. `make bench >LOG` and
-`python3 bench/tell.py <LOG >docs/BENCH.md` make this page again; all figures are of one run on two
-shared processors.
-"""
+`python3 bench/tell.py <LOG >docs/BENCH.md` make this page again; all figures are of one run on
+shared processors, %s.
+""" % platform.machine()
 
 def wrapped(said):
     return textwrap.fill(said, 100, break_on_hyphens=False)
