@@ -3,7 +3,7 @@
 use Prim.Native.Nat.{ℕ, _+_}
 use mathlib.Core.Bool.{true, false}
 use mathlib.Core.List.{List}
-use mathlib.Core.Path.{_≡_, sym, subst, _∙_}
+use mathlib.Core.Path.{_≡_, refl, sym, subst, _∙_}
 use borrow.Author.Tests.{eq-eqb, ne-eqb}
 use Rattle.octets.specs.Octets.{be16At}
 use Rattle.jpeg_rules.specs.declared.Fault.{Fault}
@@ -23,7 +23,7 @@ use Rattle.jpeg_scan.specs.declared.Next.{Next}
 use Rattle.jpeg_scan.specs.Search.{Shows}
 use Rattle.jpeg_segment.proofs.Whole.{room}
 use Rattle.jpeg_marks.specs.declared.Step.{Step}
-use Rattle.jpeg_marks.specs.Step.{Steps}
+use Rattle.jpeg_marks.specs.Step.{Answered, Leads}
 
 -- ---- frame_body and frame_step
 module _ (s : List ℕ) (st : Reach) (n next : ℕ) {h : ℕ} (e : h ≡ be16At s (n + 3)) where
@@ -64,24 +64,30 @@ module _ (s : List ℕ) (st : Reach) (n : ℕ) where
 pub ruleset frame-laws = (room, frame-again, frame-early, frame-bad, frame-whole)
 
 -- ---- scan_step
+
+-- a turn that stops has its answer
+pub led-stop : (s : List ℕ) {t : Turn} {w : Walk} → t ≡ Stop w → (main : ℕ) → Leads s main (Step.Stop w) t
+unfolding Leads Answered
+led-stop s {w = w} e main = subst (λ (x : Turn). Answered s main x w) (sym e) refl
+
 module _ (s : List ℕ) (st : Reach) (n : ℕ) where
-  pub scan-early : st .framed ≡ false → Steps s (Step.Stop (Walk.Refused (BadLayer (st .at)))) (scanStepOf s st n)
-  unfolding scanStepOf Steps
-  scan-early f = simp f
+  pub scan-early : st .framed ≡ false → (main : ℕ) → Leads s main (Step.Stop (Walk.Refused (BadLayer (st .at)))) (scanStepOf s st n)
+  unfolding scanStepOf
+  scan-early f = led-stop s (simp f)
 
   module _ (f : st .framed ≡ true) {g : Seg} (z : g ≡ segOf s n 2) where
-    pub scan-bad : {x : Fault} → g ≡ Refused x → Steps s (Step.Stop (Walk.Refused x)) (scanStepOf s st n)
-    unfolding scanStepOf Steps
-    scan-bad b = simp (f, sym z ∙ b)
+    pub scan-bad : {x : Fault} → g ≡ Refused x → (main : ℕ) → Leads s main (Step.Stop (Walk.Refused x)) (scanStepOf s st n)
+    unfolding scanStepOf
+    scan-bad b = led-stop s (simp (f, sym z ∙ b))
 
     module _ {from : ℕ} (b : g ≡ Body from) {r : Next} (y : Shows s r (scanOf s from)) where
-      pub scan-open : r ≡ Next.Nothing → Steps s (Step.Stop (Walk.Refused (Short from))) (scanStepOf s st n)
-      unfolding scanStepOf Steps Shows
-      scan-open e = let w : scanOf s from ≡ Nothing = subst (λ (x : Next). Shows s x (scanOf s from)) e y in simp (f, sym z ∙ b, w)
+      pub scan-open : r ≡ Next.Nothing → (main : ℕ) → Leads s main (Step.Stop (Walk.Refused (Short from))) (scanStepOf s st n)
+      unfolding scanStepOf Shows
+      scan-open e = let w : scanOf s from ≡ Nothing = subst (λ (x : Next). Shows s x (scanOf s from)) e y in led-stop s (simp (f, sym z ∙ b, w))
 
-      pub scan-whole : {p c next : ℕ} → r ≡ Next.At p c next → Steps s (Step.Go (passed st p) c next) (scanStepOf s st n)
-      unfolding scanStepOf Steps Shows
-      scan-whole {p} {c} {next} e =
+      pub scan-whole : {p c next : ℕ} → r ≡ Next.At p c next → (main : ℕ) → Leads s main (Step.Go (passed st p) c next) (scanStepOf s st n)
+      unfolding scanStepOf Leads Shows
+      scan-whole {p} {c} {next} e main =
           let w : (scanOf s from ≡ At p) × (markerOf s p ≡ Code c next) = subst (λ (x : Next). Shows s x (scanOf s from)) e y in
           (simp (f, sym z ∙ b, w .0), w .1)
 

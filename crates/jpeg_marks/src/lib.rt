@@ -1,9 +1,9 @@
 // What the walk does at a frame, at a scan and at the end of a JPEG layer.
 ghost use mathlib.Core.Path.{_≡_};
-ghost use Prim.Native.Nat.{_≤_};
+ghost use Prim.Native.Nat.{ℕ, _≤_};
 ghost use lib.ListN.{length};
 ghost use Rattle.jpeg_rules.specs.Walk.{frameBodyOf, frameOf, scanStepOf, endOf};
-ghost use Rattle.jpeg_marks.specs.Step.{Steps};
+ghost use Rattle.jpeg_marks.specs.Step.{Leads};
 ghost use Rattle.jpeg_segment.specs.Room.{Room};
 use jpeg_rules::Fault;
 use jpeg_rules::Reach;
@@ -61,7 +61,7 @@ pub enum Step {
 // T.81 B.2.3: the scan header's components are not read; the data after it ends at the next marker, which is not looked for again.
 pub fn scan_step(s: &[u8], st: Reach, n: usize) -> Step
     requires { ⌜ n ≤ length (now s) ⌝ }
-    ensures { λ r. ⌜ Steps (now (s .entry)) r (scanStepOf (now (s .entry)) st n) ⌝ }
+    ensures { λ r. ⌜ ((main : ℕ) → Leads (now (s .entry)) main r (scanStepOf (now (s .entry)) st n)) ⌝ }
 {
     if st.framed {
         match jpeg_segment::seg_at(s, n, 2) {

@@ -20,13 +20,13 @@ use Rattle.jpeg_rules.specs.declared.Tag.the-variants.{Gives, Plain}
 use Rattle.jpeg_rules.specs.declared.Turn.{Turn}
 use Rattle.jpeg_rules.specs.declared.Turn.the-variants.{Go}
 use Rattle.jpeg_rules.specs.Marker.{classOf}
-use Rattle.jpeg_rules.specs.Grammar.{marker, Data, Piece, alone, segment, scan, lengthed, octetsOf, piecesOf, Good, isScan, Each, Layer}
+use Rattle.jpeg_rules.specs.Grammar.{marker, Data, Piece, alone, segment, scan, lengthed, octetsOf, piecesOf, Good, Each, Layer}
 use Rattle.jpeg_rules.specs.Walk.{resolves, tagOf, framed, moved, passed, refused, onBody, onTag, frameBodyOf, frameOf, scanStepOf, endOf, markOf, turnOf, begun}
 use Rattle.jpeg_rules.proofs.Leaves.{class-other}
 use Rattle.jpeg_rules.proofs.Runs.{length-marker}
 use Rattle.jpeg_rules.proofs.Scans.{Opens}
 use Rattle.jpeg_rules.proofs.Turns.{turn-class, turn-alone, turn-scan, scan-other, opened, seg-is, segment-opened}
-use Rattle.jpeg_rules.proofs.There.{length-lengthed, piece-opens, lengthed-opens, marker-opens}
+use Rattle.jpeg_rules.proofs.There.{length-lengthed, pieces-open, lengthed-opens, marker-opens, each-good}
 use Rattle.jpeg_padding.specs.Places.{InPieces, first, later, own, before-frame, at-frame, after-frame, at-last, BeginsAt, Comes, here, onward}
 
 module _ (s : List ℕ) (main : ℕ) where
@@ -102,16 +102,6 @@ module _ (s : List ℕ) (main : ℕ) where
         subst (λ (n : ℕ). To n (turnOf s main st)) z (scan-to f header d l (e ∙ append-assoc (lengthed f 0xDA header) d l) (g .1) o)
 
 -- ---- pieces
-
-pieces-open : (ps : List Piece) (l : List ℕ) → Each Good ps → Opens l → Opens (piecesOf ps ++ l)
-unfolding Each piecesOf
-pieces-open [] l g o = o
-pieces-open (p ∷ ps) l g o = subst Opens (sym (append-assoc (octetsOf p) (piecesOf ps) l)) (piece-opens p (piecesOf ps ++ l) (g .0))
-
-each-good : (ps : List Piece) → Each (λ p. Good p × (isScan p ≡ false)) ps → Each Good ps
-unfolding Each
-each-good [] g = tt
-each-good (p ∷ ps) g = (g .0 .0, each-good ps (g .1))
 
 module _ (s : List ℕ) (main : ℕ) where
   -- a place that is come to from the first of pieces: a marker in them, or one that is come to from behind them

@@ -4,12 +4,13 @@ use Prim.Native.Nat.{ℕ, _+_, _-_, _≤_}
 use native.Mathlib.Omega.{arith}
 use mathlib.Core.Path.{_≡_, refl, sym, ap, ap₂, _∙_}
 use mathlib.Core.List.{List, _++_, append-assoc}
-use lib.ListN.{length, take, drop, replicate, length-append, length-drop, length-replicate, take-append-drop}
-use lib.Seq.{length-take-le, take-at, drop-at, take-add, drop-drop}
+use lib.ListN.{length, take, drop, replicate, length-append, length-drop, length-replicate}
+use lib.Seq.{length-take-le, take-at, drop-at, take-add}
 use Rattle.octets.proofs.Laws.{drop-next}
 use Rattle.jpeg_rules.specs.declared.Reach.{Reach}
 use Rattle.jpeg_rules.specs.declared.Walk.the-variants.{Ends}
 use Rattle.jpeg_rules.specs.Walk.{begun, walkOf}
+use Rattle.jpeg_rules.proofs.Scans.{scan-split}
 use Rattle.jpeg_rules.proofs.There.{layer-walk}
 use Rattle.jpeg_rules.proofs.Theorems.{LayerAt}
 use Rattle.jpeg_padding.specs.Places.{BeginsAt, padded, paddedAt, Comes}
@@ -18,18 +19,12 @@ use Rattle.jpeg_padding.proofs.Reached.{layer-met}
 
 -- ---- the list in its parts: up to the layer, the layer's two, and what stands after it
 
-cut-there : (s : List ℕ) (start e : ℕ) → start ≤ e → drop start s ≡ take (e - start) (drop start s) ++ drop e s
-cut-there s start e h =
-    let z : start + (e - start) ≡ e = omega arith in
-    sym (take-append-drop (e - start) (drop start s))
-    ∙ ap (λ (x : List ℕ). take (e - start) (drop start s) ++ x) (drop-drop (e - start) start s ∙ ap (λ (n : ℕ). drop n s) z)
-
 module _ (s : List ℕ) (start e : ℕ) (after : start ≤ e) (inside : e ≤ length s) (a b : List ℕ) (parts : take (e - start) (drop start s) ≡ a ++ b) where
   parts-length : length a + length b ≡ e - start
   parts-length = sym (length-append a b) ∙ sym (ap length parts) ∙ length-take-le (e - start) (drop start s) (let l = length-drop start s in omega arith)
 
   parts-there : drop start s ≡ a ++ (b ++ drop e s)
-  parts-there = cut-there s start e after ∙ ap (λ (x : List ℕ). x ++ drop e s) parts ∙ append-assoc a b (drop e s)
+  parts-there = scan-split s start e after ∙ ap (λ (x : List ℕ). x ++ drop e s) parts ∙ append-assoc a b (drop e s)
 
   front-taken : take (start + length a) s ≡ take start s ++ a
   front-taken =
@@ -65,4 +60,4 @@ walk-more s start main e w h r y p m k =
 
 pub walk-reaches : (s : List ℕ) (start main e w h r : ℕ) (y : LayerAt s start main e w h r) (t : Reach) → Comes s main (begun (start + 2)) t
     → BeginsAt (y .layer) start (t .at)
-walk-reaches s start main e w h r y = layer-met s start main (drop e s) (y .layer) (cut-there s start e (y .after))
+walk-reaches s start main e w h r y = layer-met s start main (drop e s) (y .layer) (scan-split s start e (y .after))

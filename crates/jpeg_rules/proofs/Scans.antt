@@ -258,7 +258,7 @@ scan-back s i p e = by (subst (Scanned s i) e (scanned s i)) refl
     by (to-marker {p = q} m) z = let y : q ≡ p = cc in subst (Passed s i) y m
     by (to-end k) z = clash cc
 
--- the octets that were passed, and the marker after them
+-- the octets from one place up to another, and those after them
 pub scan-split : (s : List ℕ) (i p : ℕ) → i ≤ p → drop i s ≡ take (p - i) (drop i s) ++ drop p s
 scan-split s i p h =
     let z : i + (p - i) ≡ p = omega arith in

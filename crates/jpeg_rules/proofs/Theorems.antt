@@ -5,8 +5,8 @@ use native.Mathlib.Omega.{arith}
 use mathlib.Core.Path.{_≡_, refl, sym, ap, _∙_}
 use mathlib.Core.Logic.{_↔_}
 use mathlib.Core.List.{List, [], _∷_, _++_, append-nil}
-use lib.ListN.{length, take, drop, length-append, length-drop, take-append-drop}
-use lib.Seq.{length-take-le, drop-drop}
+use lib.ListN.{length, take, drop, length-append, length-drop}
+use lib.Seq.{length-take-le}
 use Rattle.laws.proofs.Cases.{clash}
 use Rattle.octets.specs.Octets.{Octets}
 use Rattle.jpeg_rules.specs.declared.Fault.{Fault}
@@ -15,6 +15,7 @@ use Rattle.jpeg_rules.specs.declared.Walk.the-variants.{Ends, Refused}
 use Rattle.jpeg_rules.specs.Grammar.{Layer}
 use Rattle.jpeg_rules.specs.Walk.{walkOf}
 use Rattle.jpeg_rules.specs.Faults.{BadLayer}
+use Rattle.jpeg_rules.proofs.Scans.{scan-split}
 use Rattle.jpeg_rules.proofs.There.{layer-walk}
 use Rattle.jpeg_rules.proofs.Back.{walk-layer}
 use Rattle.jpeg_rules.proofs.Refuses.{layer-bad}
@@ -26,11 +27,6 @@ pub record LayerAt (s : List ℕ) (start main e w h r : ℕ) : Type 0 where
   pub after : start ≤ e
   pub inside : e ≤ length s
 
-cut-at : (s : List ℕ) (start e : ℕ) → start ≤ e → drop start s ≡ take (e - start) (drop start s) ++ drop e s
-cut-at s start e h =
-    let z : start + (e - start) ≡ e = omega arith in
-    sym (ap (λ (l : List ℕ). take (e - start) (drop start s) ++ l) (sym (drop-drop (e - start) start s ∙ ap (λ (k : ℕ). drop k s) z)) ∙ take-append-drop (e - start) (drop start s))
-
 cut-length : (s : List ℕ) (start e : ℕ) → e ≤ length s → length (take (e - start) (drop start s)) ≡ e - start
 cut-length s start e h = length-take-le (e - start) (drop start s) (let l = length-drop start s in omega arith)
 
@@ -41,7 +37,7 @@ layer-ends s start main e w h r k =
     let a = k .after in
     let l = cut-length s start e (k .inside) in
     let z : start + length (take (e - start) (drop start s)) ≡ e = omega arith in
-    layer-walk s start main (take (e - start) (drop start s)) (drop e s) w h r (k .layer) (cut-at s start e a) ∙ ap (λ (n : ℕ). Ends n w h r) z
+    layer-walk s start main (take (e - start) (drop start s)) (drop e s) w h r (k .layer) (scan-split s start e a) ∙ ap (λ (n : ℕ). Ends n w h r) z
 
 pub walk-exactly : (s : List ℕ) → Octets s → (start main e w h r : ℕ) → walkOf s start main ≡ Ends e w h r ↔ LayerAt s start main e w h r
 walk-exactly s o start main e w h r = (
@@ -106,5 +102,5 @@ walk-shift s t o start at main e w h r q same fits =
     let l : List ℕ = take (e - start) (drop start s) in
     let n : length l ≡ e - start = cut-length s start e (k .inside) in
     let split : drop at t ≡ l ++ drop (at + (e - start)) t =
-    cut-at t at (at + (e - start)) (omega arith) ∙ ap (λ (m : ℕ). take m (drop at t) ++ drop (at + (e - start)) t) z ∙ ap (λ (x : List ℕ). x ++ drop (at + (e - start)) t) same in
+    scan-split t at (at + (e - start)) (omega arith) ∙ ap (λ (m : ℕ). take m (drop at t) ++ drop (at + (e - start)) t) z ∙ ap (λ (x : List ℕ). x ++ drop (at + (e - start)) t) same in
     layer-walk t at main l (drop (at + (e - start)) t) w h r (k .layer) split ∙ ap (λ (m : ℕ). Ends (at + m) w h r) n

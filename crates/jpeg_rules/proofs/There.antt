@@ -62,7 +62,7 @@ piece-opens (segment f c body) l g = lengthed-opens f c body l (λ e. let z : Se
 piece-opens (scan f header scanned) l g =
     subst Opens (sym (append-assoc (lengthed f 0xDA header) scanned l)) (lengthed-opens f 0xDA header (scanned ++ l) (λ e. clash cc))
 
-pieces-open : (ps : List Piece) (l : List ℕ) → Each Good ps → Opens l → Opens (piecesOf ps ++ l)
+pub pieces-open : (ps : List Piece) (l : List ℕ) → Each Good ps → Opens l → Opens (piecesOf ps ++ l)
 unfolding Each piecesOf
 pieces-open [] l g o = o
 pieces-open (p ∷ ps) l g o = subst Opens (sym (append-assoc (octetsOf p) (piecesOf ps) l)) (piece-opens p (piecesOf ps ++ l) (g .0))
@@ -290,7 +290,7 @@ module _ (s : List ℕ) (main : ℕ) where
 
 -- ---- a whole layer
 
-each-good : (ps : List Piece) → Each (λ p. Good p × (isScan p ≡ false)) ps → Each Good ps
+pub each-good : (ps : List Piece) → Each (λ p. Good p × (isScan p ≡ false)) ps → Each Good ps
 unfolding Each
 each-good [] g = tt
 each-good (p ∷ ps) g = (g .0 .0, each-good ps (g .1))

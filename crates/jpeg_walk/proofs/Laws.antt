@@ -19,16 +19,15 @@ use Rattle.jpeg_rules.specs.declared.Walk.the-variants.{Refused}
 use Rattle.jpeg_rules.specs.Marker.{classOf, markerOf}
 use Rattle.jpeg_rules.specs.Walk.{moved, frameOf, scanStepOf, segmentOf, endOf, markOf, onMarker, turnOf, walkFrom, begun, walkOf}
 use Rattle.jpeg_marks.specs.declared.Step.{Step}
-use Rattle.jpeg_marks.specs.Step.{Steps}
+use Rattle.jpeg_marks.specs.Step.{Answered, Leads}
+use Rattle.jpeg_marks.proofs.Laws.{led-stop}
 use Rattle.laws.proofs.Cases.{clash}
-use Rattle.jpeg_walk.specs.Lead.{Comes, Leads}
 use Rattle.jpeg_walk.proofs.Ahead.{ahead, behind}
 
 -- ---- after
 module _ (s : List ℕ) {t : Turn} where
   pub after-stop : {w : Walk} → t ≡ Stop w → (main : ℕ) → Leads s main (Step.Stop w) t
-  unfolding Leads Comes
-  after-stop {w} e main = subst (λ (x : Turn). Comes s main x w) (sym e) refl
+  after-stop e = led-stop s e
 
   module _ {st : Reach} (e : t ≡ Go st) {m : Marker} (q : m ≡ markerOf s (st .at)) where
     pub after-go : {c n : ℕ} → m ≡ Code c n → (main : ℕ) → Leads s main (Step.Go st c n) t
@@ -36,8 +35,8 @@ module _ (s : List ℕ) {t : Turn} where
     after-go a main = (e, sym q ∙ a)
 
     bare : (main : ℕ) (w : Walk) → turnOf s main st ≡ Stop w → Leads s main (Step.Stop w) t
-    unfolding Leads Comes
-    bare main w h = subst (λ (x : Turn). Comes s main x w) (sym e) h
+    unfolding Leads Answered
+    bare main w h = subst (λ (x : Turn). Answered s main x w) (sym e) h
 
     pub after-missing : m ≡ Missing → (main : ℕ) → Leads s main (Step.Stop (Refused (BadLayer (st .at)))) t
     unfolding turnOf
@@ -71,13 +70,9 @@ module _ (s : List ℕ) (main : ℕ) (st : Reach) (c n : ℕ) {k : Class} (e : k
   unfolding markOf
   mark-frame x a y h = said x (y ∙ classed a) (h main)
 
-  pub mark-scan : (x : Step) → k ≡ Scan → Steps s x (scanStepOf s st n) → Leads s main x (markOf s main st c n (classOf c))
-  unfolding markOf Leads Steps Comes
-  mark-scan x a h = said x (classed a) (led x h)
-    where
-      led : (y : Step) → Steps s y (scanStepOf s st n) → Leads s main y (scanStepOf s st n)
-      led (Step.Go t b m) g = g
-      led (Step.Stop w) g = subst (λ (z : Turn). Comes s main z w) (sym g) refl
+  pub mark-scan : (x : Step) → k ≡ Scan → ((m : ℕ) → Leads s m x (scanStepOf s st n)) → Leads s main x (markOf s main st c n (classOf c))
+  unfolding markOf
+  mark-scan x a h = said x (classed a) (h main)
 
   pub mark-end : {t : Turn} (x : Step) → k ≡ End → t ≡ endOf st n → ((m : ℕ) → Leads s m x t) → Leads s main x (markOf s main st c n (classOf c))
   unfolding markOf
@@ -159,13 +154,13 @@ module _ (s : List ℕ) (start main : ℕ) where
 
     -- from where the walk stands
     ready-from : (r : Step) → Leads s main r (Go st) → Ready s start main r
-    unfolding Ready Leads Comes
+    unfolding Ready Leads Answered
     ready-from (Step.Go t c n) h = let z : st ≡ t = cc in (subst (Going s start main) z g, h .1)
     ready-from (Step.Stop w) h = going-ends h
 
   -- and one turn on
   ready-on : (st : Reach) (g : Going s start main st) (r : Step) → Leads s main r (turnOf s main st) → Ready s start main r
-  unfolding Ready Leads Comes
+  unfolding Ready Leads Answered
   ready-on st g r h = by (turnOf s main st) refl r h
     where
       stopped : {v : Walk} (y : Step) → v ≡ walkOf s start main → Leads s main y (Stop v) → Ready s start main y

@@ -3,7 +3,7 @@ ghost use mathlib.Core.Path.{_≡_};
 ghost use Prim.Native.Nat.{ℕ, _≤_};
 ghost use lib.ListN.{length};
 ghost use Rattle.jpeg_rules.specs.Marker.{classOf};
-ghost use Rattle.jpeg_walk.specs.Lead.{Leads};
+ghost use Rattle.jpeg_marks.specs.Step.{Leads};
 ghost use Rattle.jpeg_rules.specs.Walk.{markOf, walkOf};
 use jpeg_marks::Step;
 use jpeg_rules::Class;
