@@ -1,18 +1,18 @@
 -- What is proved of padded markers (02, 2026-03) beside the walk. The statements are for the reader; how each is shown stands in the files beside this one.
 -- Assumes nothing.
-use Prim.Native.Nat.{ℕ, _+_}
+use Prim.Native.Nat.{ℕ, _+_, _≤_}
 use mathlib.Core.Path.{_≡_}
-use mathlib.Core.Logic.{_≢_}
+use mathlib.Core.Logic.{_≢_, ⊎-elim}
 use mathlib.Core.List.{List, _++_}
 use lib.ListN.{getD, replicate}
 use Rattle.octets.specs.Octets.{Octets}
 use Rattle.jpeg_rules.specs.declared.Reach.{Reach}
 use Rattle.jpeg_rules.specs.declared.Walk.the-variants.{Ends}
-use Rattle.jpeg_rules.specs.Grammar.{Layer}
+use Rattle.jpeg_rules.specs.Grammar.{marker, DataRun, Data, scan, lengthed, Layer}
 use Rattle.jpeg_rules.specs.Walk.{begun, walkOf}
 use Rattle.jpeg_rules.proofs.Theorems.{LayerAt, walk-exactly}
 use Rattle.jpeg_padding.specs.Frozen.{frozenWalkOf}
-use Rattle.jpeg_padding.specs.Places.{MarkerIn, BeginsAt, paddedAt, Comes}
+use Rattle.jpeg_padding.specs.Places.{InPiece, restart, MarkerIn, BeginsAt, paddedAt, Comes}
 use Rattle.jpeg_padding.proofs.Before.{walk-ends-same, walk-lone-same}
 use Rattle.jpeg_padding.proofs.Pads.{layer-more, layer-parts}
 use Rattle.jpeg_padding.proofs.Walked.{walk-more, walk-reaches}
@@ -51,3 +51,9 @@ pub reached-inserted : (s : List ℕ) → Octets s → (start main e w h r : ℕ
 reached-inserted s o start main e w h r q t c k =
     let y = walk-exactly s o start main e w h r .0 q in
     walk-inserted s start main e w h r y (t .at) (reached-begins s start main e w h r y t c) k
+
+-- in scan data, which the walk passes, every run but that of FF 00 is one too
+pub restart-begins : (f : ℕ) (header d more : List ℕ) (fill c : ℕ) → Data d → Data more → DataRun fill c → c ≢ 0x00
+    → InPiece (scan f header (d ++ (marker fill c ++ more))) (lengthed f 0xDA header ++ d) (marker fill c ++ more)
+restart-begins f header d more fill c k m r n =
+    ⊎-elim (λ (z : (c ≡ 0x00) × (fill ≡ 0)). absurd (n (z .0))) (λ (z : (0xD0 ≤ c) × (c ≤ 0xD7)). restart f header d more fill c k z m) r
