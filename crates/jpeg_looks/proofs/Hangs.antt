@@ -43,7 +43,7 @@ use Rattle.jpeg_looks.proofs.Leaves.{Whole, seg-whole, seg-bad, code-ha
 
 -- where the walk ends it looked up to its end; where it is refused, past the place and not far beyond
 unfoldable pub NearWalk : List ℕ → ℕ → Walk → Type 0
-NearWalk s look (Ends e w h r) = look ≡ e
+NearWalk s look (Ends e said) = look ≡ e
 NearWalk s look (Walk.Refused f) = (placeOf f < look) × (look ≤ placeOf f + walkBeyond s f)
 
 pub record Looked (look : ℕ) (read : List ℕ → Walk) (s : List ℕ) (at : ℕ) : Type 0 where
@@ -127,7 +127,7 @@ module _ (s : List ℕ) (o : Octets s) (main : ℕ) where
 
     turned-frame : Uncut (frameOf s st n) → Turned (markLook s st n Frame) (λ (t : List ℕ). frameOf t st n) n
     unfolding frameOf frameBodyOf markLook NearTurn placeOf walkBeyond
-    turned-frame = by (st .framed) (eqb (st .res) 0)
+    turned-frame = by (st .framed) (eqb (st .said .res) 0)
       where
         body : (next : ℕ) → Whole s n 8 next → Uncut (frameBodyOf s st n next) → Turned next (λ (t : List ℕ). frameBodyOf t st n next) next
         body next w u =
@@ -177,7 +177,7 @@ module _ (s : List ℕ) (o : Octets s) (main : ℕ) where
 
     -- what a segment's tag leads to
     abbrev judged : ℕ → Tag → Turn
-    judged next x = onTag x (Go (moved st next (st .res))) (λ (r : ℕ). cond (resolves main r) (Go (moved st next r)) (refused (BadRes (n + 10))))
+    judged next x = onTag x (Go (moved st next (st .said .res))) (λ (r : ℕ). cond (resolves main r) (Go (moved st next r)) (refused (BadRes (n + 10))))
 
     turned-segment : Uncut (segmentOf s main st c n) → Turned (markLook s st n Segment) (λ (t : List ℕ). segmentOf t main st c n) n
     unfolding segmentOf markLook NearTurn placeOf walkBeyond
@@ -208,7 +208,7 @@ module _ (s : List ℕ) (o : Octets s) (main : ℕ) where
 
     turned-mark : (x : Class) → Uncut (markOf s main st c n x) → Turned (markLook s st n x) (λ (t : List ℕ). markOf t main st c n x) n
     unfolding markOf markLook NearTurn
-    turned-mark Alone u = turned-none (Go (moved st n (st .res))) n (k .inside) (let y : (n ≤ n) × (n ≤ markEnd s n) = (omega arith, mark-ahead s n) in y)
+    turned-mark Alone u = turned-none (Go (moved st n (st .said .res))) n (k .inside) (let y : (n ≤ n) × (n ≤ markEnd s n) = (omega arith, mark-ahead s n) in y)
     turned-mark Frame u = turned-frame u
     turned-mark Scan u = turned-scan u
     turned-mark End u = turned-end

@@ -57,7 +57,7 @@ foundLook s Nothing from = from
 -- a marker that may not stand there is decided by its own octets, whatever follows
 unfoldable pub markLook : List ℕ → Reach → ℕ → Class → ℕ
 markLook s st n Alone = n
-markLook s st n Frame = cond (st .framed) n (cond (eqb (st .res) 0) n (bodyLook (segOf s n 8) n whole))
+markLook s st n Frame = cond (st .framed) n (cond (eqb (st .said .res) 0) n (bodyLook (segOf s n 8) n whole))
 markLook s st n Scan = cond (st .framed) (bodyLook (segOf s n 2) n (λ (next : ℕ). foundLook s (scanOf s next) next)) n
 markLook s st n End = n
 markLook s st n Wrong = n

@@ -6,6 +6,7 @@ use mathlib.Core.List.{List}
 use Rattle.laws.proofs.Cases.{clash}
 use Rattle.octets.specs.Octets.{Octets}
 use Rattle.octets.proofs.Agree.{Agree}
+use Rattle.jpeg_rules.specs.declared.Said.{Said}
 use Rattle.jpeg_rules.specs.declared.Fault.{Fault}
 use Rattle.jpeg_rules.specs.declared.Fault.the-variants.{Short}
 use Rattle.jpeg_rules.specs.declared.Walk.the-variants.{Ends, Refused}
@@ -21,9 +22,9 @@ pub walk-decided : (s : List ℕ) → Octets s → (start main : ℕ) → ((p : 
 walk-decided s o start main u = walk-hangs s o start main u .hangs .same
 
 -- where it ended, that is its end; where it was refused, past the place and not far beyond, fill apart
-pub look-end : (s : List ℕ) → Octets s → (start main e w h r : ℕ) → walkOf s start main ≡ Ends e w h r → walkLook s start main ≡ e
+pub look-end : (s : List ℕ) → Octets s → (start main e : ℕ) (said : Said) → walkOf s start main ≡ Ends e said → walkLook s start main ≡ e
 unfolding NearWalk
-look-end s o start main e w h r q = subst (NearWalk s (walkLook s start main)) q (walk-hangs s o start main (λ p z. clash cc) .near)
+look-end s o start main e said q = subst (NearWalk s (walkLook s start main)) q (walk-hangs s o start main (λ p z. clash cc) .near)
 
 pub look-near : (s : List ℕ) → Octets s → (start main : ℕ) (f : Fault) → walkOf s start main ≡ Refused f → ((p : ℕ) → f ≡ Short p → ⊥)
     → (placeOf f < walkLook s start main) × (walkLook s start main ≤ placeOf f + walkBeyond s f)

@@ -36,7 +36,7 @@ module _ (s : List ℕ) (st : Reach) (n next : ℕ) {h : ℕ} (e : h ≡ be16At 
     unfolding frameBodyOf
     no-width z = simp (ne-eqb (be16At s (n + 3)) 0 (rw e at d), eq-eqb (be16At s (n + 5)) 0 (sym f ∙ z))
 
-    pub whole-frame : (w ≡ 0 → ⊥) → Go (framed st next w h) ≡ frameBodyOf s st n next
+    pub whole-frame : (w ≡ 0 → ⊥) → Go (framed st next (record { width = w; height = h; res = st .said .res })) ≡ frameBodyOf s st n next
     unfolding frameBodyOf
     whole-frame m = rw (e, f) (simp (ne-eqb (be16At s (n + 3)) 0 (rw e at d), ne-eqb (be16At s (n + 5)) 0 (rw f at m)))
 
@@ -48,18 +48,18 @@ module _ (s : List ℕ) (st : Reach) (n : ℕ) where
   frame-again f = simp f
 
   module _ (f : st .framed ≡ false) where
-    pub frame-early : st .res ≡ 0 → refused (BadLayer (st .at)) ≡ frameOf s st n
+    pub frame-early : st .said .res ≡ 0 → refused (BadLayer (st .at)) ≡ frameOf s st n
     unfolding frameOf
-    frame-early z = simp (f, eq-eqb (st .res) 0 z)
+    frame-early z = simp (f, eq-eqb (st .said .res) 0 z)
 
-    module _ (z : st .res ≡ 0 → ⊥) {g : Seg} (y : g ≡ segOf s n 8) where
+    module _ (z : st .said .res ≡ 0 → ⊥) {g : Seg} (y : g ≡ segOf s n 8) where
       pub frame-bad : {x : Fault} → g ≡ Refused x → refused x ≡ frameOf s st n
       unfolding frameOf
-      frame-bad b = simp (f, ne-eqb (st .res) 0 z, sym y ∙ b)
+      frame-bad b = simp (f, ne-eqb (st .said .res) 0 z, sym y ∙ b)
 
       pub frame-whole : {next : ℕ} {r : Turn} → g ≡ Body next → r ≡ frameBodyOf s st n next → r ≡ frameOf s st n
       unfolding frameOf
-      frame-whole b h = h ∙ simp (f, ne-eqb (st .res) 0 z, sym y ∙ b)
+      frame-whole b h = h ∙ simp (f, ne-eqb (st .said .res) 0 z, sym y ∙ b)
 
 pub ruleset frame-laws = (room, frame-again, frame-early, frame-bad, frame-whole)
 
@@ -95,7 +95,7 @@ pub ruleset scan-laws = (scan-early, scan-bad, scan-open, scan-whole)
 
 -- ---- end_step
 module _ (st : Reach) (n : ℕ) where
-  pub end-whole : st .scanned ≡ true → Stop (Ends n (st .width) (st .height) (st .res)) ≡ endOf st n
+  pub end-whole : st .scanned ≡ true → Stop (Ends n (st .said)) ≡ endOf st n
   unfolding endOf
   end-whole f = simp f
 

@@ -7,6 +7,7 @@ ghost use Rattle.jpeg_marks.specs.Step.{Leads};
 ghost use Rattle.jpeg_segment.specs.Room.{Room};
 use jpeg_rules::Fault;
 use jpeg_rules::Reach;
+use jpeg_rules::Said;
 use jpeg_rules::Seg;
 use jpeg_rules::Turn;
 use jpeg_rules::Walk;
@@ -29,9 +30,11 @@ fn frame_body(s: &[u8], st: Reach, n: usize, next: usize) -> Turn
         at: next,
         framed: true,
         scanned: st.scanned,
-        res: st.res,
-        width,
-        height,
+        said: Said {
+            width,
+            height,
+            res: st.said.res,
+        },
     })
 }
 
@@ -43,7 +46,7 @@ pub fn frame_step(s: &[u8], st: Reach, n: usize) -> Turn
     if st.framed {
         return Turn::Stop(Walk::Refused(Fault::BadLayer(st.at)));
     }
-    if st.res == 0 {
+    if st.said.res == 0 {
         return Turn::Stop(Walk::Refused(Fault::BadLayer(st.at)));
     }
     match jpeg_segment::seg_at(s, n, 8) {
@@ -64,6 +67,7 @@ pub fn scan_step(s: &[u8], st: Reach, n: usize) -> Step
     ensures { λ r. ⌜ ((main : ℕ) → Leads (now (s .entry)) main r (scanStepOf (now (s .entry)) st n)) ⌝ }
 {
     if st.framed {
+        let said = st.said;
         match jpeg_segment::seg_at(s, n, 2) {
             Seg::Refused(f) => Step::Stop(Walk::Refused(f)),
             Seg::Body(from) => match jpeg_scan::next_marker(s, from) {
@@ -73,9 +77,7 @@ pub fn scan_step(s: &[u8], st: Reach, n: usize) -> Step
                         at: place,
                         framed: true,
                         scanned: true,
-                        res: st.res,
-                        width: st.width,
-                        height: st.height,
+                        said,
                     },
                     code,
                     next,
@@ -91,12 +93,8 @@ pub fn end_step(st: Reach, n: usize) -> Turn
     ensures { λ r. ⌜ r ≡ endOf st n ⌝ }
 {
     if st.scanned {
-        Turn::Stop(Walk::Ends {
-            next: n,
-            width: st.width,
-            height: st.height,
-            res: st.res,
-        })
+        let said = st.said;
+        Turn::Stop(Walk::Ends { next: n, said })
     } else {
         Turn::Stop(Walk::Refused(Fault::BadLayer(st.at)))
     }

@@ -14,6 +14,7 @@ use Rattle.octets.proofs.Laws.{drop-octet}
 use Rattle.laws.specs.Tests.{within}
 use Rattle.laws.proofs.Cases.{cond-with, cond-both, clash}
 use Rattle.laws.proofs.Says.{Says, says-eq, says-and, says-or, says-not, says-within, says-else}
+use Rattle.jpeg_rules.specs.declared.Said.{Said}
 use Rattle.jpeg_rules.specs.declared.Class.{Class}
 use Rattle.jpeg_rules.specs.declared.Class.the-variants.{Alone, Frame, Scan, End, Wrong, Segment}
 use Rattle.jpeg_rules.specs.declared.Marker.{Marker}
@@ -212,13 +213,13 @@ module _ (s : List ℕ) (main : ℕ) where
   lone-same d zero st = refl
   lone-same d (suc k) st = step-same k st (d (st .at)) (λ t q. (d (t .at), lone-same d k t))
 
-  module _ (e w h r : ℕ) where
+  module _ (e : ℕ) (said : Said) where
     -- where an FF stood behind an FF, the frozen walk was refused
-    ends-lone : (k : ℕ) (st : Reach) → frozenWalkFrom k s main st ≡ Ends e w h r → LoneAt s (st .at)
+    ends-lone : (k : ℕ) (st : Reach) → frozenWalkFrom k s main st ≡ Ends e said → LoneAt s (st .at)
     unfolding frozenWalkFrom frozenMarkerOf frozenClassOf
     ends-lone zero st z f q = clash cc
     ends-lone (suc k) st z f q =
-        let y : onward (cond (ltb (length s) (st .at + 2)) Cut (Code 0xFF (st .at + 2))) ≡ Ends e w h r =
+        let y : onward (cond (ltb (length s) (st .at + 2)) Cut (Code 0xFF (st .at + 2))) ≡ Ends e said =
         ap₂ (λ (b : Bool) (c : ℕ). onward (cond (ltb (length s) (st .at + 2)) Cut (cond b (Code c (st .at + 2)) Missing)))
         (sym (eq-eqb (getD s (st .at) 0) 0xFF f)) (sym q)
         ∙ z in
@@ -227,26 +228,26 @@ module _ (s : List ℕ) (main : ℕ) where
         onward : Marker → Walk
         onward x = frozenOnTurn (frozenOnMarker x (st .at) (λ (c n : ℕ). frozenMarkOf s main st c n (frozenClassOf c))) (frozenWalkFrom k s main)
 
-        refuses : (b : Bool) → onward (cond b Cut (Code 0xFF (st .at + 2))) ≡ Ends e w h r → ⊥
+        refuses : (b : Bool) → onward (cond b Cut (Code 0xFF (st .at + 2))) ≡ Ends e said → ⊥
         refuses true y = clash cc
         refuses false y = clash cc
 
-    ends-same : (k : ℕ) (st : Reach) → frozenWalkFrom k s main st ≡ Ends e w h r → walkFrom k s main st ≡ frozenWalkFrom k s main st
+    ends-same : (k : ℕ) (st : Reach) → frozenWalkFrom k s main st ≡ Ends e said → walkFrom k s main st ≡ frozenWalkFrom k s main st
     unfolding walkFrom frozenWalkFrom
     ends-same zero st z = refl
     ends-same (suc k) st z =
         step-same k st (ends-lone (suc k) st z)
         (λ t q.
-        let y : frozenWalkFrom k s main t ≡ Ends e w h r = sym (ap (λ (x : Turn). frozenOnTurn x (frozenWalkFrom k s main)) q) ∙ z in
+        let y : frozenWalkFrom k s main t ≡ Ends e said = sym (ap (λ (x : Turn). frozenOnTurn x (frozenWalkFrom k s main)) q) ∙ z in
         (ends-lone k t y, ends-same k t y))
 
 module _ (s : List ℕ) (start main : ℕ) where
-  pub walk-ends-same : (e w h r : ℕ) → frozenWalkOf s start main ≡ Ends e w h r → walkOf s start main ≡ Ends e w h r
+  pub walk-ends-same : (e : ℕ) (said : Said) → frozenWalkOf s start main ≡ Ends e said → walkOf s start main ≡ Ends e said
   unfolding frozenWalkOf walkOf
-  walk-ends-same e w h r =
-      cond-both (λ u x. x ≡ Ends e w h r → u ≡ Ends e w h r) (ltb (length s) (start + 2)) (λ t z. z) λ t.
-      cond-both (λ u x. x ≡ Ends e w h r → u ≡ Ends e w h r) (eqb (getD s start 0) 0xFF && eqb (getD s (start + 1) 0) 0xD8)
-      (λ f z. ends-same s main e w h r (length s) (begun (start + 2)) z ∙ z) (λ f z. z)
+  walk-ends-same e said =
+      cond-both (λ u x. x ≡ Ends e said → u ≡ Ends e said) (ltb (length s) (start + 2)) (λ t z. z) λ t.
+      cond-both (λ u x. x ≡ Ends e said → u ≡ Ends e said) (eqb (getD s start 0) 0xFF && eqb (getD s (start + 1) 0) 0xD8)
+      (λ f z. ends-same s main e said (length s) (begun (start + 2)) z ∙ z) (λ f z. z)
 
   pub walk-lone-same : ((i : ℕ) → LoneAt s i) → walkOf s start main ≡ frozenWalkOf s start main
   unfolding frozenWalkOf walkOf

@@ -8,7 +8,8 @@ use mathlib.Core.Bool.{true, false, cond}
 use mathlib.Core.List.{List, _∷_, _++_, append-assoc}
 use lib.ListN.{length, replicate}
 use Rattle.octets.specs.Octets.{be16At, octets16}
-use Rattle.jpeg_rules.specs.Grammar.{marker, Data, none, plain, stuffed, Piece, alone, segment, scan, lengthed, octetsOf, piecesOf, Good, isScan, tagged, resolution, Each, Scanned, Layer}
+use Rattle.jpeg_rules.specs.declared.Said.{Said}
+use Rattle.jpeg_rules.specs.Grammar.{marker, Data, none, plain, stuffed, Piece, alone, segment, scan, lengthed, octetsOf, piecesOf, Good, isScan, tagged, resolution, Each, Scanned, saidBy, Layer}
 use Rattle.jpeg_padding.specs.Places.{InPiece, own, restart, InPieces, first, later, MarkerIn, before-frame, at-frame, after-frame, at-last, padded}
 
 -- ---- a marker
@@ -141,10 +142,10 @@ pieces-more k (later {q = q} {a = a} {b = b} m) =
 
 -- ---- the layer
 
-module _ {main : ℕ} {l : List ℕ} {w h r : ℕ} (y : Layer main l w h r) where
+module _ {main : ℕ} {l : List ℕ} {said : Said} (y : Layer main l said) where
   -- other fill
   refilled : (before : List Piece) (fill : ℕ) (after : List Piece) (last : ℕ) → AlikeAll (y .before) before → AlikeAll (y .after) after
-      → Layer main (0xFF ∷ 0xD8 ∷ piecesOf before ++ (lengthed fill (y .code) (y .body) ++ (piecesOf after ++ marker last 0xD9))) w h r
+      → Layer main (0xFF ∷ 0xD8 ∷ piecesOf before ++ (lengthed fill (y .code) (y .body) ++ (piecesOf after ++ marker last 0xD9))) said
   refilled before fill after last b a =
       record {
         before = before;
@@ -159,35 +160,35 @@ module _ {main : ℕ} {l : List ℕ} {w h r : ℕ} (y : Layer main l w h r) wher
         frame = y .frame;
         long = y .long;
         fits = y .fits;
+        says = y .says ∙ ap (saidBy (y .body)) (sym (b .resolves));
         high = y .high;
         wide = y .wide;
-        tag = y .tag ∙ sym (b .resolves);
         listed = y .listed;
         divides = y .divides;
         scanned = a .scanned (y .scanned);
       }
 
-  pub layer-more : (k : ℕ) {a b : List ℕ} → MarkerIn y a b → Layer main (padded k a b) w h r
+  pub layer-more : (k : ℕ) {a b : List ℕ} → MarkerIn y a b → Layer main (padded k a b) said
   layer-more k (before-frame {a = a} {b = b} m) =
       let i = pieces-more k m in
       let rest : List ℕ = lengthed (y .fill) (y .code) (y .body) ++ (piecesOf (y .after) ++ marker (y .last) 0xD9) in
-      subst (λ (x : List ℕ). Layer main x w h r)
+      subst (λ (x : List ℕ). Layer main x said)
       (ap (λ (x : List ℕ). 0xFF ∷ 0xD8 ∷ x ++ rest) (i .octets) ∙ simp append-assoc)
       (refilled (i .pieces) (y .fill) (y .after) (y .last) (i .alike) (alike-same (y .after)))
   layer-more k at-frame =
       let rest : List ℕ = piecesOf (y .after) ++ marker (y .last) 0xD9 in
-      subst (λ (x : List ℕ). Layer main x w h r)
+      subst (λ (x : List ℕ). Layer main x said)
       (ap (λ (x : List ℕ). 0xFF ∷ 0xD8 ∷ piecesOf (y .before) ++ (x ++ rest)) (sym (lengthed-before k (y .fill) (y .code) (y .body)))
       ∙ ap (λ (x : List ℕ). 0xFF ∷ 0xD8 ∷ piecesOf (y .before) ++ x) (append-assoc (replicate k 0xFF) (lengthed (y .fill) (y .code) (y .body)) rest))
       (refilled (y .before) (k + y .fill) (y .after) (y .last) (alike-same (y .before)) (alike-same (y .after)))
   layer-more k (after-frame {a = a} {b = b} m) =
       let i = pieces-more k m in
-      subst (λ (x : List ℕ). Layer main x w h r)
+      subst (λ (x : List ℕ). Layer main x said)
       (ap (λ (x : List ℕ). 0xFF ∷ 0xD8 ∷ piecesOf (y .before) ++ (lengthed (y .fill) (y .code) (y .body) ++ (x ++ marker (y .last) 0xD9))) (i .octets)
       ∙ simp append-assoc)
       (refilled (y .before) (y .fill) (i .pieces) (y .last) (alike-same (y .before)) (i .alike))
   layer-more k at-last =
-      subst (λ (x : List ℕ). Layer main x w h r)
+      subst (λ (x : List ℕ). Layer main x said)
       (ap (λ (x : List ℕ). 0xFF ∷ 0xD8 ∷ piecesOf (y .before) ++ (lengthed (y .fill) (y .code) (y .body) ++ (piecesOf (y .after) ++ x)))
       (sym (marker-more k (y .last) 0xD9))
       ∙ simp append-assoc)
@@ -205,7 +206,7 @@ unfolding piecesOf
 pieces-parts (first {ps = ps} {a = a} {b = b} m) = ap (λ (x : List ℕ). x ++ piecesOf ps) (piece-parts m) ∙ append-assoc a b (piecesOf ps)
 pieces-parts (later {q = q} {a = a} {b = b} m) = ap (λ (x : List ℕ). octetsOf q ++ x) (pieces-parts m) ∙ sym (append-assoc (octetsOf q) a b)
 
-pub layer-parts : {main : ℕ} {l : List ℕ} {w h r : ℕ} (y : Layer main l w h r) {a b : List ℕ} → MarkerIn y a b → l ≡ a ++ b
+pub layer-parts : {main : ℕ} {l : List ℕ} {said : Said} (y : Layer main l said) {a b : List ℕ} → MarkerIn y a b → l ≡ a ++ b
 layer-parts y (before-frame {a = a} {b = b} m) =
     let rest : List ℕ = lengthed (y .fill) (y .code) (y .body) ++ (piecesOf (y .after) ++ marker (y .last) 0xD9) in
     y .octets ∙ ap (λ (x : List ℕ). 0xFF ∷ 0xD8 ∷ x ++ rest) (pieces-parts m) ∙ simp append-assoc

@@ -11,6 +11,7 @@ use lib.Dec.{eqb}
 use Rattle.octets.specs.Octets.{be16At, octets16}
 use Rattle.octets.proofs.Laws.{drop-next}
 use Rattle.laws.proofs.Cases.{cond-with, clash, bool-else}
+use Rattle.jpeg_rules.specs.declared.Said.{Said}
 use Rattle.jpeg_rules.specs.declared.Class.the-variants.{Frame, Scan, End, Wrong, Segment}
 use Rattle.jpeg_rules.specs.declared.Fault.the-variants.{BadRes, BadLayer}
 use Rattle.jpeg_rules.specs.declared.Seg.{Seg}
@@ -21,7 +22,7 @@ use Rattle.jpeg_rules.specs.declared.Turn.{Turn}
 use Rattle.jpeg_rules.specs.declared.Turn.the-variants.{Go}
 use Rattle.jpeg_rules.specs.Marker.{classOf}
 use Rattle.jpeg_rules.specs.Grammar.{marker, Data, Piece, alone, segment, scan, lengthed, octetsOf, piecesOf, Good, Each, Layer}
-use Rattle.jpeg_rules.specs.Walk.{resolves, tagOf, framed, moved, passed, refused, onBody, onTag, frameBodyOf, frameOf, scanStepOf, endOf, markOf, turnOf, begun}
+use Rattle.jpeg_rules.specs.Walk.{resolves, tagOf, framed, moved, passed, refused, onBody, onTag, frameSaid, frameBodyOf, frameOf, scanStepOf, endOf, markOf, turnOf, begun}
 use Rattle.jpeg_rules.proofs.Leaves.{class-other}
 use Rattle.jpeg_rules.proofs.Runs.{length-marker}
 use Rattle.jpeg_rules.proofs.Scans.{Opens}
@@ -43,7 +44,7 @@ module _ (s : List ℕ) (main : ℕ) where
 
   module _ (st : Reach) where
     alone-to : (f : ℕ) (l : List ℕ) → drop (st .at) s ≡ marker f 0x01 ++ l → To (st .at + f + 2) (turnOf s main st)
-    alone-to f l e = subst (To (st .at + f + 2)) (sym (turn-alone s main st f l e)) (to-place (moved st (st .at + f + 2) (st .res)) (st .at + f + 2) refl)
+    alone-to f l e = subst (To (st .at + f + 2)) (sym (turn-alone s main st f l e)) (to-place (moved st (st .at + f + 2) (st .said .res)) (st .at + f + 2) refl)
 
     module _ (f c : ℕ) (body l : List ℕ) (other : c ≢ 0xFF) (e : drop (st .at) s ≡ lengthed f c body ++ l) where
       abbrev next : ℕ
@@ -54,8 +55,8 @@ module _ (s : List ℕ) (main : ℕ) where
           subst (To next) (sym (segment-opened s main st f c body l other e (tagOf s st c (st .at + f + 2)) refl k)) (by (tagOf s st c (st .at + f + 2)))
         where
           by : (t : Tag)
-              → To next (onTag t (Go (moved st next (st .res))) (λ (v : ℕ). cond (resolves main v) (Go (moved st next v)) (refused (BadRes (st .at + f + 2 + 10)))))
-          by Plain = to-place (moved st next (st .res)) next refl
+              → To next (onTag t (Go (moved st next (st .said .res))) (λ (v : ℕ). cond (resolves main v) (Go (moved st next v)) (refused (BadRes (st .at + f + 2 + 10)))))
+          by Plain = to-place (moved st next (st .said .res)) next refl
           by (Gives v) = cond-with (To next) (resolves main v) (λ t. to-place (moved st next v) next refl) (λ t. to-none next _)
 
       frame-to : classOf c ≡ Frame → 8 ≤ length body + 2 → To next (turnOf s main st)
@@ -63,11 +64,11 @@ module _ (s : List ℕ) (main : ℕ) where
       frame-to k h =
           subst (To next) (sym (turn-class s main st f c (octets16 (length body + 2) ++ (body ++ l)) Frame other (opened s main st f c body l other e) k))
           (cond-with (To next) (st .framed) (λ t. to-none next _) λ t.
-          cond-with (To next) (eqb (st .res) 0) (λ t. to-none next _) λ t.
+          cond-with (To next) (eqb (st .said .res) 0) (λ t. to-none next _) λ t.
           subst (λ (g : Seg). To next (onBody g (λ (n : ℕ). frameBodyOf s st (st .at + f + 2) n))) (sym (seg-is s main st f c body l other e 8 h))
           (cond-with (To next) (eqb (be16At s (st .at + f + 2 + 3)) 0) (λ t. to-none next _) λ t.
           cond-with (To next) (eqb (be16At s (st .at + f + 2 + 5)) 0) (λ t. to-none next _) λ t.
-          to-place (framed st next (be16At s (st .at + f + 2 + 5)) (be16At s (st .at + f + 2 + 3))) next refl))
+          to-place (framed st next (frameSaid s st (st .at + f + 2))) next refl))
 
     scan-to : (f : ℕ) (header d l : List ℕ) → drop (st .at) s ≡ lengthed f 0xDA header ++ (d ++ l) → Data d → Opens l
         → To (st .at + f + 2 + (length header + 2) + length d) (turnOf s main st)
@@ -136,7 +137,7 @@ end-stops s main st f l e u =
     subst (λ (x : Turn). x ≡ Go u → ⊥) (sym (turn-class s main st f 0xD9 l End (λ z. omega arith) e refl))
     (cond-with (λ x. x ≡ Go u → ⊥) (st .scanned) (λ t q. clash cc) (λ t q. clash cc))
 
-module _ (s : List ℕ) (start main : ℕ) {l : List ℕ} (rest : List ℕ) {w h r : ℕ} (y : Layer main l w h r) (e : drop start s ≡ l ++ rest) where
+module _ (s : List ℕ) (start main : ℕ) {l : List ℕ} (rest : List ℕ) {said : Said} (y : Layer main l said) (e : drop start s ≡ l ++ rest) where
   abbrev frame : List ℕ
   frame = lengthed (y .fill) (y .code) (y .body)
 

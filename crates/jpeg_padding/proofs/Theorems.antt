@@ -6,6 +6,7 @@ use mathlib.Core.Logic.{_≢_, ⊎-elim}
 use mathlib.Core.List.{List, _++_}
 use lib.ListN.{getD, replicate}
 use Rattle.octets.specs.Octets.{Octets}
+use Rattle.jpeg_rules.specs.declared.Said.{Said}
 use Rattle.jpeg_rules.specs.declared.Reach.{Reach}
 use Rattle.jpeg_rules.specs.declared.Walk.the-variants.{Ends}
 use Rattle.jpeg_rules.specs.Grammar.{marker, DataRun, Data, scan, lengthed, Layer}
@@ -19,7 +20,7 @@ use Rattle.jpeg_padding.proofs.Walked.{walk-more, walk-reaches}
 
 -- ---- where the walk ended before padded markers, it ends today, with the same width, height and resolution
 
-pub conservative : (s : List ℕ) (start main e w h r : ℕ) → frozenWalkOf s start main ≡ Ends e w h r → walkOf s start main ≡ Ends e w h r
+pub conservative : (s : List ℕ) (start main e : ℕ) (said : Said) → frozenWalkOf s start main ≡ Ends e said → walkOf s start main ≡ Ends e said
 conservative s start main = walk-ends-same s start main
 
 -- and a list in which no FF stands behind an FF is walked as it was, with every refusal
@@ -28,29 +29,29 @@ unpadded-same s start main = walk-lone-same s start main
 
 -- ---- octets FF put in before any marker of a layer but the first: a layer again, with the same width, height and resolution
 
-pub marker-parts : {main : ℕ} {l : List ℕ} {w h r : ℕ} (y : Layer main l w h r) (a b : List ℕ) → MarkerIn y a b → l ≡ a ++ b
+pub marker-parts : {main : ℕ} {l : List ℕ} {said : Said} (y : Layer main l said) (a b : List ℕ) → MarkerIn y a b → l ≡ a ++ b
 marker-parts y a b = layer-parts y
 
-pub fill-inserted : {main : ℕ} {l : List ℕ} {w h r : ℕ} (y : Layer main l w h r) (a b : List ℕ) → MarkerIn y a b → (k : ℕ)
-    → Layer main (a ++ (replicate k 0xFF ++ b)) w h r
+pub fill-inserted : {main : ℕ} {l : List ℕ} {said : Said} (y : Layer main l said) (a b : List ℕ) → MarkerIn y a b → (k : ℕ)
+    → Layer main (a ++ (replicate k 0xFF ++ b)) said
 fill-inserted y a b m k = layer-more y k m
 
 -- and the walk over it ends so much later
-pub walk-inserted : (s : List ℕ) (start main e w h r : ℕ) (y : LayerAt s start main e w h r) (p : ℕ) → BeginsAt (y .layer) start p → (k : ℕ)
-    → walkOf (paddedAt s p k) start main ≡ Ends (e + k) w h r
+pub walk-inserted : (s : List ℕ) (start main e : ℕ) (said : Said) (y : LayerAt s start main e said) (p : ℕ) → BeginsAt (y .layer) start p → (k : ℕ)
+    → walkOf (paddedAt s p k) start main ≡ Ends (e + k) said
 walk-inserted = walk-more
 
 -- ---- among these places is every one where a walk that ends looks for a marker after FF D8; so octets FF may stand before each
 
-pub reached-begins : (s : List ℕ) (start main e w h r : ℕ) (y : LayerAt s start main e w h r) (t : Reach) → Comes s main (begun (start + 2)) t
+pub reached-begins : (s : List ℕ) (start main e : ℕ) (said : Said) (y : LayerAt s start main e said) (t : Reach) → Comes s main (begun (start + 2)) t
     → BeginsAt (y .layer) start (t .at)
 reached-begins = walk-reaches
 
-pub reached-inserted : (s : List ℕ) → Octets s → (start main e w h r : ℕ) → walkOf s start main ≡ Ends e w h r
-    → (t : Reach) → Comes s main (begun (start + 2)) t → (k : ℕ) → walkOf (paddedAt s (t .at) k) start main ≡ Ends (e + k) w h r
-reached-inserted s o start main e w h r q t c k =
-    let y = walk-exactly s o start main e w h r .0 q in
-    walk-inserted s start main e w h r y (t .at) (reached-begins s start main e w h r y t c) k
+pub reached-inserted : (s : List ℕ) → Octets s → (start main e : ℕ) (said : Said) → walkOf s start main ≡ Ends e said
+    → (t : Reach) → Comes s main (begun (start + 2)) t → (k : ℕ) → walkOf (paddedAt s (t .at) k) start main ≡ Ends (e + k) said
+reached-inserted s o start main e said q t c k =
+    let y = walk-exactly s o start main e said .0 q in
+    walk-inserted s start main e said y (t .at) (reached-begins s start main e said y t c) k
 
 -- in scan data, which the walk passes, every run but that of FF 00 is one too
 pub restart-begins : (f : ℕ) (header d more : List ℕ) (fill c : ℕ) → Data d → Data more → DataRun fill c → c ≢ 0x00

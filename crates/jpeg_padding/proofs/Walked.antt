@@ -7,6 +7,7 @@ use mathlib.Core.List.{List, _++_, append-assoc}
 use lib.ListN.{length, take, drop, replicate, length-append, length-drop, length-replicate}
 use lib.Seq.{length-take-le, take-at, drop-at, take-add}
 use Rattle.octets.proofs.Laws.{drop-next}
+use Rattle.jpeg_rules.specs.declared.Said.{Said}
 use Rattle.jpeg_rules.specs.declared.Reach.{Reach}
 use Rattle.jpeg_rules.specs.declared.Walk.the-variants.{Ends}
 use Rattle.jpeg_rules.specs.Walk.{begun, walkOf}
@@ -45,19 +46,19 @@ module _ (s : List ℕ) (start e : ℕ) (after : start ≤ e) (inside : e ≤ le
       let n = parts-length in
       omega arith
 
-pub walk-more : (s : List ℕ) (start main e w h r : ℕ) (y : LayerAt s start main e w h r) (p : ℕ) → BeginsAt (y .layer) start p → (k : ℕ)
-    → walkOf (paddedAt s p k) start main ≡ Ends (e + k) w h r
-walk-more s start main e w h r y p m k =
+pub walk-more : (s : List ℕ) (start main e : ℕ) (said : Said) (y : LayerAt s start main e said) (p : ℕ) → BeginsAt (y .layer) start p → (k : ℕ)
+    → walkOf (paddedAt s p k) start main ≡ Ends (e + k) said
+walk-more s start main e said y p m k =
     let a : List ℕ = m .front in
     let b : List ℕ = m .back in
     let q = layer-parts (y .layer) (m .begins) in
     ap (λ (n : ℕ). walkOf (paddedAt s n k) start main) (m .place)
-    ∙ layer-walk (paddedAt s (start + length a) k) start main (padded k a b) (drop e s) w h r (layer-more (y .layer) k (m .begins))
+    ∙ layer-walk (paddedAt s (start + length a) k) start main (padded k a b) (drop e s) said (layer-more (y .layer) k (m .begins))
     (padded-there s start e (y .after) (y .inside) a b q k)
-    ∙ ap (λ (n : ℕ). Ends n w h r) (padded-length s start e (y .after) (y .inside) a b q k)
+    ∙ ap (λ (n : ℕ). Ends n said) (padded-length s start e (y .after) (y .inside) a b q k)
 
 -- ---- the places that the walk comes to
 
-pub walk-reaches : (s : List ℕ) (start main e w h r : ℕ) (y : LayerAt s start main e w h r) (t : Reach) → Comes s main (begun (start + 2)) t
+pub walk-reaches : (s : List ℕ) (start main e : ℕ) (said : Said) (y : LayerAt s start main e said) (t : Reach) → Comes s main (begun (start + 2)) t
     → BeginsAt (y .layer) start (t .at)
-walk-reaches s start main e w h r y = layer-met s start main (drop e s) (y .layer) (scan-split s start e (y .after))
+walk-reaches s start main e said y = layer-met s start main (drop e s) (y .layer) (scan-split s start e (y .after))

@@ -97,21 +97,21 @@ frozenResolves main r = listed r && divides r main
 -- the first FF E1 of length 12 or more with the tag gives the resolution
 unfoldable pub frozenTagOf : List ℕ → Reach → ℕ → ℕ → Tag
 frozenTagOf s st c n =
-    cond (eqb c 0xE1 && eqb (st .res) 0 && leb 12 (be16At s n) && standsAt s (n + 2) frozenG3fax) (Gives (be16At s (n + 10))) Plain
+    cond (eqb c 0xE1 && eqb (st .said .res) 0 && leb 12 (be16At s n) && standsAt s (n + 2) frozenG3fax) (Gives (be16At s (n + 10))) Plain
 
 -- ---- what is known after a frame, a scan and another marker
 
 abbrev pub frozenFramed : Reach → ℕ → ℕ → ℕ → Reach
 frozenFramed st at width height =
-    record { at = at; framed = true; scanned = st .scanned; res = st .res; width = width; height = height }
+    record { at = at; framed = true; scanned = st .scanned; said = record { width = width; height = height; res = st .said .res } }
 
 abbrev pub frozenPassed : Reach → ℕ → Reach
 frozenPassed st at =
-    record { at = at; framed = true; scanned = true; res = st .res; width = st .width; height = st .height }
+    record { at = at; framed = true; scanned = true; said = st .said }
 
 abbrev pub frozenMoved : Reach → ℕ → ℕ → Reach
 frozenMoved st at res =
-    record { at = at; framed = st .framed; scanned = st .scanned; res = res; width = st .width; height = st .height }
+    record { at = at; framed = st .framed; scanned = st .scanned; said = record { width = st .said .width; height = st .said .height; res = res } }
 
 -- ---- one marker
 
@@ -141,7 +141,7 @@ frozenFrameBodyOf s st n next =
 unfoldable pub frozenFrameOf : List ℕ → Reach → ℕ → Turn
 frozenFrameOf s st n =
     cond (st .framed) (frozenRefused (BadLayer (st .at)))
-    (cond (eqb (st .res) 0) (frozenRefused (BadLayer (st .at)))
+    (cond (eqb (st .said .res) 0) (frozenRefused (BadLayer (st .at)))
     (frozenOnBody (frozenSegOf s n 8) (λ (next : ℕ). frozenFrameBodyOf s st n next)))
 
 -- a scan: after the frame; the next marker stands after its header and its data
@@ -155,16 +155,16 @@ frozenScanStepOf s st n =
 unfoldable pub frozenSegmentOf : List ℕ → ℕ → Reach → ℕ → ℕ → Turn
 frozenSegmentOf s main st c n =
     frozenOnBody (frozenSegOf s n 2) (λ (next : ℕ).
-    frozenOnTag (frozenTagOf s st c n) (Go (frozenMoved st next (st .res))) (λ (r : ℕ).
+    frozenOnTag (frozenTagOf s st c n) (Go (frozenMoved st next (st .said .res))) (λ (r : ℕ).
     cond (frozenResolves main r) (Go (frozenMoved st next r)) (frozenRefused (BadRes (n + 10)))))
 
 -- the end: at least one scan came before
 unfoldable pub frozenEndOf : Reach → ℕ → Turn
-frozenEndOf st n = cond (st .scanned) (Stop (Ends n (st .width) (st .height) (st .res))) (frozenRefused (BadLayer (st .at)))
+frozenEndOf st n = cond (st .scanned) (Stop (Ends n (st .said))) (frozenRefused (BadLayer (st .at)))
 
 unfoldable pub frozenMarkOf : List ℕ → ℕ → Reach → ℕ → ℕ → Class → Turn
 unfolding frozenFrameOf frozenScanStepOf frozenSegmentOf frozenEndOf
-frozenMarkOf s main st c n Alone = Go (frozenMoved st n (st .res))
+frozenMarkOf s main st c n Alone = Go (frozenMoved st n (st .said .res))
 frozenMarkOf s main st c n Frame = frozenFrameOf s st n
 frozenMarkOf s main st c n Scan = frozenScanStepOf s st n
 frozenMarkOf s main st c n End = frozenEndOf st n
@@ -193,7 +193,7 @@ frozenWalkFrom zero s main st = Walk.Refused (Short (st .at))
 frozenWalkFrom (suc fuel) s main st = frozenOnTurn (frozenTurnOf s main st) (λ (t : Reach). frozenWalkFrom fuel s main t)
 
 abbrev pub frozenBegun : ℕ → Reach
-frozenBegun at = record { at = at; framed = false; scanned = false; res = 0; width = 0; height = 0 }
+frozenBegun at = record { at = at; framed = false; scanned = false; said = record { width = 0; height = 0; res = 0 } }
 
 -- FF D8, then the markers
 unfoldable pub frozenWalkOf : List ℕ → ℕ → ℕ → Walk

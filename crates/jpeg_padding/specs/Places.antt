@@ -13,6 +13,7 @@ use Prim.Native.Nat.{ℕ, _+_, _≤_}
 use mathlib.Core.Path.{_≡_}
 use mathlib.Core.List.{List, [], _∷_, _++_}
 use lib.ListN.{length, replicate, take, drop}
+use Rattle.jpeg_rules.specs.declared.Said.{Said}
 use Rattle.jpeg_rules.specs.declared.Reach.{Reach}
 use Rattle.jpeg_rules.specs.declared.Turn.the-variants.{Go}
 use Rattle.jpeg_rules.specs.Grammar.{marker, Data, Piece, scan, lengthed, octetsOf, piecesOf, Layer}
@@ -30,7 +31,7 @@ pub data InPieces : List Piece → List ℕ → List ℕ → Type 0 where
   first : {q : Piece} {ps : List Piece} {a b : List ℕ} → InPiece q a b → InPieces (q ∷ ps) a (b ++ piecesOf ps)
   later : {q : Piece} {ps : List Piece} {a b : List ℕ} → InPieces ps a b → InPieces (q ∷ ps) (octetsOf q ++ a) b
 
-module _ {main : ℕ} {l : List ℕ} {width height res : ℕ} (y : Layer main l width height res) where
+module _ {main : ℕ} {l : List ℕ} {said : Said} (y : Layer main l said) where
   pub data MarkerIn : List ℕ → List ℕ → Type 0 where
     before-frame : {a b : List ℕ} → InPieces (y .before) a b
         → MarkerIn (0xFF ∷ 0xD8 ∷ a) (b ++ (lengthed (y .fill) (y .code) (y .body) ++ (piecesOf (y .after) ++ marker (y .last) 0xD9)))

@@ -17,24 +17,25 @@ use Rattle.jpeg_rules.specs.declared.Class.the-variants.{Frame, Segment}
 use Rattle.jpeg_rules.specs.declared.Marker.the-variants.{Code}
 use Rattle.jpeg_rules.specs.declared.Seg.the-variants.{Body}
 use Rattle.jpeg_rules.specs.declared.Tag.the-variants.{Gives}
+use Rattle.jpeg_rules.specs.declared.Said.{Said}
 use Rattle.jpeg_rules.specs.declared.Reach.{Reach}
 use Rattle.jpeg_rules.specs.declared.Turn.the-variants.{Stop}
 use Rattle.jpeg_rules.specs.declared.Walk.{Walk}
 use Rattle.jpeg_rules.specs.declared.Walk.the-variants.{Ends}
 use Rattle.jpeg_rules.specs.Marker.{classOf, markerOf}
-use Rattle.jpeg_rules.specs.Grammar.{marker, Piece, alone, segment, lengthed, octetsOf, piecesOf, Fits, Good, isScan, tagged, resolution, Each, Scanned, Layer}
-use Rattle.jpeg_rules.specs.Walk.{segOf, resolves, tagOf, framed, moved, begun, walkOf}
+use Rattle.jpeg_rules.specs.Grammar.{marker, Piece, alone, segment, lengthed, octetsOf, piecesOf, Fits, Good, isScan, tagged, resolution, Each, Scanned, saidBy, Layer}
+use Rattle.jpeg_rules.specs.Walk.{segOf, resolves, tagOf, framed, moved, frameSaid, begun, walkOf}
 use Rattle.laws.proofs.Cases.{cond-with, clash}
 use Rattle.jpeg_rules.proofs.Leaves.{two-stand}
 use Rattle.jpeg_rules.proofs.Runs.{length-marker, marker-back}
-use Rattle.jpeg_rules.proofs.Turns.{number-is}
+use Rattle.jpeg_rules.proofs.Turns.{frame-says}
 use Rattle.jpeg_rules.proofs.Walks.{Onward, by-alone, by-frame, by-scan, by-plain, by-tag, turn-told, Walks, stops, goes, walks-from}
 use Rattle.jpeg_rules.proofs.Tail.{Stood, stood, Over, alone-over, segment-over, plain-test, gives-test, Tail, tail-back}
 use Rattle.jpeg_rules.proofs.There.{length-lengthed, says-resolves, res-plain, resolves-nonzero}
 
 -- ---- before the frame
 
-pub record Head (s : List ℕ) (main : ℕ) (st : Reach) (e w h r : ℕ) : Type 0 where
+pub record Head (s : List ℕ) (main : ℕ) (st : Reach) (e : ℕ) (said : Said) : Type 0 where
   pub before : List Piece
   pub fill : ℕ
   pub code : ℕ
@@ -47,20 +48,20 @@ pub record Head (s : List ℕ) (main : ℕ) (st : Reach) (e w h r : ℕ) : Type 
   pub frame : classOf code ≡ Frame
   pub long : 8 ≤ length body + 2
   pub fits : Fits body
-  pub high : (h ≡ be16At body 1) × (h ≢ 0)
-  pub wide : (w ≡ be16At body 3) × (w ≢ 0)
+  pub says : said ≡ saidBy body (cond (eqb (st .said .res) 0) (resolution before) (st .said .res))
+  pub high : said .height ≢ 0
+  pub wide : said .width ≢ 0
   pub scanned : Scanned after
-  pub res : r ≡ cond (eqb (st .res) 0) (resolution before) (st .res)
-  pub found : (st .res ≢ 0) ⊎ (resolves main r ≡ true)
+  pub found : (st .said .res ≢ 0) ⊎ (resolves main (said .res) ≡ true)
   pub ends : e ≡ st .at + (length (piecesOf before) + (fill + 2 + (length body + 2) + (length (piecesOf after) + (last + 2))))
   pub inside : e ≤ length s
 
-module _ (s : List ℕ) (o : Octets s) (main e w h r : ℕ) where
+module _ (s : List ℕ) (o : Octets s) (main e : ℕ) (said : Said) where
   -- one piece in front
   head-more : (st t : Reach) (p : Piece) → Over s st t p → isScan p ≡ false
-      → ((ps : List Piece) → cond (eqb (t .res) 0) (resolution ps) (t .res) ≡ cond (eqb (st .res) 0) (resolution (p ∷ ps)) (st .res))
-      → (Head s main t e w h r → (st .res ≢ 0) ⊎ (resolves main r ≡ true))
-      → Head s main t e w h r → Head s main st e w h r
+      → ((ps : List Piece) → cond (eqb (t .said .res) 0) (resolution ps) (t .said .res) ≡ cond (eqb (st .said .res) 0) (resolution (p ∷ ps)) (st .said .res))
+      → (Head s main t e said → (st .said .res ≢ 0) ⊎ (resolves main (said .res) ≡ true))
+      → Head s main t e said → Head s main st e said
   unfolding Each piecesOf
   head-more st t p y ns rs fd k =
       let a = y .at in
@@ -81,10 +82,10 @@ module _ (s : List ℕ) (o : Octets s) (main e w h r : ℕ) where
         frame = k .frame;
         long = k .long;
         fits = k .fits;
+        says = k .says ∙ ap (saidBy (k .body)) (rs (k .before));
         high = k .high;
         wide = k .wide;
         scanned = k .scanned;
-        res = k .res ∙ rs (k .before);
         found = fd k;
         ends = omega arith;
         inside = k .inside;
@@ -93,13 +94,13 @@ module _ (s : List ℕ) (o : Octets s) (main e w h r : ℕ) where
   at-of : {t u : Reach} → t ≡ u → u .at ≡ t .at
   at-of q = ap (λ (z : Reach). z .at) (sym q)
 
-  res-of : {t u : Reach} → t ≡ u → u .res ≡ t .res
-  res-of q = ap (λ (z : Reach). z .res) (sym q)
+  res-of : {t u : Reach} → t ≡ u → u .said .res ≡ t .said .res
+  res-of q = ap (λ (z : Reach). z .said .res) (sym q)
 
   -- the frame itself
-  head-frame : (st t : Reach) (c n next : ℕ) → markerOf s (st .at) ≡ Code c n → classOf c ≡ Frame → st .scanned ≡ false → st .res ≢ 0
-      → segOf s n 8 ≡ Body next → be16At s (n + 3) ≢ 0 → be16At s (n + 5) ≢ 0 → framed st next (be16At s (n + 5)) (be16At s (n + 3)) ≡ t
-      → Tail s t e w h r → Head s main st e w h r
+  head-frame : (st t : Reach) (c n next : ℕ) → markerOf s (st .at) ≡ Code c n → classOf c ≡ Frame → st .scanned ≡ false → st .said .res ≢ 0
+      → segOf s n 8 ≡ Body next → be16At s (n + 3) ≢ 0 → be16At s (n + 5) ≢ 0 → framed st next (frameSaid s st n) ≡ t
+      → Tail s t e said → Head s main st e said
   unfolding Each piecesOf resolution
   head-frame st t c n next m k ns d g nh nw q y =
       let x = stood s o (st .at) c n 8 next (omega arith) m g in
@@ -108,14 +109,8 @@ module _ (s : List ℕ) (o : Octets s) (main e w h r : ℕ) where
       let en = x .enough in
       let ends = x .ends in
       let z = y .ends in
-      let h1 : be16At s (n + 3) ≡ be16At (x .body) 1 =
-      number-is s main st (x .fill) c (x .body) (drop next s) (x .other) (x .stands) 1 (n + 3) (let u : st .at + x .fill + 2 + 2 + 1 ≡ n + 3 = omega arith in u) (omega arith) in
-      let w1 : be16At s (n + 5) ≡ be16At (x .body) 3 =
-      number-is s main st (x .fill) c (x .body) (drop next s) (x .other) (x .stands) 3 (n + 5) (let u : st .at + x .fill + 2 + 2 + 3 ≡ n + 5 = omega arith in u) (omega arith) in
-      let th : h ≡ be16At s (n + 3) = sym (y .height) ∙ ap (λ (v : Reach). v .height) (sym q) in
-      let tw : w ≡ be16At s (n + 5) = sym (y .width) ∙ ap (λ (v : Reach). v .width) (sym q) in
+      let ty : said ≡ frameSaid s st n = sym (y .says) ∙ ap (λ (v : Reach). v .said) (sym q) in
       let ts : t .scanned ≡ false = ap (λ (v : Reach). v .scanned) (sym q) ∙ ns in
-      let tr : st .res ≡ r = sym (res-of q) ∙ y .res in
       record {
         before = [];
         fill = x .fill;
@@ -129,45 +124,47 @@ module _ (s : List ℕ) (o : Octets s) (main e w h r : ℕ) where
         frame = k;
         long = en;
         fits = x .fits;
-        high = (th ∙ h1, λ v. nh (sym th ∙ v));
-        wide = (tw ∙ w1, λ v. nw (sym tw ∙ v));
+        says =
+            ty ∙ ap (frameSaid s st) b ∙ frame-says s main st (x .fill) c (x .body) (drop next s) (x .other) (x .stands) en
+            ∙ ap (saidBy (x .body)) (sym (ap (λ (v : Bool). cond v 0 (st .said .res)) (ne-eqb (st .said .res) 0 d)));
+        high = λ v. nh (sym (ap (λ (v : Said). v .height) ty) ∙ v);
+        wide = λ v. nw (sym (ap (λ (v : Said). v .width) ty) ∙ v);
         scanned = ⊎-elim (λ (v : t .scanned ≡ true). absurd (false≢true (sym ts ∙ v))) (λ (v : Scanned (y .after)). v) (y .scanned);
-        res = sym tr ∙ sym (ap (λ (v : Bool). cond v 0 (st .res)) (ne-eqb (st .res) 0 d));
         found = inl d;
         ends = omega arith;
         inside = y .inside;
       }
 
-  found-same : (st t : Reach) → t .res ≡ st .res → Head s main t e w h r → (st .res ≢ 0) ⊎ (resolves main r ≡ true)
-  found-same st t q k = ⊎-map (λ (d : t .res ≢ 0) z. d (q ∙ z)) (λ (v : resolves main r ≡ true). v) (k .found)
+  found-same : (st t : Reach) → t .said .res ≡ st .said .res → Head s main t e said → (st .said .res ≢ 0) ⊎ (resolves main (said .res) ≡ true)
+  found-same st t q k = ⊎-map (λ (d : t .said .res ≢ 0) z. d (q ∙ z)) (λ (v : resolves main (said .res) ≡ true). v) (k .found)
 
   head-tag : (st t : Reach) (c n next v : ℕ) (x : Stood s (st .at) c n 2 next) → classOf c ≡ Segment → tagOf s st c n ≡ Gives v → resolves main v ≡ true
-      → moved st next v ≡ t → Head s main t e w h r → Head s main st e w h r
+      → moved st next v ≡ t → Head s main t e said → Head s main st e said
   unfolding octetsOf Good isScan resolution
   head-tag st t c n next v x k gv ok q y =
       let g = gives-test s main st c n next x v gv in
-      let b = says-and (says-eq (st .res) 0) (says-true (tagged c (x .body))) .told (g .0) in
+      let b = says-and (says-eq (st .said .res) 0) (says-true (tagged c (x .body))) .told (g .0) in
       let vb : v ≡ be16At (x .body) 8 = g .1 in
       let nz = resolves-nonzero s main v ok in
-      let tr : t .res ≡ v = res-of q in
+      let tr : t .said .res ≡ v = res-of q in
       head-more st t (segment (x .fill) c (x .body)) (segment-over s st t c n next x k (at-of q)) refl
       (λ ps.
       ap (λ (m : ℕ). cond (eqb m 0) (resolution ps) m) tr
       ∙ ap (λ (z : Bool). cond z (resolution ps) v) (ne-eqb v 0 nz)
       ∙ vb
       ∙ sym
-      (ap (λ (z : Bool). cond z (cond (tagged c (x .body)) (be16At (x .body) 8) (resolution ps)) (st .res)) (eq-eqb (st .res) 0 (b .0))
+      (ap (λ (z : Bool). cond z (cond (tagged c (x .body)) (be16At (x .body) 8) (resolution ps)) (st .said .res)) (eq-eqb (st .said .res) 0 (b .0))
       ∙ ap (λ (z : Bool). cond z (be16At (x .body) 8) (resolution ps)) (b .1)))
       (λ z.
-      let rv : r ≡ v = z .res ∙ ap (λ (m : ℕ). cond (eqb m 0) (resolution (z .before)) m) tr ∙ ap (λ (u : Bool). cond u (resolution (z .before)) v) (ne-eqb v 0 nz) in
+      let rv : said .res ≡ v = ap (λ (x : Said). x .res) (z .says) ∙ ap (λ (m : ℕ). cond (eqb m 0) (resolution (z .before)) m) tr ∙ ap (λ (u : Bool). cond u (resolution (z .before)) v) (ne-eqb v 0 nz) in
       inr (ap (resolves main) rv ∙ ok))
       y
 
   head-onward : (st t : Reach) → st .framed ≡ false → st .scanned ≡ false → Onward s main st t
-      → (t .framed ≡ false → t .scanned ≡ false → Head s main t e w h r) → (t .framed ≡ true → t .res ≢ 0 → Tail s t e w h r) → Head s main st e w h r
+      → (t .framed ≡ false → t .scanned ≡ false → Head s main t e said) → (t .framed ≡ true → t .said .res ≢ 0 → Tail s t e said) → Head s main st e said
   unfolding octetsOf Good isScan resolution
   head-onward st t f ns (by-alone c n m k q) go frame =
-      let tr : t .res ≡ st .res = res-of q in
+      let tr : t .said .res ≡ st .said .res = res-of q in
       let x = marker-back s (st .at) c n m in
       head-more st t (alone (x .fill)) (alone-over s st t c n x k (at-of q)) refl
       (λ ps. ap (λ (m : ℕ). cond (eqb m 0) (resolution ps) m) tr) (found-same st t tr)
@@ -177,10 +174,10 @@ module _ (s : List ℕ) (o : Octets s) (main e w h r : ℕ) where
   head-onward st t f ns (by-scan c n next p m k fr g fo q) go frame = absurd (false≢true (sym f ∙ fr))
   head-onward st t f ns (by-plain c n next m k g pl q) go frame =
       let x = stood s o (st .at) c n 2 next (omega arith) m g in
-      let tr : t .res ≡ st .res = res-of q in
+      let tr : t .said .res ≡ st .said .res = res-of q in
       let pt = plain-test s main st c n next x pl in
       head-more st t (segment (x .fill) c (x .body)) (segment-over s st t c n next x k (at-of q)) refl
-      (λ ps. ap (λ (m : ℕ). cond (eqb m 0) (resolution ps) m) tr ∙ res-plain s main (st .res) (x .fill) c (x .body) ps pt)
+      (λ ps. ap (λ (m : ℕ). cond (eqb m 0) (resolution ps) m) tr ∙ res-plain s main (st .said .res) (x .fill) c (x .body) ps pt)
       (found-same st t tr)
       (go (ap (λ (v : Reach). v .framed) (sym q) ∙ f) (ap (λ (v : Reach). v .scanned) (sym q) ∙ ns))
   head-onward st t f ns (by-tag c n next v m k g gv ok q) go frame =
@@ -188,22 +185,22 @@ module _ (s : List ℕ) (o : Octets s) (main e w h r : ℕ) where
       head-tag st t c n next v x k gv ok q
       (go (ap (λ (v : Reach). v .framed) (sym q) ∙ f) (ap (λ (v : Reach). v .scanned) (sym q) ∙ ns))
 
-  head-back : {st : Reach} {x : Walk} → Walks s main st x → x ≡ Ends e w h r → st .framed ≡ false → st .scanned ≡ false → Head s main st e w h r
+  head-back : {st : Reach} {x : Walk} → Walks s main st x → x ≡ Ends e said → st .framed ≡ false → st .scanned ≡ false → Head s main st e said
   head-back {st} {x} (stops q) z f ns =
-      let k = turn-told s main st .1 e w h r (q ∙ ap Stop z) in absurd (false≢true (sym ns ∙ k .scanned))
+      let k = turn-told s main st .1 e said (q ∙ ap Stop z) in absurd (false≢true (sym ns ∙ k .scanned))
   head-back {st} {x} (goes {t = t} q more) z f ns =
-      head-onward st t f ns (turn-told s main st .0 t q) (λ tf ts. head-back more z tf ts) (λ tf tr. tail-back s o main e w h r more z tf tr)
+      head-onward st t f ns (turn-told s main st .0 t q) (λ tf ts. head-back more z tf ts) (λ tf tr. tail-back s o main e said more z tf tr)
 
 -- ---- a whole layer
 
-pub record Walked (s : List ℕ) (start main e w h r : ℕ) : Type 0 where
-  pub layer : Layer main (take (e - start) (drop start s)) w h r
+pub record Walked (s : List ℕ) (start main e : ℕ) (said : Said) : Type 0 where
+  pub layer : Layer main (take (e - start) (drop start s)) said
   pub split : drop start s ≡ take (e - start) (drop start s) ++ drop e s
   pub after : start < e
   pub inside : e ≤ length s
 
-module _ (s : List ℕ) (o : Octets s) (start main e w h r : ℕ) where
-  walked : start + 2 ≤ length s → getD s start 0 ≡ 0xFF → getD s (start + 1) 0 ≡ 0xD8 → Head s main (begun (start + 2)) e w h r → Walked s start main e w h r
+module _ (s : List ℕ) (o : Octets s) (start main e : ℕ) (said : Said) where
+  walked : start + 2 ≤ length s → getD s start 0 ≡ 0xFF → getD s (start + 1) 0 ≡ 0xD8 → Head s main (begun (start + 2)) e said → Walked s start main e said
   walked l a b k =
       let lay : List ℕ = 0xFF ∷ 0xD8 ∷ piecesOf (k .before) ++ (lengthed (k .fill) (k .code) (k .body) ++ (piecesOf (k .after) ++ marker (k .last) 0xD9)) in
       let l1 = length-append (piecesOf (k .before)) (lengthed (k .fill) (k .code) (k .body) ++ (piecesOf (k .after) ++ marker (k .last) 0xD9)) in
@@ -233,9 +230,9 @@ module _ (s : List ℕ) (o : Octets s) (start main e w h r : ℕ) where
               frame = k .frame;
               long = k .long;
               fits = k .fits;
+              says = k .says;
               high = k .high;
               wide = k .wide;
-              tag = k .res;
               listed = rr .0;
               divides = rr .1;
               scanned = k .scanned;
@@ -245,19 +242,19 @@ module _ (s : List ℕ) (o : Octets s) (start main e w h r : ℕ) where
         inside = k .inside;
       }
     where
-      resolved : Head s main (begun (start + 2)) e w h r → Listed r × (r ∣ main)
+      resolved : Head s main (begun (start + 2)) e said → Listed (said .res) × (said .res ∣ main)
       resolved k =
           ⊎-elim (λ (d : 0 ≢ 0). absurd (d refl))
-          (λ (v : resolves main r ≡ true). says-resolves main r .told v)
+          (λ (v : resolves main (said .res) ≡ true). says-resolves main (said .res) .told v)
           (k .found)
 
-  pub walk-layer : walkOf s start main ≡ Ends e w h r → Walked s start main e w h r
+  pub walk-layer : walkOf s start main ≡ Ends e said → Walked s start main e said
   unfolding walkOf
   walk-layer =
-      cond-with (λ x. x ≡ Ends e w h r → Walked s start main e w h r) (ltb (length s) (start + 2)) (λ t q. clash cc) λ l.
-      cond-with (λ x. x ≡ Ends e w h r → Walked s start main e w h r) (eqb (getD s start 0) 0xFF && eqb (getD s (start + 1) 0) 0xD8)
+      cond-with (λ x. x ≡ Ends e said → Walked s start main e said) (ltb (length s) (start + 2)) (λ t q. clash cc) λ l.
+      cond-with (λ x. x ≡ Ends e said → Walked s start main e said) (eqb (getD s start 0) 0xFF && eqb (getD s (start + 1) 0) 0xD8)
       (λ t q.
       let k = says-and (says-eq (getD s start 0) 0xFF) (says-eq (getD s (start + 1) 0) 0xD8) .told t in
       walked (ltb-false (length s) (start + 2) l) (k .0) (k .1)
-      (head-back s o main e w h r (walks-from s main (length s) (begun (start + 2)) (omega arith)) q refl refl))
+      (head-back s o main e said (walks-from s main (length s) (begun (start + 2)) (omega arith)) q refl refl))
       (λ t q. clash cc)

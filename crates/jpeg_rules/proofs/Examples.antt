@@ -5,6 +5,7 @@ use mathlib.Core.Path.{_≡_, refl}
 use mathlib.Core.List.{List, [], _∷_, _++_}
 use Rattle.octets.specs.Octets.{be16At, begins, standsAt}
 use Rattle.jpeg_rules.specs.declared.Fault.the-variants.{Short, BadRes, BadLayer}
+use Rattle.jpeg_rules.specs.declared.Said.{Said}
 use Rattle.jpeg_rules.specs.declared.Walk.the-variants.{Ends, Refused}
 use Rattle.jpeg_rules.specs.Marker.{classOf, markerOf}
 use Rattle.jpeg_rules.specs.Walk.{segOf, scanOf, tagOf, frameBodyOf, frameOf, scanStepOf, segmentOf, endOf, turnOf, walkOf}
@@ -32,8 +33,12 @@ scan = 0xFF ∷ 0xDA ∷ 0x00 ∷ 0x03 ∷ 0x00 ∷ 0x12 ∷ 0xFF ∷ 0x00 ∷ 0
 unfoldable pub alone : List ℕ
 alone = 0xFF ∷ 0x01 ∷ []
 
+-- what that frame and that segment say
+abbrev pub small : Said
+small = record { width = 8; height = 16; res = 200 }
+
 -- two scans, a marker that stands alone, and octets after the layer, FF D9 FF D9 among them
-pub walk-ends : walkOf (opening ++ tag200 ++ alone ++ frame ++ scan ++ tag300 ++ scan ++ closing ++ closing ++ closing) 0 400 ≡ Ends 68 8 16 200
+pub walk-ends : walkOf (opening ++ tag200 ++ alone ++ frame ++ scan ++ tag300 ++ scan ++ closing ++ closing ++ closing) 0 400 ≡ Ends 68 small
 unfolding walkOf turnOf markerOf classOf segOf scanOf tagOf frameOf frameBodyOf scanStepOf segmentOf endOf standsAt begins be16At opening closing tag200 tag300 frame scan alone
 walk-ends = refl
 
@@ -65,7 +70,7 @@ unfoldable pub fill : List ℕ
 fill = 0xFF ∷ 0xFF ∷ []
 
 -- before each marker but the first, a restart marker in scan data too: the end is so much later, and nothing else changes
-pub walk-filled : walkOf (opening ++ fill ++ tag200 ++ fill ++ frame ++ fill ++ scan ++ fill ++ (0xFF ∷ 0xD3 ∷ 0x12 ∷ []) ++ fill ++ closing ++ closing) 0 400 ≡ Ends 53 8 16 200
+pub walk-filled : walkOf (opening ++ fill ++ tag200 ++ fill ++ frame ++ fill ++ scan ++ fill ++ (0xFF ∷ 0xD3 ∷ 0x12 ∷ []) ++ fill ++ closing ++ closing) 0 400 ≡ Ends 53 small
 unfolding walkOf turnOf markerOf classOf segOf scanOf tagOf frameOf frameBodyOf scanStepOf segmentOf endOf standsAt begins be16At opening closing tag200 frame scan fill
 walk-filled = refl
 

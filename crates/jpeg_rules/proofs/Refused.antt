@@ -115,8 +115,8 @@ module _ (s : List ℕ) (o : Octets s) (main : ℕ) (st : Reach) (q : Bool) wher
     unfolding frameOf frameBodyOf
     frame-blames w =
         cond-with Blames (st .framed) (λ e. refused-blames _ (by-code (second-frame (mk .fill) c (drop n s) w e))) λ nf.
-        cond-with Blames (eqb (st .res) 0) (λ e. refused-blames _ (by-code (no-resolution (mk .fill) c (drop n s) w nf (eqb-true (st .res) 0 e)))) λ nr.
-        let due : FrameDue k c = record { code = w; first = nf; resolved = eqb-false (st .res) 0 nr } in
+        cond-with Blames (eqb (st .said .res) 0) (λ e. refused-blames _ (by-code (no-resolution (mk .fill) c (drop n s) w nf (eqb-true (st .said .res) 0 e)))) λ nr.
+        let due : FrameDue k c = record { code = w; first = nf; resolved = eqb-false (st .said .res) 0 nr } in
         body-blames 8 (λ (next : ℕ). frameBodyOf s st n next) (of-frame due) λ next g.
         let x = stood s o (st .at) c n 8 next (omega arith) m g in
         let en = x .enough in
@@ -161,11 +161,11 @@ module _ (s : List ℕ) (o : Octets s) (main : ℕ) (st : Reach) (q : Bool) wher
     segment-blames w =
         body-blames 2
         (λ (next : ℕ).
-        onTag (tagOf s st c n) (Go (moved st next (st .res))) (λ (r : ℕ). cond (resolves main r) (Go (moved st next r)) (refused (Fault.BadRes (n + 10)))))
+        onTag (tagOf s st c n) (Go (moved st next (st .said .res))) (λ (r : ℕ). cond (resolves main r) (Go (moved st next r)) (refused (Fault.BadRes (n + 10)))))
         (of-segment w) λ next g. by next g (tagOf s st c n) refl
       where
         by : (next : ℕ) → segOf s n 2 ≡ Body next → (x : Tag) → tagOf s st c n ≡ x
-            → Blames (onTag x (Go (moved st next (st .res))) (λ (r : ℕ). cond (resolves main r) (Go (moved st next r)) (refused (Fault.BadRes (n + 10)))))
+            → Blames (onTag x (Go (moved st next (st .said .res))) (λ (r : ℕ). cond (resolves main r) (Go (moved st next r)) (refused (Fault.BadRes (n + 10)))))
         by next g Plain e = go-blames _
         by next g (Gives v) e =
             cond-with Blames (resolves main v) (λ t. go-blames _)
@@ -269,14 +269,14 @@ module _ (s : List ℕ) (o : Octets s) (main : ℕ) (f : Fault) where
   onward st t q (by-scan c n next p m w fr g fo e) go =
       let x = stood s o (st .at) c n 2 next (omega arith) m g in
       on-piece st t q true (scan (x .fill) (x .body) (take (p - next) (drop next s))) (scan-over s st t c n next x p w fo (at-of e)) fr
-      (known-of true e ∙ ap (λ (v : Bool). record { framed = v; scanned = true; res = st .res; inScan = true }) (sym fr))
+      (known-of true e ∙ ap (λ (v : Bool). record { framed = v; scanned = true; res = st .said .res; inScan = true }) (sym fr))
       (go true (subst (λ (j : ℕ). Next true (drop j s)) (sym (at-of e)) (next-marker next p fo)))
   onward st t q (by-plain c n next m w g pl e) go =
       let x = stood s o (st .at) c n 2 next (omega arith) m g in
       let pt = plain-test s main st c n next x pl in
       on-piece st t q false (segment (x .fill) c (x .body)) (segment-over s st t c n next x w (at-of e)) (λ y. absurd (false≢true (sym pt ∙ y)))
       (known-of false e
-      ∙ ap (λ (v : Bool). record { framed = st .framed; scanned = st .scanned; res = cond v (resOf (x .body)) (st .res); inScan = false }) (sym pt))
+      ∙ ap (λ (v : Bool). record { framed = st .framed; scanned = st .scanned; res = cond v (resOf (x .body)) (st .said .res); inScan = false }) (sym pt))
       (go false any)
   onward st t q (by-tag c n next v m w g gv ok e) go =
       let x = stood s o (st .at) c n 2 next (omega arith) m g in
@@ -285,7 +285,7 @@ module _ (s : List ℕ) (o : Octets s) (main : ℕ) (f : Fault) where
       (λ y. says-resolves main (resOf (x .body)) .told (ap (resolves main) (sym (gt .1)) ∙ ok))
       (known-of false e
       ∙ ap (λ (u : ℕ). record { framed = st .framed; scanned = st .scanned; res = u; inScan = false }) (gt .1)
-      ∙ ap (λ (b : Bool). record { framed = st .framed; scanned = st .scanned; res = cond b (resOf (x .body)) (st .res); inScan = false }) (sym (gt .0)))
+      ∙ ap (λ (b : Bool). record { framed = st .framed; scanned = st .scanned; res = cond b (resOf (x .body)) (st .said .res); inScan = false }) (sym (gt .0)))
       (go false any)
 
   walk-blames : {st : Reach} {w : Walk} → Walks s main st w → w ≡ Walk.Refused f → (q : Bool) → Next q (drop (st .at) s) → From st q

@@ -22,7 +22,7 @@ use Rattle.jpeg_rules.specs.declared.Reach.{Reach}
 use Rattle.jpeg_rules.specs.declared.Walk.{Walk}
 use Rattle.jpeg_rules.specs.declared.Turn.the-variants.{Go}
 use Rattle.jpeg_rules.specs.Marker.{classOf, markerOf}
-use Rattle.jpeg_rules.specs.Grammar.{marker, Piece, alone, segment, scan, lengthed, octetsOf, Good, tagged}
+use Rattle.jpeg_rules.specs.Grammar.{marker, Piece, alone, segment, scan, lengthed, octetsOf, Good, tagged, saidBy}
 use Rattle.jpeg_rules.specs.Walk.{segOf, resolves, tagOf, framed, passed, moved, refused, onBody, onTag, frameBodyOf, frameOf, scanStepOf, segmentOf, endOf, markOf, onMarker, turnOf, begun, walkOf}
 use Rattle.jpeg_rules.specs.Faults.{Known, heightOf, widthOf, resOf, gives, FrameDue, May, past, framing, Next, any, no-data, Least, of-segment, of-scan, of-frame, BadLength, cut-length, small, cut-body, BadMarker, cut, cut-run, no-marker, wrong-code, second-frame, no-resolution, no-frame, no-scan, bad-length, no-height, no-width, bad-resolution, endless, BadFrom, here, past-piece, past-frame, BadLayer, cut-start, no-start, started}
 use Rattle.jpeg_rules.proofs.Leaves.{class-other, two-there}
@@ -34,7 +34,7 @@ use Rattle.jpeg_rules.proofs.There.{length-lengthed, lengthed-opens, pi
 
 -- what a walk's state says
 abbrev pub knownOf : Reach → Bool → Known
-knownOf st o = record { framed = st .framed; scanned = st .scanned; res = st .res; inScan = o }
+knownOf st o = record { framed = st .framed; scanned = st .scanned; res = st .said .res; inScan = o }
 
 -- ---- a length
 
@@ -69,13 +69,13 @@ module _ (s : List ℕ) (main : ℕ) (st : Reach) (o : Bool) where
       ∙ ap
       (λ (g : Seg).
       onBody g (λ (next : ℕ).
-      onTag (tagOf s st c (st .at + i + 2)) (Go (moved st next (st .res))) (λ (v : ℕ).
+      onTag (tagOf s st c (st .at + i + 2)) (Go (moved st next (st .said .res))) (λ (v : ℕ).
       cond (resolves main v) (Go (moved st next v)) (refused (Fault.BadRes (st .at + i + 2 + 10))))))
       q
   bodied i {c = c} r f e (of-scan w fr) q = turn-class s main st i c r Scan (class-other c Scan w (λ z. clash cc)) e w ∙ simp (fr, q)
   bodied i {c = c} r f e (of-frame w) q =
       turn-class s main st i c r Frame (class-other c Frame (w .code) (λ z. clash cc)) e (w .code)
-      ∙ simp (w .first, ne-eqb (st .res) 0 (w .resolved), q)
+      ∙ simp (w .first, ne-eqb (st .said .res) 0 (w .resolved), q)
 
   -- a fault at a place that is counted in another way
   placed : (F : ℕ → Fault) (i j : ℕ) → i ≡ j → turnOf s main st ≡ refused (F i) → turnOf s main st ≡ refused (F j)
@@ -96,7 +96,7 @@ module _ (s : List ℕ) (main : ℕ) (st : Reach) (o : Bool) where
     unfolding markOf frameOf
     frame-opens =
         turn-class s main st i c (octets16 (length body + 2) ++ (body ++ r)) Frame frame-other (opened s main st i c body r frame-other e) (w .code)
-        ∙ simp (w .first, ne-eqb (st .res) 0 (w .resolved), seg-is s main st i c body r frame-other e 8 lo)
+        ∙ simp (w .first, ne-eqb (st .said .res) 0 (w .resolved), seg-is s main st i c body r frame-other e 8 lo)
 
   -- a marker by its class alone
   refused-class : (i c : ℕ) (r : List ℕ) (x : Class) → x ≢ Wrong → drop (st .at) s ≡ marker i c ++ r → classOf c ≡ x
@@ -125,7 +125,7 @@ module _ (s : List ℕ) (main : ℕ) (st : Reach) (o : Bool) where
   turn-bad e (no-marker x y r d) = turn-stray x y r e d
   turn-bad e (wrong-code i c r d w) = turn-class s main st i c r Wrong d e w
   turn-bad e (second-frame i c r w fr) = refused-class i c r Frame (λ z. clash cc) e w ∙ simp fr
-  turn-bad e (no-resolution i c r w fr z) = refused-class i c r Frame (λ z. clash cc) e w ∙ simp (fr, eq-eqb (st .res) 0 z)
+  turn-bad e (no-resolution i c r w fr z) = refused-class i c r Frame (λ z. clash cc) e w ∙ simp (fr, eq-eqb (st .said .res) 0 z)
   turn-bad e (no-frame i c r w fr) = refused-class i c r Scan (λ z. clash cc) e w ∙ simp fr
   turn-bad e (no-scan i c r w sc) = refused-class i c r End (λ z. clash cc) e w ∙ simp sc
   turn-bad e (bad-length {f = f} i c least r w b) =
@@ -143,7 +143,7 @@ module _ (s : List ℕ) (main : ℕ) (st : Reach) (o : Bool) where
       (frame-opens i c body r e w (lo .1)
       ∙ simp (height-is i c body r e w (lo .1), ne-eqb (heightOf body) 0 nz, width-is i c body r e w (lo .1), eq-eqb (widthOf body) 0 z) refl)
   turn-bad e (bad-resolution i c body r g t n) =
-      let u = says-and (says-eq (st .res) 0) (says-true (tagged c body)) .told t in
+      let u = says-and (says-eq (st .said .res) 0) (says-true (tagged c body)) .told t in
       let long = tagged-long s main c body (u .1) in
       let other = class-other c Segment (g .0) (λ z. clash cc) in
       let v : be16At s (st .at + i + 2 + 10) ≡ resOf body = number-is s main st i c body r other e 8 (st .at + i + 2 + 10) (omega arith) (omega arith) in
@@ -186,22 +186,22 @@ module _ (s : List ℕ) (main : ℕ) (st : Reach) (o : Bool) (w : Walk) where
   piece-on (alone i) l g m e op go =
       let y = length-marker i 0x01 in
       goes (turn-alone s main st i l e)
-      (go (moved st (st .at + i + 2) (st .res)) false refl (omega arith) (begins-there s (st .at) i 0x01 l (λ z. omega arith) e .rest))
+      (go (moved st (st .at + i + 2) (st .said .res)) false refl (omega arith) (begins-there s (st .at) i 0x01 l (λ z. omega arith) e .rest))
   piece-on (segment i c body) l g m e op go =
       let y = length-lengthed i c body in
       let other = class-other c Segment (g .0) (λ z. clash cc) in
       let z : st .at + i + 2 + (length body + 2) ≡ st .at + length (lengthed i c body) = omega arith in
-      let on : (v : ℕ) → v ≡ cond (gives (knownOf st o) c body) (resOf body) (st .res) → Walks s main (moved st (st .at + i + 2 + (length body + 2)) v) w =
+      let on : (v : ℕ) → v ≡ cond (gives (knownOf st o) c body) (resOf body) (st .said .res) → Walks s main (moved st (st .at + i + 2 + (length body + 2)) v) w =
       λ v q.
       go (moved st (st .at + i + 2 + (length body + 2)) v) false
       (ap (λ (r : ℕ). record { framed = st .framed; scanned = st .scanned; res = r; inScan = false }) q) z (rest-at s main st i c body l other e) in
       ⊎-elim
       (λ (t : gives (knownOf st o) c body ≡ true).
-      let u = says-and (says-eq (st .res) 0) (says-true (tagged c body)) .told t in
+      let u = says-and (says-eq (st .said .res) 0) (says-true (tagged c body)) .told t in
       goes (turn-tag s main st i c body l other e (g .0) t (tagged-long s main c body (u .1)) (says-resolves main (resOf body) .shown (m t)))
-      (on (resOf body) (ap (λ (b : Bool). cond b (resOf body) (st .res)) (sym t))))
+      (on (resOf body) (ap (λ (b : Bool). cond b (resOf body) (st .said .res)) (sym t))))
       (λ (t : gives (knownOf st o) c body ≡ false).
-      goes (turn-plain s main st i c body l other e (g .0) t) (on (st .res) (ap (λ (b : Bool). cond b (resOf body) (st .res)) (sym t))))
+      goes (turn-plain s main st i c body l other e (g .0) t) (on (st .said .res) (ap (λ (b : Bool). cond b (resOf body) (st .said .res)) (sym t))))
       (bool-else (gives (knownOf st o) c body))
   piece-on (scan i header scanned) l g m e op go =
       let t = turn-scan s main st i header scanned l (e ∙ append-assoc (lengthed i 0xDA header) scanned l) (g .1) (op refl) m in
@@ -209,7 +209,7 @@ module _ (s : List ℕ) (main : ℕ) (st : Reach) (o : Bool) (w : Walk) where
       let b = length-lengthed i 0xDA header in
       goes (t .0)
       (go (passed st (st .at + i + 2 + (length header + 2) + length scanned)) true
-      (ap (λ (b : Bool). record { framed = b; scanned = true; res = st .res; inScan = true }) (sym m)) (omega arith) (t .1))
+      (ap (λ (b : Bool). record { framed = b; scanned = true; res = st .said .res; inScan = true }) (sym m)) (omega arith) (t .1))
 
 module _ (s : List ℕ) (main : ℕ) where
   walk-bad : {j : Known} {p : ℕ} {l : List ℕ} {f : Fault} → BadFrom main j p l f → (st : Reach) (o : Bool) → knownOf st o ≡ j → st .at ≡ p
@@ -227,7 +227,7 @@ module _ (s : List ℕ) (main : ℕ) where
       let other = class-other c Frame (w .code) (λ z. clash cc) in
       let v : FrameDue (knownOf st o) c = subst (λ (i : Known). FrameDue i c) (sym e) w in
       goes (turn-frame s main st i c body l other d (v .code) (v .first) (v .resolved) (lo .1) hi wi)
-      (walk-bad b (framed st (st .at + i + 2 + (length body + 2)) (widthOf body) (heightOf body)) false (ap framing e) (omega arith)
+      (walk-bad b (framed st (st .at + i + 2 + (length body + 2)) (saidBy body (st .said .res))) false (ap framing e) (omega arith)
       (rest-at s main st i c body l other d))
 
   -- ---- the layer

@@ -16,6 +16,7 @@ use Rattle.jpeg_rules.specs.declared.Class.the-variants.{Alone, Scan, Se
 use Rattle.jpeg_rules.specs.declared.Found.the-variants.{At}
 use Rattle.jpeg_rules.specs.declared.Seg.the-variants.{Body}
 use Rattle.jpeg_rules.specs.declared.Tag.the-variants.{Gives, Plain}
+use Rattle.jpeg_rules.specs.declared.Said.{Said}
 use Rattle.jpeg_rules.specs.declared.Reach.{Reach}
 use Rattle.jpeg_rules.specs.declared.Turn.the-variants.{Stop}
 use Rattle.jpeg_rules.specs.declared.Walk.{Walk}
@@ -129,50 +130,48 @@ module _ (s : List ℕ) (main : ℕ) (st : Reach) (c n next : ℕ) (x : Stood s 
   tag-at : tagOf s st c n ≡ tagOf s st c behind
   tag-at = ap (tagOf s st c) (x .after)
 
-  tag-by : (b : Bool) → eqb (st .res) 0 && tagged c (x .body) ≡ b → tagOf s st c n ≡ cond b (Gives (be16At s (behind + 10))) Plain
+  tag-by : (b : Bool) → eqb (st .said .res) 0 && tagged c (x .body) ≡ b → tagOf s st c n ≡ cond b (Gives (be16At s (behind + 10))) Plain
   tag-by b t =
       tag-at ∙ tag-of s main st (x .fill) c (x .body) (drop next s) (x .other) (x .stands)
       ∙ ap (λ (b : Bool). cond b (Gives (be16At s (behind + 10))) Plain) t
 
   -- one that gives none, and one that does
-  pub plain-test : tagOf s st c n ≡ Plain → eqb (st .res) 0 && tagged c (x .body) ≡ false
+  pub plain-test : tagOf s st c n ≡ Plain → eqb (st .said .res) 0 && tagged c (x .body) ≡ false
   plain-test q =
-      says-fails (says-true (eqb (st .res) 0 && tagged c (x .body)))
+      says-fails (says-true (eqb (st .said .res) 0 && tagged c (x .body)))
       (λ t. let z : Gives (be16At s (behind + 10)) ≡ Plain = sym (tag-by true t) ∙ q in clash cc)
 
-  pub gives-test : (v : ℕ) → tagOf s st c n ≡ Gives v → (eqb (st .res) 0 && tagged c (x .body) ≡ true) × (v ≡ be16At (x .body) 8)
+  pub gives-test : (v : ℕ) → tagOf s st c n ≡ Gives v → (eqb (st .said .res) 0 && tagged c (x .body) ≡ true) × (v ≡ be16At (x .body) 8)
   gives-test v q =
       ⊎-elim
-      (λ (t : eqb (st .res) 0 && tagged c (x .body) ≡ true).
+      (λ (t : eqb (st .said .res) 0 && tagged c (x .body) ≡ true).
       let z : Gives (be16At s (behind + 10)) ≡ Gives v = sym (tag-by true t) ∙ q in
       let u : be16At s (behind + 10) ≡ v = cc in
-      let b = says-and (says-eq (st .res) 0) (says-true (tagged c (x .body))) .told t in
+      let b = says-and (says-eq (st .said .res) 0) (says-true (tagged c (x .body))) .told t in
       let l = tagged-long s main c (x .body) (b .1) in
       let y : behind + 2 + 8 ≡ behind + 10 = omega arith in
       (t, sym u ∙ number-is s main st (x .fill) c (x .body) (drop next s) (x .other) (x .stands) 8 (behind + 10) y (omega arith)))
-      (λ (t : eqb (st .res) 0 && tagged c (x .body) ≡ false). let z : Plain ≡ Gives v = sym (tag-by false t) ∙ q in clash cc)
-      (bool-else (eqb (st .res) 0 && tagged c (x .body)))
+      (λ (t : eqb (st .said .res) 0 && tagged c (x .body) ≡ false). let z : Plain ≡ Gives v = sym (tag-by false t) ∙ q in clash cc)
+      (bool-else (eqb (st .said .res) 0 && tagged c (x .body)))
 
 -- ---- after the frame
 
-pub record Tail (s : List ℕ) (st : Reach) (e w h r : ℕ) : Type 0 where
+pub record Tail (s : List ℕ) (st : Reach) (e : ℕ) (said : Said) : Type 0 where
   pub after : List Piece
   pub good : Each Good after
   pub last : ℕ
   pub octets : drop (st .at) s ≡ piecesOf after ++ (marker last 0xD9 ++ drop e s)
   pub scanned : (st .scanned ≡ true) ⊎ Scanned after
-  pub width : st .width ≡ w
-  pub height : st .height ≡ h
-  pub res : st .res ≡ r
+  pub says : st .said ≡ said
   pub ends : e ≡ st .at + length (piecesOf after) + last + 2
   pub inside : e ≤ length s
 
 -- one piece in front
-tail-more : (s : List ℕ) (st t : Reach) (e w h r : ℕ) (p : Piece) → Over s st t p
+tail-more : (s : List ℕ) (st t : Reach) (e : ℕ) (said : Said) (p : Piece) → Over s st t p
     → ((t .scanned ≡ true) → (st .scanned ≡ true) ⊎ (isScan p ≡ true))
-    → t .width ≡ st .width → t .height ≡ st .height → t .res ≡ st .res → Tail s t e w h r → Tail s st e w h r
+    → t .said ≡ st .said → Tail s t e said → Tail s st e said
 unfolding Each piecesOf Scanned
-tail-more s st t e w h r p y sc tw th tr k =
+tail-more s st t e said p y sc ts k =
     let a = y .at in
     let l = length-append (octetsOf p) (piecesOf (k .after)) in
     let z = k .ends in
@@ -185,23 +184,21 @@ tail-more s st t e w h r p y sc tw th tr k =
           ∙ sym (append-assoc (octetsOf p) (piecesOf (k .after)) (marker (k .last) 0xD9 ++ drop e s));
       scanned =
           ⊎-elim (λ (u : t .scanned ≡ true). ⊎-map (λ (x : st .scanned ≡ true). x) (λ (x : isScan p ≡ true). inl x) (sc u)) (λ (u : Scanned (k .after)). inr (inr u)) (k .scanned);
-      width = sym tw ∙ k .width;
-      height = sym th ∙ k .height;
-      res = sym tr ∙ k .res;
+      says = sym ts ∙ k .says;
       ends = omega arith;
       inside = k .inside;
     }
 
-tag-gives : (s : List ℕ) (st : Reach) (c n v : ℕ) → tagOf s st c n ≡ Gives v → st .res ≡ 0
+tag-gives : (s : List ℕ) (st : Reach) (c n v : ℕ) → tagOf s st c n ≡ Gives v → st .said .res ≡ 0
 unfolding tagOf
 tag-gives s st c n v =
-    cond-with (λ x. x ≡ Gives v → st .res ≡ 0) (eqb c 0xE1 && eqb (st .res) 0 && leb 12 (be16At s n) && standsAt s (n + 2) g3fax)
+    cond-with (λ x. x ≡ Gives v → st .said .res ≡ 0) (eqb c 0xE1 && eqb (st .said .res) 0 && leb 12 (be16At s n) && standsAt s (n + 2) g3fax)
     (λ t e.
-    says-and (says-and (says-and (says-eq c 0xE1) (says-eq (st .res) 0)) (says-le 12 (be16At s n))) (says-true (standsAt s (n + 2) g3fax)) .told t .0 .0 .1)
+    says-and (says-and (says-and (says-eq c 0xE1) (says-eq (st .said .res) 0)) (says-le 12 (be16At s n))) (says-true (standsAt s (n + 2) g3fax)) .told t .0 .0 .1)
     (λ t e. clash cc)
 
-module _ (s : List ℕ) (o : Octets s) (main e w h r : ℕ) where
-  tail-end : (st : Reach) → Ended s main st e w h r → Tail s st e w h r
+module _ (s : List ℕ) (o : Octets s) (main e : ℕ) (said : Said) where
+  tail-end : (st : Reach) → Ended s main st e said → Tail s st e said
   unfolding Each piecesOf
   tail-end st k =
       let m = marker-back s (st .at) (k .c) e (k .marker) in
@@ -212,9 +209,7 @@ module _ (s : List ℕ) (o : Octets s) (main e w h r : ℕ) where
         last = m .fill;
         octets = m .stands ∙ ap (λ (c : ℕ). marker (m .fill) c ++ drop e s) (end-code (k .c) (k .class));
         scanned = inl (k .scanned);
-        width = k .width;
-        height = k .height;
-        res = k .res;
+        says = k .says;
         ends = omega arith;
         inside = m .inside;
       }
@@ -222,30 +217,28 @@ module _ (s : List ℕ) (o : Octets s) (main e w h r : ℕ) where
   reach-of : {A : Type 0} {t u : Reach} (f : Reach → A) → t ≡ u → f u ≡ f t
   reach-of f q = ap f (sym q)
 
-  tail-onward : (st t : Reach) → st .framed ≡ true → st .res ≢ 0 → Onward s main st t
-      → ((t .framed ≡ true) → (t .res ≢ 0) → Tail s t e w h r) → Tail s st e w h r
+  tail-onward : (st t : Reach) → st .framed ≡ true → st .said .res ≢ 0 → Onward s main st t
+      → ((t .framed ≡ true) → (t .said .res ≢ 0) → Tail s t e said) → Tail s st e said
   unfolding octetsOf Good isScan
   tail-onward st t f d (by-alone c n m k q) go =
       let x = marker-back s (st .at) c n m in
-      tail-more s st t e w h r (alone (x .fill)) (alone-over s st t c n x k (reach-of (λ (z : Reach). z .at) q))
-      (λ y. inl (reach-of (λ (z : Reach). z .scanned) (sym q) ∙ y)) (reach-of (λ (z : Reach). z .width) q) (reach-of (λ (z : Reach). z .height) q)
-      (reach-of (λ (z : Reach). z .res) q)
-      (go (reach-of (λ (z : Reach). z .framed) q ∙ f) (λ y. d (sym (reach-of (λ (z : Reach). z .res) q) ∙ y)))
+      tail-more s st t e said (alone (x .fill)) (alone-over s st t c n x k (reach-of (λ (z : Reach). z .at) q))
+      (λ y. inl (reach-of (λ (z : Reach). z .scanned) (sym q) ∙ y)) (reach-of (λ (z : Reach). z .said) q)
+      (go (reach-of (λ (z : Reach). z .framed) q ∙ f) (λ y. d (sym (reach-of (λ (z : Reach). z .said .res) q) ∙ y)))
   tail-onward st t f d (by-frame c n next m k nf nr g nh nw q) go = absurd (false≢true (sym nf ∙ f))
   tail-onward st t f d (by-scan c n next p m k fr g fo q) go =
       let x = stood s o (st .at) c n 2 next (omega arith) m g in
-      tail-more s st t e w h r (scan (x .fill) (x .body) (take (p - next) (drop next s))) (scan-over s st t c n next x p k fo (reach-of (λ (z : Reach). z .at) q))
-      (λ u. inr refl) (reach-of (λ (z : Reach). z .width) q) (reach-of (λ (z : Reach). z .height) q) (reach-of (λ (z : Reach). z .res) q)
-      (go (reach-of (λ (z : Reach). z .framed) q) (λ u. d (sym (reach-of (λ (z : Reach). z .res) q) ∙ u)))
+      tail-more s st t e said (scan (x .fill) (x .body) (take (p - next) (drop next s))) (scan-over s st t c n next x p k fo (reach-of (λ (z : Reach). z .at) q))
+      (λ u. inr refl) (reach-of (λ (z : Reach). z .said) q)
+      (go (reach-of (λ (z : Reach). z .framed) q) (λ u. d (sym (reach-of (λ (z : Reach). z .said .res) q) ∙ u)))
   tail-onward st t f d (by-plain c n next m k g pl q) go =
       let x = stood s o (st .at) c n 2 next (omega arith) m g in
-      tail-more s st t e w h r (segment (x .fill) c (x .body)) (segment-over s st t c n next x k (reach-of (λ (z : Reach). z .at) q))
-      (λ y. inl (reach-of (λ (z : Reach). z .scanned) (sym q) ∙ y)) (reach-of (λ (z : Reach). z .width) q) (reach-of (λ (z : Reach). z .height) q)
-      (reach-of (λ (z : Reach). z .res) q)
-      (go (reach-of (λ (z : Reach). z .framed) q ∙ f) (λ y. d (sym (reach-of (λ (z : Reach). z .res) q) ∙ y)))
+      tail-more s st t e said (segment (x .fill) c (x .body)) (segment-over s st t c n next x k (reach-of (λ (z : Reach). z .at) q))
+      (λ y. inl (reach-of (λ (z : Reach). z .scanned) (sym q) ∙ y)) (reach-of (λ (z : Reach). z .said) q)
+      (go (reach-of (λ (z : Reach). z .framed) q ∙ f) (λ y. d (sym (reach-of (λ (z : Reach). z .said .res) q) ∙ y)))
   tail-onward st t f d (by-tag c n next v m k g gv ok q) go = absurd (d (tag-gives s st c n v gv))
 
-  pub tail-back : {st : Reach} {x : Walk} → Walks s main st x → x ≡ Ends e w h r → st .framed ≡ true → st .res ≢ 0 → Tail s st e w h r
-  tail-back {st} {x} (stops q) z f d = tail-end st (turn-told s main st .1 e w h r (q ∙ ap Stop z))
+  pub tail-back : {st : Reach} {x : Walk} → Walks s main st x → x ≡ Ends e said → st .framed ≡ true → st .said .res ≢ 0 → Tail s st e said
+  tail-back {st} {x} (stops q) z f d = tail-end st (turn-told s main st .1 e said (q ∙ ap Stop z))
   tail-back {st} {x} (goes {t = t} q more) z f d =
       tail-onward st t f d (turn-told s main st .0 t q) (λ tf td. tail-back more z tf td)

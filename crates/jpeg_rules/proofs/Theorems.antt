@@ -10,6 +10,7 @@ use lib.Seq.{length-take-le}
 use Rattle.laws.proofs.Cases.{clash}
 use Rattle.octets.specs.Octets.{Octets}
 use Rattle.jpeg_rules.specs.declared.Fault.{Fault}
+use Rattle.jpeg_rules.specs.declared.Said.{Said}
 use Rattle.jpeg_rules.specs.declared.Walk.{Walk}
 use Rattle.jpeg_rules.specs.declared.Walk.the-variants.{Ends, Refused}
 use Rattle.jpeg_rules.specs.Grammar.{Layer}
@@ -22,27 +23,27 @@ use Rattle.jpeg_rules.proofs.Refuses.{layer-bad}
 use Rattle.jpeg_rules.proofs.Refused.{layer-blames}
 
 -- the octets from one place up to another are a layer
-pub record LayerAt (s : List ℕ) (start main e w h r : ℕ) : Type 0 where
-  pub layer : Layer main (take (e - start) (drop start s)) w h r
+pub record LayerAt (s : List ℕ) (start main e : ℕ) (said : Said) : Type 0 where
+  pub layer : Layer main (take (e - start) (drop start s)) said
   pub after : start ≤ e
   pub inside : e ≤ length s
 
 cut-length : (s : List ℕ) (start e : ℕ) → e ≤ length s → length (take (e - start) (drop start s)) ≡ e - start
 cut-length s start e h = length-take-le (e - start) (drop start s) (let l = length-drop start s in omega arith)
 
--- ---- the walk ends at e exactly if the octets up to e are a layer, with its width, height and resolution
+-- ---- the walk ends at e exactly if the octets up to e are a layer, with what it says of itself
 
-layer-ends : (s : List ℕ) (start main e w h r : ℕ) → LayerAt s start main e w h r → walkOf s start main ≡ Ends e w h r
-layer-ends s start main e w h r k =
+layer-ends : (s : List ℕ) (start main e : ℕ) (said : Said) → LayerAt s start main e said → walkOf s start main ≡ Ends e said
+layer-ends s start main e said k =
     let a = k .after in
     let l = cut-length s start e (k .inside) in
     let z : start + length (take (e - start) (drop start s)) ≡ e = omega arith in
-    layer-walk s start main (take (e - start) (drop start s)) (drop e s) w h r (k .layer) (scan-split s start e a) ∙ ap (λ (n : ℕ). Ends n w h r) z
+    layer-walk s start main (take (e - start) (drop start s)) (drop e s) said (k .layer) (scan-split s start e a) ∙ ap (λ (n : ℕ). Ends n said) z
 
-pub walk-exactly : (s : List ℕ) → Octets s → (start main e w h r : ℕ) → walkOf s start main ≡ Ends e w h r ↔ LayerAt s start main e w h r
-walk-exactly s o start main e w h r = (
-  λ q. let k = walk-layer s o start main e w h r q in let a = k .after in record { layer = k .layer; after = omega arith; inside = k .inside },
-  layer-ends s start main e w h r,
+pub walk-exactly : (s : List ℕ) → Octets s → (start main e : ℕ) (said : Said) → walkOf s start main ≡ Ends e said ↔ LayerAt s start main e said
+walk-exactly s o start main e said = (
+  λ q. let k = walk-layer s o start main e said q in let a = k .after in record { layer = k .layer; after = omega arith; inside = k .inside },
+  layer-ends s start main e said,
 )
 
 -- ---- and it is refused exactly if the octets from its start on are at fault so
@@ -52,32 +53,32 @@ walk-refused-exactly s o start main f = (layer-blames s o main f start, layer-ba
 
 -- a layer stands at a place or the octets are at fault there; never both, and with one fault only
 pub data LayerOrFault (s : List ℕ) (start main : ℕ) : Type 0 where
-  a-layer : {e w h r : ℕ} → LayerAt s start main e w h r → LayerOrFault s start main
+  a-layer : {e : ℕ} {said : Said} → LayerAt s start main e said → LayerOrFault s start main
   a-fault : {f : Fault} → BadLayer main start (drop start s) f → LayerOrFault s start main
 
 pub layer-or-fault : (s : List ℕ) → Octets s → (start main : ℕ) → LayerOrFault s start main
 layer-or-fault s o start main = by (walkOf s start main) refl
   where
     by : (x : Walk) → walkOf s start main ≡ x → LayerOrFault s start main
-    by (Ends e w h r) q = a-layer (walk-exactly s o start main e w h r .0 q)
+    by (Ends e said) q = a-layer (walk-exactly s o start main e said .0 q)
     by (Refused f) q = a-fault (walk-refused-exactly s o start main f .0 q)
 
-pub layer-no-fault : (s : List ℕ) (start main e w h r : ℕ) (f : Fault) → LayerAt s start main e w h r → BadLayer main start (drop start s) f → ⊥
-layer-no-fault s start main e w h r f k b =
-    let z : Ends e w h r ≡ Refused f = sym (layer-ends s start main e w h r k) ∙ layer-bad s main start refl b in clash cc
+pub layer-no-fault : (s : List ℕ) (start main e : ℕ) (said : Said) (f : Fault) → LayerAt s start main e said → BadLayer main start (drop start s) f → ⊥
+layer-no-fault s start main e said f k b =
+    let z : Ends e said ≡ Refused f = sym (layer-ends s start main e said k) ∙ layer-bad s main start refl b in clash cc
 
 pub layer-fault-once : (s : List ℕ) (start main : ℕ) (f g : Fault) → BadLayer main start (drop start s) f → BadLayer main start (drop start s) g → f ≡ g
 layer-fault-once s start main f g b c = let z : Refused f ≡ Refused g = sym (layer-bad s main start refl b) ∙ layer-bad s main start refl c in cc
 
 -- ---- no layer is a proper prefix of another, and its octets determine its values
 
-layer-at-0 : (l rest : List ℕ) (main w h r : ℕ) → Layer main l w h r → walkOf (l ++ rest) 0 main ≡ Ends (length l) w h r
-layer-at-0 l rest main w h r y = let z : 0 + length l ≡ length l = omega arith in layer-walk (l ++ rest) 0 main l rest w h r y refl ∙ ap (λ (n : ℕ). Ends n w h r) z
+layer-at-0 : (l rest : List ℕ) (main : ℕ) (said : Said) → Layer main l said → walkOf (l ++ rest) 0 main ≡ Ends (length l) said
+layer-at-0 l rest main said y = let z : 0 + length l ≡ length l = omega arith in layer-walk (l ++ rest) 0 main l rest said y refl ∙ ap (λ (n : ℕ). Ends n said) z
 
-pub layer-prefix : (l more : List ℕ) (main w h r w′ h′ r′ : ℕ) → Layer main l w h r → Layer main (l ++ more) w′ h′ r′ → more ≡ []
-layer-prefix l more main w h r w′ h′ r′ x y =
-    let a = layer-at-0 l more main w h r x in
-    let b : walkOf (l ++ more) 0 main ≡ Ends (length (l ++ more)) w′ h′ r′ = ap (λ (z : List ℕ). walkOf z 0 main) (sym (append-nil (l ++ more))) ∙ layer-at-0 (l ++ more) [] main w′ h′ r′ y in
+pub layer-prefix : (l more : List ℕ) (main : ℕ) (said said′ : Said) → Layer main l said → Layer main (l ++ more) said′ → more ≡ []
+layer-prefix l more main said said′ x y =
+    let a = layer-at-0 l more main said x in
+    let b : walkOf (l ++ more) 0 main ≡ Ends (length (l ++ more)) said′ = ap (λ (z : List ℕ). walkOf z 0 main) (sym (append-nil (l ++ more))) ∙ layer-at-0 (l ++ more) [] main said′ y in
     let q : length l ≡ length (l ++ more) = cc in
     let n = length-append l more in
     none more (omega arith)
@@ -86,21 +87,21 @@ layer-prefix l more main w h r w′ h′ r′ x y =
     none [] e = refl
     none (x ∷ m) e = absurd (omega arith)
 
-pub layer-values : (l : List ℕ) (main w h r w′ h′ r′ : ℕ) → Layer main l w h r → Layer main l w′ h′ r′ → (w ≡ w′) × (h ≡ h′) × (r ≡ r′)
-layer-values l main w h r w′ h′ r′ x y =
-    let a = layer-at-0 l [] main w h r x in let b = layer-at-0 l [] main w′ h′ r′ y in (cc, cc, cc)
+pub layer-values : (l : List ℕ) (main : ℕ) (said said′ : Said) → Layer main l said → Layer main l said′ → said ≡ said′
+layer-values l main said said′ x y =
+    let a = layer-at-0 l [] main said x in let b = layer-at-0 l [] main said′ y in cc
 
 -- ---- a walk that ends depends on nothing but the octets from its start to its end, and shifts with them
 
-pub walk-shift : (s t : List ℕ) → Octets s → (start at main e w h r : ℕ) → walkOf s start main ≡ Ends e w h r
+pub walk-shift : (s t : List ℕ) → Octets s → (start at main e : ℕ) (said : Said) → walkOf s start main ≡ Ends e said
     → take (e - start) (drop at t) ≡ take (e - start) (drop start s) → at + (e - start) ≤ length t
-    → walkOf t at main ≡ Ends (at + (e - start)) w h r
-walk-shift s t o start at main e w h r q same fits =
-    let k = walk-layer s o start main e w h r q in
+    → walkOf t at main ≡ Ends (at + (e - start)) said
+walk-shift s t o start at main e said q same fits =
+    let k = walk-layer s o start main e said q in
     let a = k .after in
     let z : at + (e - start) - at ≡ e - start = omega arith in
     let l : List ℕ = take (e - start) (drop start s) in
     let n : length l ≡ e - start = cut-length s start e (k .inside) in
     let split : drop at t ≡ l ++ drop (at + (e - start)) t =
     scan-split t at (at + (e - start)) (omega arith) ∙ ap (λ (m : ℕ). take m (drop at t) ++ drop (at + (e - start)) t) z ∙ ap (λ (x : List ℕ). x ++ drop (at + (e - start)) t) same in
-    layer-walk t at main l (drop (at + (e - start)) t) w h r (k .layer) split ∙ ap (λ (m : ℕ). Ends (at + m) w h r) n
+    layer-walk t at main l (drop (at + (e - start)) t) said (k .layer) split ∙ ap (λ (m : ℕ). Ends (at + m) said) n

@@ -2,7 +2,7 @@
 -- Assumes nothing.
 use Prim.Native.Nat.{ℕ, _+_, _≤_, _∣_}
 use native.Mathlib.Omega.{arith}
-use mathlib.Core.Path.{_≡_, refl, sym, ap, subst, _∙_}
+use mathlib.Core.Path.{_≡_, refl, sym, ap, ap₂, subst, _∙_}
 use mathlib.Core.Logic.{_⊎_, inl, inr, _≢_, ⊎-elim}
 use mathlib.Core.Bool.{Bool, true, false, _&&_, cond, false≢true}
 use mathlib.Core.List.{List, [], _∷_, _++_, append-assoc}
@@ -17,14 +17,15 @@ use Rattle.laws.proofs.Says.{Says, says-eq, says-le, says-and, says-true, says-
 use Rattle.sheet_rules.proofs.New.{says-listed, says-divides}
 use Rattle.sheet_rules.proofs.Backward.{listed-nonzero}
 use Rattle.jpeg_rules.specs.declared.Class.the-variants.{Frame, Wrong, Segment}
+use Rattle.jpeg_rules.specs.declared.Said.{Said}
 use Rattle.jpeg_rules.specs.declared.Reach.{Reach}
 use Rattle.jpeg_rules.specs.declared.Turn.{Turn}
 use Rattle.jpeg_rules.specs.declared.Turn.the-variants.{Stop}
 use Rattle.jpeg_rules.specs.declared.Walk.{Walk}
 use Rattle.jpeg_rules.specs.declared.Walk.the-variants.{Ends}
 use Rattle.jpeg_rules.specs.Marker.{classOf}
-use Rattle.jpeg_rules.specs.Grammar.{marker, Data, Piece, alone, segment, scan, lengthed, octetsOf, piecesOf, Good, isScan, g3fax, tagged, resolution, Each, Scanned, Layer}
-use Rattle.jpeg_rules.specs.Walk.{resolves, framed, passed, moved, begun, walkOf}
+use Rattle.jpeg_rules.specs.Grammar.{marker, Data, Piece, alone, segment, scan, lengthed, octetsOf, piecesOf, Good, isScan, g3fax, tagged, resolution, Each, Scanned, saidBy, Layer}
+use Rattle.jpeg_rules.specs.Walk.{resolves, withRes, framed, passed, moved, begun, walkOf}
 use Rattle.laws.proofs.Cases.{clash, bool-else}
 use Rattle.jpeg_rules.proofs.Leaves.{class-other, code-stops, two-there}
 use Rattle.jpeg_rules.proofs.Runs.{length-marker, begins-there}
@@ -72,9 +73,7 @@ pub record Behind (st t : Reach) (ps : List Piece) : Type 0 where
   pub at : t .at ≡ st .at + length (piecesOf ps)
   pub framed : t .framed ≡ st .framed
   pub scanned : (st .scanned ≡ true) ⊎ Scanned ps → t .scanned ≡ true
-  pub res : t .res ≡ cond (eqb (st .res) 0) (resolution ps) (st .res)
-  pub width : t .width ≡ st .width
-  pub height : t .height ≡ st .height
+  pub says : t .said ≡ withRes (st .said) (cond (eqb (st .said .res) 0) (resolution ps) (st .said .res))
 
 res-none : (x : ℕ) → x ≡ cond (eqb x 0) 0 x
 res-none x =
@@ -89,17 +88,15 @@ behind-none st =
       at = omega arith;
       framed = refl;
       scanned = λ k. ⊎-elim (λ (e : st .scanned ≡ true). e) (λ (k : ⊥). absurd k) k;
-      res = res-none (st .res);
-      width = refl;
-      height = refl;
+      says = ap (withRes (st .said)) (res-none (st .said .res));
     }
 
 behind-more : (st u t : Reach) (p : Piece) (ps : List Piece) → u .at ≡ st .at + length (octetsOf p) → u .framed ≡ st .framed
     → ((st .scanned ≡ true) ⊎ (isScan p ≡ true) → u .scanned ≡ true)
-    → cond (eqb (u .res) 0) (resolution ps) (u .res) ≡ cond (eqb (st .res) 0) (resolution (p ∷ ps)) (st .res)
-    → u .width ≡ st .width → u .height ≡ st .height → Behind u t ps → Behind st t (p ∷ ps)
+    → (v : ℕ) → u .said ≡ withRes (st .said) v → cond (eqb v 0) (resolution ps) v ≡ cond (eqb (st .said .res) 0) (resolution (p ∷ ps)) (st .said .res)
+    → Behind u t ps → Behind st t (p ∷ ps)
 unfolding piecesOf Scanned
-behind-more st u t p ps a f sc r w h b =
+behind-more st u t p ps a f sc v x r b =
     let l = length-append (octetsOf p) (piecesOf ps) in
     let z = b .at in
     record {
@@ -109,9 +106,8 @@ behind-more st u t p ps a f sc r w h b =
           b .scanned
           (⊎-elim (λ (e : st .scanned ≡ true). inl (sc (inl e)))
           (λ (e : (isScan p ≡ true) ⊎ Scanned ps). ⊎-elim (λ (i : isScan p ≡ true). inl (sc (inr i))) (λ (i : Scanned ps). inr i) e) k);
-      res = b .res ∙ r;
-      width = b .width ∙ w;
-      height = b .height ∙ h;
+      says =
+          b .says ∙ ap (λ (y : Said). withRes y (cond (eqb (y .res) 0) (resolution ps) (y .res))) x ∙ ap (withRes (st .said)) r;
     }
 
 module _ (s : List ℕ) (main : ℕ) where
@@ -119,7 +115,7 @@ module _ (s : List ℕ) (main : ℕ) where
   Allowed st ps = (st .framed ≡ true) ⊎ Each (λ p. isScan p ≡ false) ps
 
   abbrev Resolved : Reach → List Piece → Type 0
-  Resolved st ps = (st .res ≢ 0) ⊎ (resolves main (resolution ps) ≡ true)
+  Resolved st ps = (st .said .res ≢ 0) ⊎ (resolves main (resolution ps) ≡ true)
 
   abbrev Onto : Reach → List Piece → List ℕ → Walk → Type 0
   Onto st ps l w = (t : Reach) → Behind st t ps → drop (t .at) s ≡ l → Walks s main t w
@@ -153,17 +149,17 @@ module _ (s : List ℕ) (main : ℕ) where
       ∙ sym (ap (λ (b : Bool). cond b (resolution (segment f c body ∷ ps)) x) (ne-eqb x 0 d)))
       (says-else (says-eq x 0))
 
-  resolved-plain : (st : Reach) (f c : ℕ) (body : List ℕ) (ps : List Piece) → eqb (st .res) 0 && tagged c body ≡ false
+  resolved-plain : (st : Reach) (f c : ℕ) (body : List ℕ) (ps : List Piece) → eqb (st .said .res) 0 && tagged c body ≡ false
       → Resolved st (segment f c body ∷ ps) → Resolved st ps
   unfolding resolution
   resolved-plain st f c body ps h (inl d) = inl d
   resolved-plain st f c body ps h (inr v) =
       ⊎-elim
-      (λ (e : st .res ≡ 0).
-      let t : tagged c body ≡ false = sym (ap (λ (b : Bool). b && tagged c body) (eq-eqb (st .res) 0 e)) ∙ h in
+      (λ (e : st .said .res ≡ 0).
+      let t : tagged c body ≡ false = sym (ap (λ (b : Bool). b && tagged c body) (eq-eqb (st .said .res) 0 e)) ∙ h in
       inr (sym (ap (λ (b : Bool). resolves main (cond b (be16At body 8) (resolution ps))) t) ∙ v))
-      (λ (d : st .res ≢ 0). inl d)
-      (says-else (says-eq (st .res) 0))
+      (λ (d : st .said .res ≢ 0). inl d)
+      (says-else (says-eq (st .said .res) 0))
 
   pub resolves-nonzero : (v : ℕ) → resolves main v ≡ true → v ≢ 0
   resolves-nonzero v e = listed-nonzero v (says-resolves main v .told e .0)
@@ -190,7 +186,7 @@ module _ (s : List ℕ) (main : ℕ) where
     alone-walk : (f : ℕ) → drop (st .at) s ≡ piecesOf (alone f ∷ ps) ++ l → Resolved st (alone f ∷ ps) → Onto st (alone f ∷ ps) l w → Walks s main st w
     unfolding piecesOf resolution isScan octetsOf
     alone-walk f e v k =
-        let u : Reach = moved st (st .at + f + 2) (st .res) in
+        let u : Reach = moved st (st .at + f + 2) (st .said .res) in
         let tail : List ℕ = piecesOf ps ++ l in
         let e′ : drop (st .at) s ≡ marker f 0x01 ++ tail = e ∙ append-assoc (marker f 0x01) (piecesOf ps) l in
         let b = begins-there s (st .at) f 0x01 tail (λ z. omega arith) e′ .rest in
@@ -200,7 +196,7 @@ module _ (s : List ℕ) (main : ℕ) where
         (λ t q d.
         k t
         (behind-more st u t (alone f) ps (omega arith) refl (λ z. ⊎-elim (λ (x : st .scanned ≡ true). x) (λ (x : false ≡ true). absurd (false≢true x)) z)
-        (res-same ps (st .res) (alone f) refl) refl refl q)
+        (st .said .res) refl (res-same ps (st .said .res) (alone f) refl) q)
         d))
 
     module _ (f b : ℕ) (body : List ℕ) (g : classOf b ≡ Segment) (e : drop (st .at) s ≡ piecesOf (segment f b body ∷ ps) ++ l)
@@ -216,28 +212,28 @@ module _ (s : List ℕ) (main : ℕ) where
       unfolding octetsOf
       reached = let l = length-lengthed f b body in omega arith
 
-      behind-segment : (x : ℕ) (t : Reach) → cond (eqb x 0) (resolution ps) x ≡ cond (eqb (st .res) 0) (resolution (segment f b body ∷ ps)) (st .res)
+      behind-segment : (x : ℕ) (t : Reach) → cond (eqb x 0) (resolution ps) x ≡ cond (eqb (st .said .res) 0) (resolution (segment f b body ∷ ps)) (st .said .res)
           → Behind (moved st (st .at + f + 2 + (length body + 2)) x) t ps → Behind st t (segment f b body ∷ ps)
       unfolding isScan
       behind-segment x t q =
           behind-more st (moved st (st .at + f + 2 + (length body + 2)) x) t (segment f b body) ps reached refl
-          (λ z. ⊎-elim (λ (x : st .scanned ≡ true). x) (λ (x : false ≡ true). absurd (false≢true x)) z) q refl refl
+          (λ z. ⊎-elim (λ (x : st .scanned ≡ true). x) (λ (x : false ≡ true). absurd (false≢true x)) z) x refl q
 
       -- no resolution is taken from it
-      segment-plain : eqb (st .res) 0 && tagged b body ≡ false → Walks s main st w
+      segment-plain : eqb (st .said .res) 0 && tagged b body ≡ false → Walks s main st w
       segment-plain h =
           goes (turn-plain s main st f b body (piecesOf ps ++ l) other opened g h)
-          (rec (moved st (st .at + f + 2 + (length body + 2)) (st .res)) (rest-at s main st f b body (piecesOf ps ++ l) other opened) refl
+          (rec (moved st (st .at + f + 2 + (length body + 2)) (st .said .res)) (rest-at s main st f b body (piecesOf ps ++ l) other opened) refl
           (resolved-plain st f b body ps h v)
-          (λ t q d. k t (behind-segment (st .res) t (res-plain (st .res) f b body ps h) q) d))
+          (λ t q d. k t (behind-segment (st .said .res) t (res-plain (st .said .res) f b body ps h) q) d))
 
       -- it gives the resolution
-      segment-tag : eqb (st .res) 0 && tagged b body ≡ true → Walks s main st w
+      segment-tag : eqb (st .said .res) 0 && tagged b body ≡ true → Walks s main st w
       unfolding resolution
       segment-tag h =
-          let y = says-and (says-eq (st .res) 0) (says-true (tagged b body)) .told h in
+          let y = says-and (says-eq (st .said .res) 0) (says-true (tagged b body)) .told h in
           let o : resolves main (be16At body 8) ≡ true =
-          ⊎-elim (λ (d : st .res ≢ 0). absurd (d (y .0)))
+          ⊎-elim (λ (d : st .said .res ≢ 0). absurd (d (y .0)))
           (λ (o : resolves main (resolution (segment f b body ∷ ps)) ≡ true). sym (ap (λ (x : Bool). resolves main (cond x (be16At body 8) (resolution ps))) (y .1)) ∙ o) v in
           let nz = resolves-nonzero (be16At body 8) o in
           goes (turn-tag s main st f b body (piecesOf ps ++ l) other opened g h (tagged-long b body (y .1)) o)
@@ -248,13 +244,13 @@ module _ (s : List ℕ) (main : ℕ) where
           (behind-segment (be16At body 8) t
           (ap (λ (x : Bool). cond x (resolution ps) (be16At body 8)) (ne-eqb (be16At body 8) 0 nz)
           ∙ sym
-          (ap (λ (x : Bool). cond x (cond (tagged b body) (be16At body 8) (resolution ps)) (st .res)) (eq-eqb (st .res) 0 (y .0))
+          (ap (λ (x : Bool). cond x (cond (tagged b body) (be16At body 8) (resolution ps)) (st .said .res)) (eq-eqb (st .said .res) 0 (y .0))
           ∙ ap (λ (x : Bool). cond x (be16At body 8) (resolution ps)) (y .1)))
           q)
           d))
 
       segment-walk : Walks s main st w
-      segment-walk = ⊎-elim segment-tag segment-plain (bool-else (eqb (st .res) 0 && tagged b body))
+      segment-walk = ⊎-elim segment-tag segment-plain (bool-else (eqb (st .said .res) 0 && tagged b body))
 
     scan-walk : (f : ℕ) (header scanned : List ℕ) → Opens (piecesOf ps ++ l) → Data scanned → st .framed ≡ true
         → drop (st .at) s ≡ piecesOf (scan f header scanned ∷ ps) ++ l → Resolved st (scan f header scanned ∷ ps)
@@ -272,7 +268,7 @@ module _ (s : List ℕ) (main : ℕ) where
         (rec u (x .1) (sym fr) (resolved-same ps st (scan f header scanned) refl v)
         (λ t q y.
         k t
-        (behind-more st u t (scan f header scanned) ps (omega arith) (sym fr) (λ z. refl) (res-same ps (st .res) (scan f header scanned) refl) refl refl q)
+        (behind-more st u t (scan f header scanned) ps (omega arith) (sym fr) (λ z. refl) (st .said .res) refl (res-same ps (st .said .res) (scan f header scanned) refl) q)
         y))
 
   pub pieces-walk : (ps : List Piece) (st : Reach) (l : List ℕ) (w : Walk) → drop (st .at) s ≡ piecesOf ps ++ l
@@ -300,7 +296,7 @@ unfolding Each
 each-scanless [] g = tt
 each-scanless (p ∷ ps) g = (g .0 .1, each-scanless ps (g .1))
 
-module _ (s : List ℕ) (start main : ℕ) (l rest : List ℕ) (width height res : ℕ) (y : Layer main l width height res) (e : drop start s ≡ l ++ rest) where
+module _ (s : List ℕ) (start main : ℕ) (l rest : List ℕ) (said : Said) (y : Layer main l said) (e : drop start s ≡ l ++ rest) where
   behind-frame : List ℕ
   behind-frame = piecesOf (y .after) ++ (marker (y .last) 0xD9 ++ rest)
 
@@ -317,29 +313,29 @@ module _ (s : List ℕ) (start main : ℕ) (l rest : List ℕ) (width height res
       let g = length-marker (y .last) 0xD9 in
       omega arith
 
-  res-nonzero : res ≢ 0
-  res-nonzero = listed-nonzero res (y .listed)
+  res-is : said .res ≡ resolution (y .before)
+  res-is = ap (λ (x : Said). x .res) (y .says)
+
+  res-nonzero : said .res ≢ 0
+  res-nonzero = listed-nonzero (said .res) (y .listed)
 
   res-resolves : resolves main (resolution (y .before)) ≡ true
-  res-resolves = ap (resolves main) (sym (y .tag)) ∙ says-resolves main res .shown (y .listed, y .divides)
+  res-resolves = ap (resolves main) (sym res-is) ∙ says-resolves main (said .res) .shown (y .listed, y .divides)
 
   w : Walk
-  w = Ends (start + length l) width height res
+  w = Ends (start + length l) said
 
   -- after the frame
   last-walk : (u t : Reach) → Behind u t (y .after) → u .at ≡ start + 2 + length (piecesOf (y .before)) + y .fill + 2 + (length (y .body) + 2)
-      → u .width ≡ width → u .height ≡ height → u .res ≡ res → drop (t .at) s ≡ marker (y .last) 0xD9 ++ rest → Walks s main t w
+      → u .said ≡ said → drop (t .at) s ≡ marker (y .last) 0xD9 ++ rest → Walks s main t w
   unfolding w
-  last-walk u t b a x h r d =
+  last-walk u t b a x d =
       let z = size-layer in
       let q = b .at in
       let end : t .at + y .last + 2 ≡ start + length l = omega arith in
-      let nz : eqb (u .res) 0 ≡ false = ne-eqb (u .res) 0 (λ k. res-nonzero (sym r ∙ k)) in
-      let rr : t .res ≡ res = b .res ∙ ap (λ (c : Bool). cond c (resolution (y .after)) (u .res)) nz ∙ r in
-      let ww : t .width ≡ width = b .width ∙ x in
-      let hh : t .height ≡ height = b .height ∙ h in
-      let same : _≡_ {A = Turn} (Stop (Ends (t .at + y .last + 2) (t .width) (t .height) (t .res))) (Stop (Ends (start + length l) width height res)) = simp (end, ww, hh, rr) in
-      stops (turn-end s main t (y .last) rest d (b .scanned (inr (y .scanned))) ∙ same)
+      let nz : eqb (u .said .res) 0 ≡ false = ne-eqb (u .said .res) 0 (λ k. res-nonzero (sym (ap (λ (i : Said). i .res) x) ∙ k)) in
+      let same : t .said ≡ said = b .says ∙ ap (λ (c : Bool). withRes (u .said) (cond c (resolution (y .after)) (u .said .res))) nz ∙ x in
+      stops (turn-end s main t (y .last) rest d (b .scanned (inr (y .scanned))) ∙ ap₂ (λ (n : ℕ) (i : Said). Stop (Ends n i)) end same)
 
   frame-right : classOf (y .code) ≢ Wrong
   frame-right e = let z : Frame ≡ Wrong = sym (y .frame) ∙ e in clash cc
@@ -351,22 +347,20 @@ module _ (s : List ℕ) (start main : ℕ) (l rest : List ℕ) (width height res
       → Walks s main t w
   unfolding classOf
   frame-walk t b d =
-      let tr : t .res ≡ res = b .res ∙ sym (y .tag) in
-      let u : Reach = framed t (t .at + y .fill + 2 + (length (y .body) + 2)) (be16At (y .body) 3) (be16At (y .body) 1) in
+      let tr : t .said .res ≡ said .res = ap (λ (x : Said). x .res) (b .says) ∙ sym res-is in
+      let u : Reach = framed t (t .at + y .fill + 2 + (length (y .body) + 2)) (saidBy (y .body) (t .said .res)) in
       let q = b .at in
-      let hi = y .high in
-      let wi = y .wide in
       let tf : t .framed ≡ false = b .framed in
       goes
       (turn-frame s main t (y .fill) (y .code) (y .body) (piecesOf (y .after) ++ (marker (y .last) 0xD9 ++ rest)) frame-other d (y .frame) tf (λ k. res-nonzero (sym tr ∙ k)) (y .long)
-      (λ k. hi .1 (hi .0 ∙ k)) (λ k. wi .1 (wi .0 ∙ k)))
+      (λ k. y .high (ap (λ (x : Said). x .height) (y .says) ∙ k)) (λ k. y .wide (ap (λ (x : Said). x .width) (y .says) ∙ k)))
       (pieces-walk s main (y .after) u (marker (y .last) 0xD9 ++ rest) w
       (rest-at s main t (y .fill) (y .code) (y .body) (piecesOf (y .after) ++ (marker (y .last) 0xD9 ++ rest)) frame-other d)
       (marker-opens (y .last) 0xD9 rest (λ e. clash cc)) (y .late) (inl refl)
       (inl (λ k. res-nonzero (sym tr ∙ k)))
-      (λ v c f. last-walk u v c (omega arith) (sym (wi .0)) (sym (hi .0)) tr f))
+      (λ v c f. last-walk u v c (omega arith) (ap (saidBy (y .body)) (tr ∙ res-is) ∙ sym (y .says)) f))
 
-  pub layer-walk : walkOf s start main ≡ Ends (start + length l) width height res
+  pub layer-walk : walkOf s start main ≡ Ends (start + length l) said
   unfolding walkOf w
   layer-walk =
       let t = two-there s start 0xFF 0xD8 (piecesOf (y .before) ++ (lengthed (y .fill) (y .code) (y .body) ++ (piecesOf (y .after) ++ (marker (y .last) 0xD9 ++ rest)))) opened-layer in

@@ -19,12 +19,13 @@ use Rattle.jpeg_rules.specs.declared.Seg.{Seg}
 use Rattle.jpeg_rules.specs.declared.Seg.the-variants.{Body}
 use Rattle.jpeg_rules.specs.declared.Tag.{Tag}
 use Rattle.jpeg_rules.specs.declared.Tag.the-variants.{Gives, Plain}
+use Rattle.jpeg_rules.specs.declared.Said.{Said}
 use Rattle.jpeg_rules.specs.declared.Reach.{Reach}
 use Rattle.jpeg_rules.specs.declared.Walk.the-variants.{Ends}
 use Rattle.jpeg_rules.specs.declared.Turn.the-variants.{Go, Stop}
 use Rattle.jpeg_rules.specs.Marker.{classOf}
-use Rattle.jpeg_rules.specs.Grammar.{marker, Data, lengthed, g3fax, tagged}
-use Rattle.jpeg_rules.specs.Walk.{segOf, resolves, tagOf, framed, passed, moved, refused, onBody, onTag, frameBodyOf, frameOf, scanStepOf, segmentOf, markOf, onMarker, turnOf}
+use Rattle.jpeg_rules.specs.Grammar.{marker, Data, lengthed, g3fax, tagged, saidBy}
+use Rattle.jpeg_rules.specs.Walk.{segOf, resolves, tagOf, framed, passed, moved, refused, onBody, onTag, frameSaid, frameBodyOf, frameOf, scanStepOf, segmentOf, markOf, onMarker, turnOf}
 use Rattle.jpeg_rules.proofs.Leaves.{seg-there}
 use Rattle.jpeg_rules.proofs.Runs.{begins-there, marker-there}
 use Rattle.jpeg_rules.proofs.Scans.{Opens, scan-there}
@@ -37,16 +38,16 @@ module _ (s : List ℕ) (main : ℕ) (st : Reach) where
       ap (λ (m : Marker). onMarker m (st .at) (λ (c n : ℕ). markOf s main st c n (classOf c))) (marker-there s (st .at) f c r d e)
       ∙ ap (markOf s main st c (st .at + f + 2)) h
 
-  pub turn-alone : (f : ℕ) (r : List ℕ) → drop (st .at) s ≡ marker f 0x01 ++ r → turnOf s main st ≡ Go (moved st (st .at + f + 2) (st .res))
+  pub turn-alone : (f : ℕ) (r : List ℕ) → drop (st .at) s ≡ marker f 0x01 ++ r → turnOf s main st ≡ Go (moved st (st .at + f + 2) (st .said .res))
   unfolding markOf classOf
   turn-alone f r e = turn-class f 0x01 r Alone (λ z. omega arith) e refl
 
   pub turn-end : (f : ℕ) (r : List ℕ) → drop (st .at) s ≡ marker f 0xD9 ++ r → st .scanned ≡ true
-      → turnOf s main st ≡ Stop (Ends (st .at + f + 2) (st .width) (st .height) (st .res))
+      → turnOf s main st ≡ Stop (Ends (st .at + f + 2) (st .said))
   unfolding markOf classOf
   turn-end f r e h =
       turn-class f 0xD9 r End (λ z. omega arith) e refl
-      ∙ ap (λ (b : Bool). cond b (Stop (Ends (st .at + f + 2) (st .width) (st .height) (st .res))) (refused (BadLayer (st .at)))) h
+      ∙ ap (λ (b : Bool). cond b (Stop (Ends (st .at + f + 2) (st .said))) (refused (BadLayer (st .at)))) h
 
   -- a marker with a length: the body, and what stands after it
   module _ (f c : ℕ) (body r : List ℕ) (other : c ≢ 0xFF) (e : drop (st .at) s ≡ lengthed f c body ++ r) where
@@ -93,7 +94,7 @@ module _ (s : List ℕ) (main : ℕ) (st : Reach) where
         ∙ stands-append body r 0 g3fax (omega arith)
         ∙ ap (λ (b : Bool). b && begins body g3fax) (le-leb (0 + 6) (length body) (omega arith))
 
-    tag-test : eqb c 0xE1 && eqb (st .res) 0 && leb 12 (be16At s (st .at + f + 2)) && standsAt s (st .at + f + 2 + 2) g3fax ≡ eqb (st .res) 0 && tagged c body
+    tag-test : eqb c 0xE1 && eqb (st .said .res) 0 && leb 12 (be16At s (st .at + f + 2)) && standsAt s (st .at + f + 2 + 2) g3fax ≡ eqb (st .said .res) 0 && tagged c body
     unfolding tagged
     tag-test = go (leb 12 (length body + 2)) refl
       where
@@ -116,26 +117,26 @@ module _ (s : List ℕ) (main : ℕ) (st : Reach) where
         none-left false false f = refl
 
         go : (b : Bool) → leb 12 (length body + 2) ≡ b
-            → eqb c 0xE1 && eqb (st .res) 0 && leb 12 (be16At s (st .at + f + 2)) && standsAt s (st .at + f + 2 + 2) g3fax
-            ≡ eqb (st .res) 0 && (eqb c 0xE1 && leb 12 (length body + 2) && begins body g3fax)
+            → eqb c 0xE1 && eqb (st .said .res) 0 && leb 12 (be16At s (st .at + f + 2)) && standsAt s (st .at + f + 2 + 2) g3fax
+            ≡ eqb (st .said .res) 0 && (eqb c 0xE1 && leb 12 (length body + 2) && begins body g3fax)
         go true q =
             let h = leb-true 12 (length body + 2) q in
-            ap₂ (λ (m : ℕ) (t : Bool). eqb c 0xE1 && eqb (st .res) 0 && leb 12 m && t) size-is (tag-stands (omega arith))
-            ∙ swap (eqb c 0xE1) (eqb (st .res) 0) (leb 12 (length body + 2)) (begins body g3fax)
+            ap₂ (λ (m : ℕ) (t : Bool). eqb c 0xE1 && eqb (st .said .res) 0 && leb 12 m && t) size-is (tag-stands (omega arith))
+            ∙ swap (eqb c 0xE1) (eqb (st .said .res) 0) (leb 12 (length body + 2)) (begins body g3fax)
         go false q =
-            ap (λ (m : ℕ). eqb c 0xE1 && eqb (st .res) 0 && leb 12 m && standsAt s (st .at + f + 2 + 2) g3fax) size-is
-            ∙ ap (λ (b : Bool). eqb c 0xE1 && eqb (st .res) 0 && b && standsAt s (st .at + f + 2 + 2) g3fax) q
-            ∙ and-none (eqb c 0xE1) (eqb (st .res) 0) (standsAt s (st .at + f + 2 + 2) g3fax)
-            ∙ sym (ap (λ (b : Bool). eqb (st .res) 0 && (eqb c 0xE1 && b && begins body g3fax)) q ∙ none-left (eqb c 0xE1) (eqb (st .res) 0) (begins body g3fax))
+            ap (λ (m : ℕ). eqb c 0xE1 && eqb (st .said .res) 0 && leb 12 m && standsAt s (st .at + f + 2 + 2) g3fax) size-is
+            ∙ ap (λ (b : Bool). eqb c 0xE1 && eqb (st .said .res) 0 && b && standsAt s (st .at + f + 2 + 2) g3fax) q
+            ∙ and-none (eqb c 0xE1) (eqb (st .said .res) 0) (standsAt s (st .at + f + 2 + 2) g3fax)
+            ∙ sym (ap (λ (b : Bool). eqb (st .said .res) 0 && (eqb c 0xE1 && b && begins body g3fax)) q ∙ none-left (eqb c 0xE1) (eqb (st .said .res) 0) (begins body g3fax))
 
-    pub tag-of : tagOf s st c (st .at + f + 2) ≡ cond (eqb (st .res) 0 && tagged c body) (Gives (be16At s (st .at + f + 2 + 10))) Plain
+    pub tag-of : tagOf s st c (st .at + f + 2) ≡ cond (eqb (st .said .res) 0 && tagged c body) (Gives (be16At s (st .at + f + 2 + 10))) Plain
     unfolding tagOf
     tag-of = ap (λ (b : Bool). cond b (Gives (be16At s (st .at + f + 2 + 10))) Plain) tag-test
 
     -- ---- a segment
 
     pub segment-opened : (t : Tag) → tagOf s st c (st .at + f + 2) ≡ t → classOf c ≡ Segment
-        → turnOf s main st ≡ onTag t (Go (moved st (st .at + f + 2 + (length body + 2)) (st .res)))
+        → turnOf s main st ≡ onTag t (Go (moved st (st .at + f + 2 + (length body + 2)) (st .said .res)))
         (λ (v : ℕ). cond (resolves main v) (Go (moved st (st .at + f + 2 + (length body + 2)) v)) (refused (BadRes (st .at + f + 2 + 10))))
     unfolding markOf segmentOf
     segment-opened t q k =
@@ -143,20 +144,20 @@ module _ (s : List ℕ) (main : ℕ) (st : Reach) where
         ∙ ap
         (λ (g : Seg).
         onBody g (λ (next : ℕ).
-        onTag (tagOf s st c (st .at + f + 2)) (Go (moved st next (st .res))) (λ (v : ℕ).
+        onTag (tagOf s st c (st .at + f + 2)) (Go (moved st next (st .said .res))) (λ (v : ℕ).
         cond (resolves main v) (Go (moved st next v)) (refused (BadRes (st .at + f + 2 + 10))))))
         (seg-is 2 (omega arith))
         ∙ ap
         (λ (g : Tag).
-        onTag g (Go (moved st (st .at + f + 2 + (length body + 2)) (st .res)))
+        onTag g (Go (moved st (st .at + f + 2 + (length body + 2)) (st .said .res)))
         (λ (v : ℕ). cond (resolves main v) (Go (moved st (st .at + f + 2 + (length body + 2)) v)) (refused (BadRes (st .at + f + 2 + 10)))))
         q
 
-    pub turn-plain : classOf c ≡ Segment → eqb (st .res) 0 && tagged c body ≡ false
-        → turnOf s main st ≡ Go (moved st (st .at + f + 2 + (length body + 2)) (st .res))
+    pub turn-plain : classOf c ≡ Segment → eqb (st .said .res) 0 && tagged c body ≡ false
+        → turnOf s main st ≡ Go (moved st (st .at + f + 2 + (length body + 2)) (st .said .res))
     turn-plain k h = segment-opened Plain (tag-of ∙ ap (λ (b : Bool). cond b (Gives (be16At s (st .at + f + 2 + 10))) Plain) h) k
 
-    pub turn-tag : classOf c ≡ Segment → eqb (st .res) 0 && tagged c body ≡ true → 10 ≤ length body → resolves main (be16At body 8) ≡ true
+    pub turn-tag : classOf c ≡ Segment → eqb (st .said .res) 0 && tagged c body ≡ true → 10 ≤ length body → resolves main (be16At body 8) ≡ true
         → turnOf s main st ≡ Go (moved st (st .at + f + 2 + (length body + 2)) (be16At body 8))
     turn-tag k h g v =
         let z : st .at + f + 2 + 2 + 8 ≡ st .at + f + 2 + 10 = omega arith in
@@ -167,14 +168,21 @@ module _ (s : List ℕ) (main : ℕ) (st : Reach) where
 
     -- ---- the frame
 
-    pub turn-frame : classOf c ≡ Frame → st .framed ≡ false → st .res ≢ 0 → 8 ≤ length body + 2 → be16At body 1 ≢ 0 → be16At body 3 ≢ 0
-        → turnOf s main st ≡ Go (framed st (st .at + f + 2 + (length body + 2)) (be16At body 3) (be16At body 1))
-    unfolding markOf frameOf frameBodyOf
-    turn-frame k nf d l h w =
+    -- what it says, by its body
+    pub frame-says : 8 ≤ length body + 2 → frameSaid s st (st .at + f + 2) ≡ saidBy body (st .said .res)
+    frame-says l =
         let a = number-is 1 (st .at + f + 2 + 3) (let z : st .at + f + 2 + 2 + 1 ≡ st .at + f + 2 + 3 = omega arith in z) (omega arith) in
         let b = number-is 3 (st .at + f + 2 + 5) (let z : st .at + f + 2 + 2 + 3 ≡ st .at + f + 2 + 5 = omega arith in z) (omega arith) in
+        λ i. record { width = b i; height = a i; res = st .said .res }
+
+    pub turn-frame : classOf c ≡ Frame → st .framed ≡ false → st .said .res ≢ 0 → 8 ≤ length body + 2 → be16At body 1 ≢ 0 → be16At body 3 ≢ 0
+        → turnOf s main st ≡ Go (framed st (st .at + f + 2 + (length body + 2)) (saidBy body (st .said .res)))
+    unfolding markOf frameOf frameBodyOf
+    turn-frame k nf d l h w =
+        let a : be16At s (st .at + f + 2 + 3) ≡ be16At body 1 = ap (λ (x : Said). x .height) (frame-says l) in
+        let b : be16At s (st .at + f + 2 + 5) ≡ be16At body 3 = ap (λ (x : Said). x .width) (frame-says l) in
         turn-class f c (octets16 (length body + 2) ++ (body ++ r)) Frame other opened k
-        ∙ simp (nf, ne-eqb (st .res) 0 d, seg-is 8 l, a, b, ne-eqb (be16At body 1) 0 h, ne-eqb (be16At body 3) 0 w) refl
+        ∙ simp (nf, ne-eqb (st .said .res) 0 d, seg-is 8 l, a, b, ne-eqb (be16At body 1) 0 h, ne-eqb (be16At body 3) 0 w) refl
 
 -- ---- a scan, with its data and the marker after it
 

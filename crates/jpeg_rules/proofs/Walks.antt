@@ -21,13 +21,14 @@ use Rattle.jpeg_rules.specs.declared.Found.{Found}
 use Rattle.jpeg_rules.specs.declared.Found.the-variants.{At, Nothing}
 use Rattle.jpeg_rules.specs.declared.Tag.{Tag}
 use Rattle.jpeg_rules.specs.declared.Tag.the-variants.{Gives, Plain}
+use Rattle.jpeg_rules.specs.declared.Said.{Said}
 use Rattle.jpeg_rules.specs.declared.Reach.{Reach}
 use Rattle.jpeg_rules.specs.declared.Walk.{Walk}
 use Rattle.jpeg_rules.specs.declared.Walk.the-variants.{Ends}
 use Rattle.jpeg_rules.specs.declared.Turn.{Turn}
 use Rattle.jpeg_rules.specs.declared.Turn.the-variants.{Go, Stop}
 use Rattle.jpeg_rules.specs.Marker.{classOf, markerOf}
-use Rattle.jpeg_rules.specs.Walk.{segOf, scanOf, resolves, tagOf, framed, passed, moved, refused, onBody, onFound, onTag, frameBodyOf, frameOf, scanStepOf, segmentOf, endOf, markOf, onMarker, turnOf, onTurn, walkFrom}
+use Rattle.jpeg_rules.specs.Walk.{segOf, scanOf, resolves, tagOf, framed, passed, moved, refused, onBody, onFound, onTag, frameSaid, frameBodyOf, frameOf, scanStepOf, segmentOf, endOf, markOf, onMarker, turnOf, onTurn, walkFrom}
 use Rattle.laws.proofs.Cases.{cond-with, clash}
 use Rattle.jpeg_rules.proofs.Runs.{marker-back}
 use Rattle.jpeg_rules.proofs.Scans.{scan-back}
@@ -36,32 +37,30 @@ use Rattle.jpeg_rules.proofs.Scans.{scan-back}
 
 module _ (s : List ℕ) (main : ℕ) (st : Reach) where
   pub data Onward (t : Reach) : Type 0 where
-    by-alone : (c n : ℕ) → markerOf s (st .at) ≡ Code c n → classOf c ≡ Alone → moved st n (st .res) ≡ t → Onward t
-    by-frame : (c n next : ℕ) → markerOf s (st .at) ≡ Code c n → classOf c ≡ Frame → st .framed ≡ false → st .res ≢ 0 → segOf s n 8 ≡ Body next
-        → be16At s (n + 3) ≢ 0 → be16At s (n + 5) ≢ 0 → framed st next (be16At s (n + 5)) (be16At s (n + 3)) ≡ t → Onward t
+    by-alone : (c n : ℕ) → markerOf s (st .at) ≡ Code c n → classOf c ≡ Alone → moved st n (st .said .res) ≡ t → Onward t
+    by-frame : (c n next : ℕ) → markerOf s (st .at) ≡ Code c n → classOf c ≡ Frame → st .framed ≡ false → st .said .res ≢ 0 → segOf s n 8 ≡ Body next
+        → be16At s (n + 3) ≢ 0 → be16At s (n + 5) ≢ 0 → framed st next (frameSaid s st n) ≡ t → Onward t
     by-scan : (c n next p : ℕ) → markerOf s (st .at) ≡ Code c n → classOf c ≡ Scan → st .framed ≡ true → segOf s n 2 ≡ Body next
         → scanOf s next ≡ At p → passed st p ≡ t → Onward t
     by-plain : (c n next : ℕ) → markerOf s (st .at) ≡ Code c n → classOf c ≡ Segment → segOf s n 2 ≡ Body next → tagOf s st c n ≡ Plain
-        → moved st next (st .res) ≡ t → Onward t
+        → moved st next (st .said .res) ≡ t → Onward t
     by-tag : (c n next v : ℕ) → markerOf s (st .at) ≡ Code c n → classOf c ≡ Segment → segOf s n 2 ≡ Body next → tagOf s st c n ≡ Gives v
         → resolves main v ≡ true → moved st next v ≡ t → Onward t
 
   -- the end of a layer
-  pub record Ended (e w h r : ℕ) : Type 0 where
+  pub record Ended (e : ℕ) (said : Said) : Type 0 where
     pub c : ℕ
     pub marker : markerOf s (st .at) ≡ Code c e
     pub class : classOf c ≡ End
     pub scanned : st .scanned ≡ true
-    pub width : st .width ≡ w
-    pub height : st .height ≡ h
-    pub res : st .res ≡ r
+    pub says : st .said ≡ said
 
   -- what a turn's answer tells
   abbrev Told : Turn → Type 0
-  Told x = ((t : Reach) → x ≡ Go t → Onward t) × ((e w h r : ℕ) → x ≡ Stop (Ends e w h r) → Ended e w h r)
+  Told x = ((t : Reach) → x ≡ Go t → Onward t) × ((e : ℕ) (said : Said) → x ≡ Stop (Ends e said) → Ended e said)
 
   told-refused : (f : _) → Told (refused f)
-  told-refused f = (λ t e. clash cc, λ e w h r q. clash cc)
+  told-refused f = (λ t e. clash cc, λ e said q. clash cc)
 
   module _ (c n : ℕ) (m : markerOf s (st .at) ≡ Code c n) where
     told-body : (least : ℕ) (go : ℕ → Turn) → ((next : ℕ) → segOf s n least ≡ Body next → Told (go next)) → Told (onBody (segOf s n least) go)
@@ -75,11 +74,11 @@ module _ (s : List ℕ) (main : ℕ) (st : Reach) where
     unfolding frameOf frameBodyOf
     told-frame k =
         cond-with Told (st .framed) (λ e. told-refused _) λ f.
-        cond-with Told (eqb (st .res) 0) (λ e. told-refused _) λ d.
+        cond-with Told (eqb (st .said .res) 0) (λ e. told-refused _) λ d.
         told-body 8 (λ (next : ℕ). frameBodyOf s st n next) λ next g.
         cond-with Told (eqb (be16At s (n + 3)) 0) (λ e. told-refused _) λ h.
         cond-with Told (eqb (be16At s (n + 5)) 0) (λ e. told-refused _) λ w.
-        (λ t e. by-frame c n next m k f (eqb-false (st .res) 0 d) g (eqb-false (be16At s (n + 3)) 0 h) (eqb-false (be16At s (n + 5)) 0 w) cc, λ e w h r q. clash cc)
+        (λ t e. by-frame c n next m k f (eqb-false (st .said .res) 0 d) g (eqb-false (be16At s (n + 3)) 0 h) (eqb-false (be16At s (n + 5)) 0 w) cc, λ e said q. clash cc)
 
     told-scan : classOf c ≡ Scan → Told (scanStepOf s st n)
     unfolding scanStepOf
@@ -90,20 +89,20 @@ module _ (s : List ℕ) (main : ℕ) (st : Reach) where
         (λ f. told-refused _)
       where
         by : st .framed ≡ true → (next : ℕ) → segOf s n 2 ≡ Body next → (x : Found) → scanOf s next ≡ x → Told (onFound x next (λ (p : ℕ). Go (passed st p)))
-        by f next g (At p) q = (λ t e. by-scan c n next p m k f g q cc, λ e w h r z. clash cc)
+        by f next g (At p) q = (λ t e. by-scan c n next p m k f g q cc, λ e said z. clash cc)
         by f next g Nothing q = told-refused _
 
     told-segment : classOf c ≡ Segment → Told (segmentOf s main st c n)
     unfolding segmentOf
     told-segment k =
-        told-body 2 (λ (next : ℕ). onTag (tagOf s st c n) (Go (moved st next (st .res))) (λ (r : ℕ). cond (resolves main r) (Go (moved st next r)) (refused (BadRes (n + 10)))))
+        told-body 2 (λ (next : ℕ). onTag (tagOf s st c n) (Go (moved st next (st .said .res))) (λ (r : ℕ). cond (resolves main r) (Go (moved st next r)) (refused (BadRes (n + 10)))))
         λ next g. by next g (tagOf s st c n) refl
       where
         by : (next : ℕ) → segOf s n 2 ≡ Body next → (x : Tag) → tagOf s st c n ≡ x
-            → Told (onTag x (Go (moved st next (st .res))) (λ (r : ℕ). cond (resolves main r) (Go (moved st next r)) (refused (BadRes (n + 10)))))
-        by next g Plain q = (λ t e. by-plain c n next m k g q cc, λ e w h r z. clash cc)
+            → Told (onTag x (Go (moved st next (st .said .res))) (λ (r : ℕ). cond (resolves main r) (Go (moved st next r)) (refused (BadRes (n + 10)))))
+        by next g Plain q = (λ t e. by-plain c n next m k g q cc, λ e said z. clash cc)
         by next g (Gives v) q =
-            cond-with Told (resolves main v) (λ o. (λ t e. by-tag c n next v m k g q o cc, λ e w h r z. clash cc)) (λ o. told-refused _)
+            cond-with Told (resolves main v) (λ o. (λ t e. by-tag c n next v m k g q o cc, λ e said z. clash cc)) (λ o. told-refused _)
 
     told-end : classOf c ≡ End → Told (endOf st n)
     unfolding endOf
@@ -111,15 +110,15 @@ module _ (s : List ℕ) (main : ℕ) (st : Reach) where
         cond-with Told (st .scanned)
         (λ d. (
           λ t e. clash cc,
-          λ e w h r q.
+          λ e said q.
               let z : n ≡ e = cc in
-              record { c = c; marker = m ∙ ap (Code c) z; class = k; scanned = d; width = cc; height = cc; res = cc },
+              record { c = c; marker = m ∙ ap (Code c) z; class = k; scanned = d; says = cc },
         ))
         (λ d. told-refused _)
 
     told-mark : (x : Class) → classOf c ≡ x → Told (markOf s main st c n x)
     unfolding markOf
-    told-mark Alone k = (λ t e. by-alone c n m k cc, λ e w h r q. clash cc)
+    told-mark Alone k = (λ t e. by-alone c n m k cc, λ e said q. clash cc)
     told-mark Frame k = told-frame k
     told-mark Scan k = told-scan k
     told-mark End k = told-end k

@@ -42,15 +42,15 @@ placeOf (BadLayer p) = p
 pub tag-long : (s : List ℕ) (st : Reach) (c n v : ℕ) → tagOf s st c n ≡ Gives v → 12 ≤ be16At s n
 unfolding tagOf
 tag-long s st c n v =
-    cond-with (λ x. x ≡ Gives v → 12 ≤ be16At s n) (eqb c 0xE1 && eqb (st .res) 0 && leb 12 (be16At s n) && standsAt s (n + 2) g3fax)
-    (λ t e. says-and (says-and (says-and (says-eq c 0xE1) (says-eq (st .res) 0)) (says-le 12 (be16At s n))) (says-true (standsAt s (n + 2) g3fax)) .told t .0 .1)
+    cond-with (λ x. x ≡ Gives v → 12 ≤ be16At s n) (eqb c 0xE1 && eqb (st .said .res) 0 && leb 12 (be16At s n) && standsAt s (n + 2) g3fax)
+    (λ t e. says-and (says-and (says-and (says-eq c 0xE1) (says-eq (st .said .res) 0)) (says-le 12 (be16At s n))) (says-true (standsAt s (n + 2) g3fax)) .told t .0 .1)
     (λ t e. clash cc)
 
 module _ (s : List ℕ) (main : ℕ) where
   -- a turn stays within the list, and so does its refusal
   pub Within : Turn → Type 0
   Within (Go t) = t .at ≤ length s
-  Within (Stop (Ends e w h r)) = Unit {0}
+  Within (Stop (Ends e said)) = Unit {0}
   Within (Stop (Walk.Refused f)) = placeOf f ≤ length s
 
   module _ (st : Reach) (c n : ℕ) (h : st .at ≤ length s) (b : n ≤ length s) where
@@ -70,7 +70,7 @@ module _ (s : List ℕ) (main : ℕ) where
     unfolding frameOf frameBodyOf placeOf Within
     frame-within =
         cond-with Within (st .framed) (λ e. h) λ f.
-        cond-with Within (eqb (st .res) 0) (λ e. h) λ d.
+        cond-with Within (eqb (st .said .res) 0) (λ e. h) λ d.
         body-within 8 (λ (next : ℕ). frameBodyOf s st n next) λ next lo hi e.
         cond-with Within (eqb (be16At s (n + 3)) 0) (λ q. let u : n + 3 ≤ length s = omega arith in u) λ q1.
         cond-with Within (eqb (be16At s (n + 5)) 0) (λ q. let u : n + 5 ≤ length s = omega arith in u) λ q2. hi
@@ -89,11 +89,11 @@ module _ (s : List ℕ) (main : ℕ) where
     segment-within : Within (segmentOf s main st c n)
     unfolding segmentOf placeOf Within
     segment-within =
-        body-within 2 (λ (next : ℕ). onTag (tagOf s st c n) (Go (moved st next (st .res))) (λ (r : ℕ). cond (resolves main r) (Go (moved st next r)) (refused (BadRes (n + 10)))))
+        body-within 2 (λ (next : ℕ). onTag (tagOf s st c n) (Go (moved st next (st .said .res))) (λ (r : ℕ). cond (resolves main r) (Go (moved st next r)) (refused (BadRes (n + 10)))))
         λ next lo hi e. by next hi e (tagOf s st c n) refl
       where
         by : (next : ℕ) → next ≤ length s → next ≡ n + be16At s n → (x : Tag) → tagOf s st c n ≡ x
-            → Within (onTag x (Go (moved st next (st .res))) (λ (r : ℕ). cond (resolves main r) (Go (moved st next r)) (refused (BadRes (n + 10)))))
+            → Within (onTag x (Go (moved st next (st .said .res))) (λ (r : ℕ). cond (resolves main r) (Go (moved st next r)) (refused (BadRes (n + 10)))))
         by next hi z Plain q = hi
         by next hi z (Gives v) q =
             cond-with Within (resolves main v) (λ y. hi) (λ y. let l = tag-long s st c n v q in let u : n + 10 ≤ length s = omega arith in u)

@@ -6,6 +6,7 @@
 --                   with its header and its data; each with its marker's fill
 --   lengthed f c b  a marker, a length that counts itself and the body, and the body
 --   resolution ps   the resolution that the first tagged segment gives, 0 where none is
+--   saidBy b r      what a layer says of itself, by its frame's body and its resolution
 --   Layer ..        FF D8, pieces without a scan, the frame, pieces with a scan, the marker D9
 use Prim.Native.Nat.{ℕ, _+_, _≤_, _<_, _∣_}
 use mathlib.Core.Path.{_≡_}
@@ -17,6 +18,7 @@ use lib.Dec.{eqb, leb}
 use Rattle.octets.specs.Octets.{be16At, octets16, begins}
 use Rattle.sheet_rules.specs.Sentences.{Listed}
 use Rattle.jpeg_rules.specs.declared.Class.the-variants.{Frame, Segment}
+use Rattle.jpeg_rules.specs.declared.Said.{Said}
 use Rattle.jpeg_rules.specs.Marker.{classOf}
 
 -- T.81 B.1.1.2: any marker may be preceded by octets FF
@@ -92,7 +94,11 @@ unfoldable pub Scanned : List Piece → Type 0
 Scanned [] = ⊥
 Scanned (p ∷ ps) = (isScan p ≡ true) ⊎ Scanned ps
 
-pub record Layer (main : ℕ) (l : List ℕ) (width height res : ℕ) : Type 0 where
+-- what a frame's body says, beside the resolution
+abbrev pub saidBy : List ℕ → ℕ → Said
+saidBy body res = record { width = be16At body 3; height = be16At body 1; res = res }
+
+pub record Layer (main : ℕ) (l : List ℕ) (said : Said) : Type 0 where
   pub before : List Piece
   pub fill : ℕ
   pub code : ℕ
@@ -107,11 +113,11 @@ pub record Layer (main : ℕ) (l : List ℕ) (width height res : ℕ) : Type 0 w
   pub frame : classOf code ≡ Frame
   pub long : 8 ≤ length body + 2
   pub fits : Fits body
-  pub high : (height ≡ be16At body 1) × (height ≢ 0)
-  pub wide : (width ≡ be16At body 3) × (width ≢ 0)
+  pub says : said ≡ saidBy body (resolution before)
+  pub high : said .height ≢ 0
+  pub wide : said .width ≢ 0
   -- before the frame stands the segment that gives the resolution, which is listed and divides the main one
-  pub tag : res ≡ resolution before
-  pub listed : Listed res
-  pub divides : res ∣ main
+  pub listed : Listed (said .res)
+  pub divides : said .res ∣ main
   -- at least one scan is needed
   pub scanned : Scanned after

@@ -1,4 +1,5 @@
 pub mod Marker
+pub mod Said
 pub mod Grammar
 pub mod Walk
 pub mod Faults

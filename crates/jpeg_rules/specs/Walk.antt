@@ -26,6 +26,7 @@ use Rattle.jpeg_rules.specs.declared.Found.{Found}
 use Rattle.jpeg_rules.specs.declared.Found.the-variants.{At, Nothing}
 use Rattle.jpeg_rules.specs.declared.Tag.{Tag}
 use Rattle.jpeg_rules.specs.declared.Tag.the-variants.{Gives, Plain}
+use Rattle.jpeg_rules.specs.declared.Said.{Said}
 use Rattle.jpeg_rules.specs.declared.Reach.{Reach}
 use Rattle.jpeg_rules.specs.declared.Walk.{Walk}
 use Rattle.jpeg_rules.specs.declared.Walk.the-variants.{Ends}
@@ -69,21 +70,22 @@ resolves main r = listed r && divides r main
 -- the first FF E1 of length 12 or more with the tag gives the resolution
 unfoldable pub tagOf : List ℕ → Reach → ℕ → ℕ → Tag
 tagOf s st c n =
-    cond (eqb c 0xE1 && eqb (st .res) 0 && leb 12 (be16At s n) && standsAt s (n + 2) g3fax) (Gives (be16At s (n + 10))) Plain
+    cond (eqb c 0xE1 && eqb (st .said .res) 0 && leb 12 (be16At s n) && standsAt s (n + 2) g3fax) (Gives (be16At s (n + 10))) Plain
 
 -- ---- what is known after a frame, a scan and another marker
 
-abbrev pub framed : Reach → ℕ → ℕ → ℕ → Reach
-framed st at width height =
-    record { at = at; framed = true; scanned = st .scanned; res = st .res; width = width; height = height }
+-- with another resolution
+abbrev pub withRes : Said → ℕ → Said
+withRes said res = record { width = said .width; height = said .height; res = res }
+
+abbrev pub framed : Reach → ℕ → Said → Reach
+framed st at said = record { at = at; framed = true; scanned = st .scanned; said = said }
 
 abbrev pub passed : Reach → ℕ → Reach
-passed st at =
-    record { at = at; framed = true; scanned = true; res = st .res; width = st .width; height = st .height }
+passed st at = record { at = at; framed = true; scanned = true; said = st .said }
 
 abbrev pub moved : Reach → ℕ → ℕ → Reach
-moved st at res =
-    record { at = at; framed = st .framed; scanned = st .scanned; res = res; width = st .width; height = st .height }
+moved st at res = record { at = at; framed = st .framed; scanned = st .scanned; said = withRes (st .said) res }
 
 -- ---- one marker
 
@@ -102,18 +104,22 @@ abbrev pub onTag : Tag → Turn → (ℕ → Turn) → Turn
 onTag Plain plain go = plain
 onTag (Gives r) plain go = go r
 
+-- what a frame's body says, beside the resolution that is known
+abbrev pub frameSaid : List ℕ → Reach → ℕ → Said
+frameSaid s st n = record { width = be16At s (n + 5); height = be16At s (n + 3); res = st .said .res }
+
 -- a frame's body: height before width, neither 0
 unfoldable pub frameBodyOf : List ℕ → Reach → ℕ → ℕ → Turn
 frameBodyOf s st n next =
     cond (eqb (be16At s (n + 3)) 0) (refused (BadLayer (n + 3)))
     (cond (eqb (be16At s (n + 5)) 0) (refused (BadLayer (n + 5)))
-    (Go (framed st next (be16At s (n + 5)) (be16At s (n + 3)))))
+    (Go (framed st next (frameSaid s st n))))
 
 -- the frame: the first, after the resolution, and at least 8 long
 unfoldable pub frameOf : List ℕ → Reach → ℕ → Turn
 frameOf s st n =
     cond (st .framed) (refused (BadLayer (st .at)))
-    (cond (eqb (st .res) 0) (refused (BadLayer (st .at)))
+    (cond (eqb (st .said .res) 0) (refused (BadLayer (st .at)))
     (onBody (segOf s n 8) (λ (next : ℕ). frameBodyOf s st n next)))
 
 -- a scan: after the frame; the next marker stands after its header and its data
@@ -127,16 +133,16 @@ scanStepOf s st n =
 unfoldable pub segmentOf : List ℕ → ℕ → Reach → ℕ → ℕ → Turn
 segmentOf s main st c n =
     onBody (segOf s n 2) (λ (next : ℕ).
-    onTag (tagOf s st c n) (Go (moved st next (st .res))) (λ (r : ℕ).
+    onTag (tagOf s st c n) (Go (moved st next (st .said .res))) (λ (r : ℕ).
     cond (resolves main r) (Go (moved st next r)) (refused (BadRes (n + 10)))))
 
 -- the end: at least one scan came before
 unfoldable pub endOf : Reach → ℕ → Turn
-endOf st n = cond (st .scanned) (Stop (Ends n (st .width) (st .height) (st .res))) (refused (BadLayer (st .at)))
+endOf st n = cond (st .scanned) (Stop (Ends n (st .said))) (refused (BadLayer (st .at)))
 
 unfoldable pub markOf : List ℕ → ℕ → Reach → ℕ → ℕ → Class → Turn
 unfolding frameOf scanStepOf segmentOf endOf
-markOf s main st c n Alone = Go (moved st n (st .res))
+markOf s main st c n Alone = Go (moved st n (st .said .res))
 markOf s main st c n Frame = frameOf s st n
 markOf s main st c n Scan = scanStepOf s st n
 markOf s main st c n End = endOf st n
@@ -165,7 +171,7 @@ walkFrom zero s main st = Walk.Refused (Short (st .at))
 walkFrom (suc fuel) s main st = onTurn (turnOf s main st) (λ (t : Reach). walkFrom fuel s main t)
 
 abbrev pub begun : ℕ → Reach
-begun at = record { at = at; framed = false; scanned = false; res = 0; width = 0; height = 0 }
+begun at = record { at = at; framed = false; scanned = false; said = record { width = 0; height = 0; res = 0 } }
 
 -- FF D8, then the markers
 unfoldable pub walkOf : List ℕ → ℕ → ℕ → Walk

@@ -46,24 +46,24 @@ pub enum Tag {
     Plain,
 }
 
+// What a JPEG layer says of itself: its size and its resolution.
+pub struct Said {
+    pub width: u16,
+    pub height: u16,
+    pub res: u16,
+}
+
 // What is known where a marker is due, at `at`. A resolution of 0 is none yet.
 pub struct Reach {
     pub at: usize,
     pub framed: bool,
     pub scanned: bool,
-    pub res: u16,
-    pub width: u16,
-    pub height: u16,
+    pub said: Said,
 }
 
-// Where a layer ends, with its size and resolution; or why there is none.
+// Where a layer ends, and what it says of itself; or why there is none.
 pub enum Walk {
-    Ends {
-        next: usize,
-        width: u16,
-        height: u16,
-        res: u16,
-    },
+    Ends { next: usize, said: Said },
     Refused(Fault),
 }
 

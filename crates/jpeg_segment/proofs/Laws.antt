@@ -60,16 +60,16 @@ module _ (s : List ℕ) (st : Reach) (c n : ℕ) where
   tag-other h = simp (ne-eqb c 0xE1 h)
 
   module _ (h : c ≡ 0xE1) where
-    pub tag-second : (st .res ≡ 0 → ⊥) → Plain ≡ tagOf s st c n
+    pub tag-second : (st .said .res ≡ 0 → ⊥) → Plain ≡ tagOf s st c n
     unfolding tagOf
-    tag-second d = simp (eq-eqb c 0xE1 h, ne-eqb (st .res) 0 d)
+    tag-second d = simp (eq-eqb c 0xE1 h, ne-eqb (st .said .res) 0 d)
 
-    module _ (z : st .res ≡ 0) {next : ℕ} (y : Room s n 2 next) where
+    module _ (z : st .said .res ≡ 0) {next : ℕ} (y : Room s n 2 next) where
       pub tag-short : next - n < 12 → Plain ≡ tagOf s st c n
       unfolding tagOf
       tag-short l =
           let m : be16At s n < 12 = omega arith in
-          simp (eq-eqb c 0xE1 h, eq-eqb (st .res) 0 z, lt-leb 12 (be16At s n) m)
+          simp (eq-eqb c 0xE1 h, eq-eqb (st .said .res) 0 z, lt-leb 12 (be16At s n) m)
 
       module _ (l : 12 ≤ next - n) {b : Bool} (t : b ≡ standsAt s (n + 2) g3fax) where
         long : 12 ≤ be16At s n
@@ -77,11 +77,11 @@ module _ (s : List ℕ) (st : Reach) (c n : ℕ) where
 
         pub tag-none : b ≡ false → Plain ≡ tagOf s st c n
         unfolding tagOf
-        tag-none f = simp (eq-eqb c 0xE1 h, eq-eqb (st .res) 0 z, le-leb 12 (be16At s n) long, sym t ∙ f)
+        tag-none f = simp (eq-eqb c 0xE1 h, eq-eqb (st .said .res) 0 z, le-leb 12 (be16At s n) long, sym t ∙ f)
 
         pub tag-gives : {r : ℕ} → b ≡ true → r ≡ be16At s (n + 10) → Gives r ≡ tagOf s st c n
         unfolding tagOf
-        tag-gives f e = simp (e, eq-eqb c 0xE1 h, eq-eqb (st .res) 0 z, le-leb 12 (be16At s n) long, sym t ∙ f)
+        tag-gives f e = simp (e, eq-eqb c 0xE1 h, eq-eqb (st .said .res) 0 z, le-leb 12 (be16At s n) long, sym t ∙ f)
 
 pub ruleset tag-laws = (tag-other, tag-second, tag-short, tag-none, tag-gives)
 
@@ -92,7 +92,7 @@ module _ (s : List ℕ) (main : ℕ) (st : Reach) (c n : ℕ) {g : Seg} (z : g �
   segment-bad b = simp (sym z ∙ b)
 
   module _ {next : ℕ} (b : g ≡ Body next) {t : Tag} (e : t ≡ tagOf s st c n) where
-    pub segment-plain : {u : Reach} → t ≡ Plain → u ≡ moved st next (st .res) → Go u ≡ segmentOf s main st c n
+    pub segment-plain : {u : Reach} → t ≡ Plain → u ≡ moved st next (st .said .res) → Go u ≡ segmentOf s main st c n
     unfolding segmentOf
     segment-plain p m = rw m (simp (sym z ∙ b, sym e ∙ p))
 

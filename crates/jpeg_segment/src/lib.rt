@@ -7,6 +7,7 @@ ghost use Rattle.jpeg_segment.specs.Room.{Room};
 use jpeg_rules::Fault;
 use jpeg_rules::G3FAX;
 use jpeg_rules::Reach;
+use jpeg_rules::Said;
 use jpeg_rules::Seg;
 use jpeg_rules::Tag;
 use jpeg_rules::Turn;
@@ -38,9 +39,11 @@ pub fn moved_to(st: Reach, at: usize, res: u16) -> Reach
         at,
         framed: st.framed,
         scanned: st.scanned,
-        res,
-        width: st.width,
-        height: st.height,
+        said: Said {
+            width: st.said.width,
+            height: st.said.height,
+            res,
+        },
     }
 }
 
@@ -52,7 +55,7 @@ fn tag_of(s: &[u8], st: Reach, code: u8, n: usize, next: usize) -> Tag
     if code != 0xE1 {
         return Tag::Plain;
     }
-    if st.res != 0 {
+    if st.said.res != 0 {
         return Tag::Plain;
     }
     if next - n < 12 {
@@ -78,7 +81,7 @@ pub fn segment_step(s: &[u8], main: u16, st: Reach, code: u8, n: usize) -> Turn
     match seg_at(s, n, 2) {
         Seg::Refused(f) => Turn::Stop(Walk::Refused(f)),
         Seg::Body(next) => match tag_of(s, st, code, n, next) {
-            Tag::Plain => Turn::Go(moved_to(st, next, st.res)),
+            Tag::Plain => Turn::Go(moved_to(st, next, st.said.res)),
             Tag::Gives(r) => {
                 if resolution_fits(main, r) {
                     Turn::Go(moved_to(st, next, r))

@@ -71,7 +71,7 @@ past-scan s i = by (scanOf s i) refl
 
 abbrev pub Ahead : List ℕ → Reach → Turn → Type 0
 Ahead s st (Go t) = (st .at + 2 ≤ t .at) × (t .at ≤ length s)
-Ahead s st (Stop (Ends e w h r)) = (st .at + 2 ≤ e) × (e ≤ length s)
+Ahead s st (Stop (Ends e said)) = (st .at + 2 ≤ e) × (e ≤ length s)
 Ahead s st (Stop (Walk.Refused f)) = Unit {0}
 
 ahead-body : (s : List ℕ) (st : Reach) (n least : ℕ) (g : Seg) (f : ℕ → Turn)
@@ -89,7 +89,7 @@ module _ (s : List ℕ) (st : Reach) (n : ℕ) (l : st .at + 2 ≤ n) (m : n ≤
   unfolding frameOf frameBodyOf
   ahead-frame =
       cond-with (Ahead s st) (st .framed) (λ _. tt) λ _.
-      cond-with (Ahead s st) (eqb (st .res) 0) (λ _. tt) λ _.
+      cond-with (Ahead s st) (eqb (st .said .res) 0) (λ _. tt) λ _.
       ahead-body s st n 8 (segOf s n 8) (λ (next : ℕ). frameBodyOf s st n next) (roomy s n 8) λ next r.
       cond-with (Ahead s st) (eqb (be16At s (n + 3)) 0) (λ _. tt) λ _.
       cond-with (Ahead s st) (eqb (be16At s (n + 5)) 0) (λ _. tt) λ _. omega (arith, l)
@@ -103,7 +103,7 @@ module _ (s : List ℕ) (st : Reach) (n : ℕ) (l : st .at + 2 ≤ n) (m : n ≤
       (λ _. tt)
 
   ahead-tag : (main next : ℕ) (t : Tag) → Room s n 2 next
-      → Ahead s st (onTag t (Go (moved st next (st .res))) (λ (r : ℕ). cond (resolves main r) (Go (moved st next r)) (refused (BadRes (n + 10)))))
+      → Ahead s st (onTag t (Go (moved st next (st .said .res))) (λ (r : ℕ). cond (resolves main r) (Go (moved st next r)) (refused (BadRes (n + 10)))))
   ahead-tag main next Plain r = omega (arith, l)
   ahead-tag main next (Gives x) r = cond-with (Ahead s st) (resolves main x) (λ _. omega (arith, l)) (λ _. tt)
 
@@ -137,11 +137,11 @@ ahead s main st = ahead-marker s main st (markerOf s (st .at)) (marked s (st .at
 -- ---- the walk
 
 abbrev pub Reaches : List ℕ → ℕ → Walk → Type 0
-Reaches s at (Ends e w h r) = (at ≤ e) × (e ≤ length s)
+Reaches s at (Ends e said) = (at ≤ e) × (e ≤ length s)
 Reaches s at (Walk.Refused f) = Unit {0}
 
 further : (s : List ℕ) (i j : ℕ) → i ≤ j → (w : Walk) → Reaches s j w → Reaches s i w
-further s i j h (Ends e w x r) k = omega arith
+further s i j h (Ends e said) k = omega arith
 further s i j h (Walk.Refused f) k = tt
 
 reaches : (k : ℕ) (s : List ℕ) (main : ℕ) (st : Reach) → Reaches s (st .at) (walkFrom k s main st)
@@ -151,7 +151,7 @@ reaches (suc k) s main st = by (turnOf s main st) (ahead s main st) (λ u. reach
   where
     by : (t : Turn) → Ahead s st t → ((u : Reach) → Reaches s (u .at) (walkFrom k s main u)) → Reaches s (st .at) (onTurn t (λ (u : Reach). walkFrom k s main u))
     by (Go t) h more = further s (st .at) (t .at) (omega arith) (walkFrom k s main t) (more t)
-    by (Stop (Ends e w x r)) h more = omega arith
+    by (Stop (Ends e said)) h more = omega arith
     by (Stop (Walk.Refused f)) h more = tt
 
 -- a walk that ends does so within the list, and not before its start

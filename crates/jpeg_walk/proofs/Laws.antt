@@ -61,7 +61,7 @@ module _ (s : List ℕ) (main : ℕ) (st : Reach) (c n : ℕ) {k : Class} (e : k
   said : (x : Step) {t u : Turn} → t ≡ u → Leads s main x t → Leads s main x u
   said x q h = subst (Leads s main x) q h
 
-  pub mark-alone : {u : Reach} (x : Step) → k ≡ Alone → u ≡ moved st n (st .res) → ((m : ℕ) → Leads s m x (Go u))
+  pub mark-alone : {u : Reach} (x : Step) → k ≡ Alone → u ≡ moved st n (st .said .res) → ((m : ℕ) → Leads s m x (Go u))
       → Leads s main x (markOf s main st c n (classOf c))
   unfolding markOf
   mark-alone x a y h = said x (ap Go y ∙ classed a) (h main)

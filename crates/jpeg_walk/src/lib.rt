@@ -10,6 +10,7 @@ use jpeg_rules::Class;
 use jpeg_rules::Fault;
 use jpeg_rules::Marker;
 use jpeg_rules::Reach;
+use jpeg_rules::Said;
 use jpeg_rules::Turn;
 use jpeg_rules::Walk;
 
@@ -33,7 +34,7 @@ fn mark_step(s: &[u8], main: u16, st: Reach, code: u8, n: usize) -> Step
     ensures { λ r. ⌜ Leads (now (s .entry)) main r (markOf (now (s .entry)) main st code n (classOf code)) ⌝ }
 {
     match jpeg_marker::class_of(code) {
-        Class::Alone => after(s, Turn::Go(jpeg_segment::moved_to(st, n, st.res))),
+        Class::Alone => after(s, Turn::Go(jpeg_segment::moved_to(st, n, st.said.res))),
         Class::Frame => after(s, jpeg_marks::frame_step(s, st, n)),
         Class::Scan => jpeg_marks::scan_step(s, st, n),
         Class::End => after(s, jpeg_marks::end_step(st, n)),
@@ -64,9 +65,11 @@ pub fn walk_layer(s: &[u8], start: usize, main: u16) -> Walk
             at: start + 2,
             framed: false,
             scanned: false,
-            res: 0,
-            width: 0,
-            height: 0,
+            said: Said {
+                width: 0,
+                height: 0,
+                res: 0,
+            },
         }),
     );
     loop {

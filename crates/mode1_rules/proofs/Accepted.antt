@@ -21,6 +21,7 @@ use Rattle.sheet_rules.specs.Sentences.{Coded, Uncoded as UncodedRecord, CoderO
 use Rattle.sheet_rules.proofs.New.{CodedFacts, UncodedFacts, ResFacts, New, says-choice}
 use Rattle.sheet_rules.proofs.Backward.{listed-nonzero}
 use Rattle.sheet_rules.proofs.Fold.{step-next}
+use Rattle.jpeg_rules.specs.declared.Said.{Said}
 use Rattle.jpeg_rules.specs.Grammar.{Layer}
 use Rattle.segment_rules.specs.declared.Mode.{Mode}
 use Rattle.segment_rules.specs.declared.Mode.the-variants.{One}
@@ -45,22 +46,22 @@ record ImageFacts (main k l : ℕ) (b : Bool) (r : Record) : Type 0 where
   listed : Listed (r .res)
   res : ResFacts b (r .res) main
 
-layer-size : {main w h r : ℕ} (l : List ℕ) → Layer main l w h r → length l ≢ 0
+layer-size : {main : ℕ} {said : Said} (l : List ℕ) → Layer main l said → length l ≢ 0
 layer-size l y z = let a = ap length (y .octets) in omega arith
 
 image-facts : (hd : Head) (k l at : ℕ) (base : Colour) (x y : ℕ) (b : Bool) (o : List ℕ) (c : LayerData) → (l % 2 ≡ 1) → Listed (hd .main) → at + length o ≤ longestPage
     → Image (hd .main) at b o c → ImageFacts (hd .main) k l b (imageRecord hd k l base x y c)
 unfolding imageRecord
-image-facts hd k l at base x y b o c odd g small (there {w = w} {h = h} {r = r} z) =
+image-facts hd k l at base x y b o c odd g small (there {said = said} z) =
     let nz = layer-size o z in
     record {
       stripe-is = refl;
       layer-is = refl;
       zeros = (refl, refl);
       coded-is = says-not (says-eq (length o) 0) .shown nz;
-      contents = inl (nz, record { coder = inl refl; width = z .wide .1; height = z .high .1; ending = omega arith });
+      contents = inl (nz, record { coder = inl refl; width = z .wide; height = z .high; ending = omega arith });
       listed = z .listed;
-      res = record { nonzero = listed-nonzero r (z .listed); divides = z .divides; same = inl refl };
+      res = record { nonzero = listed-nonzero (said .res) (z .listed); divides = z .divides; same = inl refl };
     }
 image-facts hd k l at base x y b o c odd g small absent =
     record {

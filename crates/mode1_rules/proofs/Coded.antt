@@ -10,6 +10,7 @@ use lib.ListN.{length, take, drop}
 use Rattle.sheet_rules.specs.declared.Colour.{Colour}
 use Rattle.sheet_rules.specs.declared.Record.{Record}
 use Rattle.sheet_rules.specs.Sentences.{Among, Coded}
+use Rattle.jpeg_rules.specs.Said.{recordSaid}
 use Rattle.jpeg_rules.specs.Grammar.{Layer}
 use Rattle.start_rules.specs.declared.Head.{Head}
 use Rattle.mode1_rules.specs.declared.LayerData.{LayerData}
@@ -20,14 +21,14 @@ use Rattle.mode1_rules.proofs.Parts.{stripe-each, stripe-length, back-o
 -- the octets that a record names are within the page; those of an image layer are a JPEG layer of the record's size and resolution
 pub record Named (main : ℕ) (s : List ℕ) (r : Record) : Type 0 where
   pub inside : r .start + r .len ≤ length s
-  pub layer : (r .layer ≡ 2) ⊎ Layer main (take (r .len) (drop (r .start) s)) (r .width) (r .height) (r .res)
+  pub layer : (r .layer ≡ 2) ⊎ Layer main (take (r .len) (drop (r .start) s)) (recordSaid r)
 
 image-named : (hd : Head) (s : List ℕ) (k l at : ℕ) (base : Colour) (x y : ℕ) (b : Bool) (o : List ℕ) (c : LayerData) → Image (hd .main) at b o c
     → take (imageRecord hd k l base x y c .len) (drop (imageRecord hd k l base x y c .start) s) ≡ o → at + length o ≤ length s → Coded (imageRecord hd k l base x y c)
     → Named (hd .main) s (imageRecord hd k l base x y c)
 unfolding imageRecord
-image-named hd s k l at base x y b o c (there {w = w} {h = h} {r = r} z) e i d =
-    record { inside = i; layer = inr (subst (λ (q : List ℕ). Layer (hd .main) q w h r) (sym e) z) }
+image-named hd s k l at base x y b o c (there {said = said} z) e i d =
+    record { inside = i; layer = inr (subst (λ (q : List ℕ). Layer (hd .main) q said) (sym e) z) }
 image-named hd s k l at base x y b o c absent e i d = absurd (d refl)
 
 mask-named : (hd : Head) (s : List ℕ) (k height at n : ℕ) (b : Bool) → at + n ≤ length s → Coded (maskRecord hd k height (cond b (hd .mask) 0) (cond b at 0) n)

@@ -35,25 +35,25 @@ use Rattle.mode1_rules.specs.Faults.{BadImage, bad-image, BadLayers, cut
 
 walked-there : (s : List ℕ) (main at : ℕ) (b : Bool) (l r : List ℕ) (c : LayerData) → Image main at b l c → drop at s ≡ l ++ r → walked s main b at ≡ ok c (at + length l)
 unfolding walked onWalk
-walked-there s main at b l r c (there {w = w} {h = h} {r = res} y) e =
-    let q = layer-walk s at main l r w h res y e in
+walked-there s main at b l r c (there {said = said} y) e =
+    let q = layer-walk s at main l r said y e in
     let z : at + length l - at ≡ length l = omega arith in
-    ap (λ (x : Walk). onWalk x at) q ∙ ap (λ (n : ℕ). ok (There at n w h res) (at + length l)) z
+    ap (λ (x : Walk). onWalk x at) q ∙ ap (λ (n : ℕ). ok (There at n said) (at + length l)) z
 walked-there s main at b l r c absent e = ap (ok Absent) (sym (add-zero at))
 
 walk-back : (s : List ℕ) → Octets s → (main at : ℕ) (c : LayerData) (e : ℕ) (x : Walk) → walkOf s at main ≡ x → onWalk x at ≡ ok c e → Stood (Image main at true) s at c e
 unfolding onWalk
-walk-back s o main at c e (Ends n w h r) q z =
-    let k = walk-layer s o at main n w h r q in
+walk-back s o main at c e (Ends n said) q z =
+    let k = walk-layer s o at main n said q in
     let a : n ≡ e = cc in
-    let b : There at (n - at) w h r ≡ c = cc in
+    let b : There at (n - at) said ≡ c = cc in
     let af = k .after in
     let i = k .inside in
     let l : List ℕ = take (n - at) (drop at s) in
     let len : length l ≡ n - at = length-take-le (n - at) (drop at s) (let u = length-drop at s in omega arith) in
     record {
       octets = l;
-      is = subst (Image main at true l) (ap (λ (j : ℕ). There at j w h r) len ∙ b) (there (k .layer));
+      is = subst (Image main at true l) (ap (λ (j : ℕ). There at j said) len ∙ b) (there (k .layer));
       split = k .split ∙ ap (λ (j : ℕ). l ++ drop j s) a;
       ends = omega arith;
       inside = omega arith;
@@ -88,7 +88,7 @@ exact-image main b s at h =
     bad b (bad-image y) = ap (λ (w : Walk). onWalk w at) (layer-bad s main at refl y)
 
     by : Octets s → (x : Answer) (w : Walk) → walkOf s at main ≡ w → onWalk w at ≡ no x → BadImage main at true (drop at s) x
-    by o x (Ends n w hh r) q e = clash cc
+    by o x (Ends n said) q e = clash cc
     by o x (Refused f) q e = let z : faultOf f ≡ x = cc in subst (BadImage main at true (drop at s)) z (bad-image (walk-refused-exactly s o at main f .0 q))
 
     blame : Octets s → (x : Answer) (b : Bool) → cond b (onWalk (walkOf s at main) at) (ok Absent at) ≡ no x → BadImage main at b (drop at s) x

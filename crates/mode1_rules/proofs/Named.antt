@@ -62,7 +62,7 @@ module _ (s : List ℕ) (a : Answer) where
 
   walk-refused : (main at : ℕ) → at ≤ length s → (x : Walk) → walkOf s at main ≡ x → onWalk x at ≡ no a → Refusal (length s) a
   unfolding onWalk
-  walk-refused main at h (Ends n w e r) q z = clash cc
+  walk-refused main at h (Ends n said) q z = clash cc
   walk-refused main at h (Refused f) q z = told s a (faultOf f) (fault-refusal f (walk-within s at main h f q)) z
 
   walked-refused : (main at : ℕ) (b : Bool) → at ≤ length s → walked s main b at ≡ no a → Refusal (length s) a

@@ -27,7 +27,7 @@ use Rattle.mode1_rules.proofs.Tables.{length-fields}
 pub image-place : (hd : Head) (k l : ℕ) (base : Colour) (x y : ℕ) (c : LayerData)
     → (imageRecord hd k l base x y c .stripe ≡ k) × (imageRecord hd k l base x y c .layer ≡ l)
 unfolding imageRecord
-image-place hd k l base x y (There a n w h r) = (refl, refl)
+image-place hd k l base x y (There a n said) = (refl, refl)
 image-place hd k l base x y Absent = (refl, refl)
 
 image-at : (hd : Head) (s : List ℕ) (k l at : ℕ) (base : Colour) (x y : ℕ) (b : Bool) (o more : List ℕ) (c : LayerData) → Image (hd .main) at b o c → drop at s ≡ o ++ more

@@ -14,6 +14,7 @@ use lib.ListN.{length}
 use Rattle.octets.specs.Octets.{octets32}
 use Rattle.sheet_rules.specs.declared.Colour.{Colour}
 use Rattle.sheet_rules.specs.declared.Record.{Record}
+use Rattle.jpeg_rules.specs.declared.Said.{Said}
 use Rattle.jpeg_rules.specs.Grammar.{Layer}
 use Rattle.start_rules.specs.declared.Head.{Head}
 use Rattle.mode1_rules.specs.declared.Fields.{Fields}
@@ -56,7 +57,7 @@ pub record GoodFields (hd : Head) (left : ℕ) (f : Fields) : Type 0 where
 
 -- an image layer that the type names is a JPEG layer at a place of the page; one that it does not name has no octets
 pub data Image (main at : ℕ) : Bool → List ℕ → LayerData → Type 0 where
-  there : {l : List ℕ} {w h r : ℕ} → Layer main l w h r → Image main at true l (There at (length l) w h r)
+  there : {l : List ℕ} {said : Said} → Layer main l said → Image main at true l (There at (length l) said)
   absent : Image main at false [] Absent
 
 -- the records of a stripe: the mask's data stands after the head, then the background's, then the foreground's

@@ -41,16 +41,16 @@ offsetOk present x y = not present || leb x 65535 && leb y 65535
 
 -- an image layer: its own size and resolution where it is coded, and else nothing but its base colour
 unfoldable pub imageRecord : Head → ℕ → ℕ → Colour → ℕ → ℕ → LayerData → Record
-imageRecord hd k l base x y (There start size width height res) =
+imageRecord hd k l base x y (There start size said) =
     record {
       stripe = k;
       layer = l;
       coder = 1;
       x = x;
       y = y;
-      width = width;
-      height = height;
-      res = res;
+      width = said .width;
+      height = said .height;
+      res = said .res;
       base0 = base .c0;
       base1 = base .c1;
       base2 = base .c2;

@@ -69,7 +69,7 @@ faultOf (F.BadLayer p) = BadLayer p
 
 unfoldable pub onWalk : Walk → ℕ → Res LayerData
 unfolding faultOf
-onWalk (Ends next w h r) at = ok (There at (next - at) w h r) next
+onWalk (Ends next said) at = ok (There at (next - at) said) next
 onWalk (Refused f) at = no (faultOf f)
 
 unfoldable pub walked : List ℕ → ℕ → Bool → ℕ → Res LayerData

@@ -1,4 +1,5 @@
 // The types of a Mode 1 stripe (9.3). What it is, how it is read and where it is refused stand in specs/, that these agree in proofs/.
+use jpeg_rules::Said;
 use sheet_rules::Colour;
 
 // The octets of a stripe's body: the fields of 9.3.
@@ -17,14 +18,8 @@ pub struct Fields {
     pub maskLength: u32,
 }
 
-// Where a layer's coded data stands, and the size and resolution that it says of itself; or no coded data.
+// Where a layer's coded data stands, and what it says of itself; or no coded data.
 pub enum LayerData {
-    There {
-        start: u32,
-        size: u32,
-        width: u16,
-        height: u16,
-        res: u16,
-    },
+    There { start: u32, size: u32, said: Said },
     Absent,
 }

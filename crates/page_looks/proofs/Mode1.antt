@@ -80,11 +80,11 @@ near-fault s (F.BadLayer p) look k = let a = k .0 in let b = k .1 in record { pa
 module _ (s : List ℕ) (o : Octets s) (main : ℕ) where
   walk-looked : (at : ℕ) (x : Walk) → walkOf s at main ≡ x → Whole (onWalk x at) → Looked (walkLook s at main) (λ (t : List ℕ). onWalk (walkOf t at main) at) s at
   unfolding onWalk faultOf J.NearWalk
-  walk-looked at (Ends e w h r) q u =
+  walk-looked at (Ends e said) q u =
       let y = J.walk-hangs s o at main (λ p z. clash cc) in
       let z : walkLook s at main ≡ e = subst (J.NearWalk s (walkLook s at main)) q (y .near) in
-      looked-then s (λ (t : List ℕ). walkOf t at main) (λ (x : Walk) (t : List ℕ). onWalk x at) (Ends e w h r) (walkLook s at main) (walkLook s at main) at q (y .hangs)
-      (subst (λ (l : ℕ). Looked l (λ (t : List ℕ). onWalk (Ends e w h r) at) s l) (sym z) (looked-ok s (There at (e - at) w h r) e (let i = y .hangs .inside in omega arith)))
+      looked-then s (λ (t : List ℕ). walkOf t at main) (λ (x : Walk) (t : List ℕ). onWalk x at) (Ends e said) (walkLook s at main) (walkLook s at main) at q (y .hangs)
+      (subst (λ (l : ℕ). Looked l (λ (t : List ℕ). onWalk (Ends e said) at) s l) (sym z) (looked-ok s (There at (e - at) said) e (let i = y .hangs .inside in omega arith)))
   walk-looked at (Refused f) q u =
       let y = J.walk-hangs s o at main (λ p z. u p (ap (λ (x : Walk). onWalk x at) (sym q ∙ z))) in
       looked-then s (λ (t : List ℕ). walkOf t at main) (λ (x : Walk) (t : List ℕ). onWalk x at) (Refused f) (walkLook s at main) (walkLook s at main) at q (y .hangs)

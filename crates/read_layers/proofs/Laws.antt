@@ -16,6 +16,7 @@ use Rattle.answers.specs.declared.Answer.{Answer}
 use Rattle.answers.specs.declared.Answer.the-variants as A
 use Rattle.answers.specs.Answers.{placeOf}
 use Rattle.field_rules.specs.Field.{Res, ok, no}
+use Rattle.jpeg_rules.specs.declared.Said.{Said}
 use Rattle.jpeg_rules.specs.declared.Fault.{Fault}
 use Rattle.jpeg_rules.specs.declared.Fault.the-variants.{Short, BadLength, BadRes, BadLayer}
 use Rattle.jpeg_rules.specs.declared.Walk.{Walk}
@@ -53,8 +54,8 @@ module _ (s : List ℕ) (main at : ℕ) (b : Bool) where
     unfolding walked layerOf onWalk
     layer-wrong z h = simp (y, h, sym e ∙ z)
 
-    module _ {next width height res : ℕ} (z : w ≡ Ends next width height res) where
-      pub layer-known : Known (There at (next - at) width height res) next ≡ layerOf (walked s main b at)
+    module _ {next : ℕ} {said : Said} (z : w ≡ Ends next said) where
+      pub layer-known : Known (There at (next - at) said) next ≡ layerOf (walked s main b at)
       unfolding walked layerOf onWalk
       layer-known = simp (y, sym e ∙ z)
 
@@ -73,13 +74,13 @@ module _ (s : List ℕ) (main at : ℕ) (i : Inside s at) {w : Walk} (e : w ≡ 
       let p = place-same f in
       omega arith
 
-  pub next-after : {next width height res : ℕ} → w ≡ Ends next width height res → at ≤ next
+  pub next-after : {next : ℕ} {said : Said} → w ≡ Ends next said → at ≤ next
   next-after z = let h = rw (sym e ∙ z) at (walk-inside s at main) in h .0
 
-  pub next-fits : {next width height res : ℕ} → w ≡ Ends next width height res → Fits w32 next
+  pub next-fits : {next : ℕ} {said : Said} → w ≡ Ends next said → Fits w32 next
   next-fits z = let h = rw (sym e ∙ z) at (walk-inside s at main) in let n = h .1 in let l = i .small in record { fits = omega arith }
 
-  pub size-fits : {next width height res : ℕ} → w ≡ Ends next width height res → Fits w32 (next - at)
+  pub size-fits : {next : ℕ} {said : Said} → w ≡ Ends next said → Fits w32 (next - at)
   size-fits z = let h = rw (sym e ∙ z) at (walk-inside s at main) in let n = h .1 in let l = i .small in record { fits = omega arith }
 
 pub ruleset layer-laws = (needs, layer-absent, layer-wrong, layer-known, fault-small, next-after, next-fits, size-fits)
@@ -136,7 +137,7 @@ unfolding walked onWalk
 walked-between s main true at c n h e = by (walkOf s at main) (walk-inside s at main) e
   where
     by : (w : Walk) → Reaches s at w → onWalk w at ≡ ok c n → (at ≤ n) × (n ≤ length s)
-    by (Ends next a b r) k e = let p : next ≡ n = cc in let q = k .1 in omega arith
+    by (Ends next said) k e = let p : next ≡ n = cc in let q = k .1 in omega arith
     by (Walk.Refused f) k e = clash cc
 walked-between s main false at c n h e = let p : at ≡ n = cc in omega arith
 

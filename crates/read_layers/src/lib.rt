@@ -46,18 +46,11 @@ fn layer_at(s: &[u8], main: u16, present: bool, at: u32) -> Layer
 {
     if present {
         match jpeg_walk::walk_layer(s, at as usize, main) {
-            Walk::Ends {
-                next,
-                width,
-                height,
-                res,
-            } => Layer::Known {
+            Walk::Ends { next, said } => Layer::Known {
                 coded: LayerData::There {
                     start: at,
                     size: (next - at as usize) as u32,
-                    width,
-                    height,
-                    res,
+                    said,
                 },
                 next: next as u32,
             },

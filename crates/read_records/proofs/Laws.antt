@@ -20,6 +20,7 @@ use Rattle.mode1_rules.specs.declared.LayerData.{LayerData}
 use Rattle.mode1_rules.specs.declared.LayerData.the-variants.{There, Absent}
 use Rattle.mode1_rules.specs.Kinds.{hasMask, imageRecord, maskRecord}
 use Rattle.mode1_rules.specs.Grammar.{recordsOf}
+use Rattle.jpeg_rules.specs.declared.Said.{Said}
 use Rattle.read_records.specs.Places.{Placed, Room}
 
 -- ---- coder_if and start_if
@@ -32,7 +33,7 @@ if-none t v e y = simp (sym e ∙ y)
 pub ruleset if-laws = (needs, if-mask, if-none)
 
 -- ---- image_record
-module _ (c : LayerData) (x y : ℕ) (p : Placed c x y) {start size width height res : ℕ} (z : c ≡ There start size width height res) where
+module _ (c : LayerData) (x y : ℕ) (p : Placed c x y) {start size : ℕ} {said : Said} (z : c ≡ There start size said) where
   low : (x ≤ 65535) × (y ≤ 65535)
   low = rw z at p
 
@@ -43,8 +44,8 @@ module _ (c : LayerData) (x y : ℕ) (p : Placed c x y) {start size width height
   down-low = low .1
 
 module _ (hd : Head) (k layer : ℕ) (base : Colour) (x y : ℕ) (c : LayerData) where
-  pub image-there : {start size width height res u v : ℕ} → c ≡ There start size width height res → u ≡ x → v ≡ y
-      → imageRecord hd k layer base u v (There start size width height res) ≡ imageRecord hd k layer base x y c
+  pub image-there : {start size u v : ℕ} {said : Said} → c ≡ There start size said → u ≡ x → v ≡ y
+      → imageRecord hd k layer base u v (There start size said) ≡ imageRecord hd k layer base x y c
   unfolding imageRecord
   image-there z d f = rw (z, d, f) refl
 

@@ -11,7 +11,7 @@ use Rattle.mode1_rules.specs.declared.LayerData.{LayerData}
 use Rattle.mode1_rules.specs.declared.LayerData.the-variants.{There, Absent}
 
 abbrev pub Placed : LayerData → ℕ → ℕ → Type 0
-Placed (There start size width height res) x y = (x ≤ 65535) × (y ≤ 65535)
+Placed (There start size said) x y = (x ≤ 65535) × (y ≤ 65535)
 Placed Absent x y = Unit {0}
 
 pub record Room (out : List ℕ) (to : ℕ) (f : Fields) (back fore : LayerData) : Type 0 where

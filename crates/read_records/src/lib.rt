@@ -53,21 +53,15 @@ fn image_record(hd: Head, k: u16, layer: u8, base: Colour, x: u32, y: u32, c: La
     ensures { λ r. ⌜ r ≡ imageRecord hd k layer base x y c ⌝ }
 {
     match c {
-        LayerData::There {
-            start,
-            size,
-            width,
-            height,
-            res,
-        } => Record {
+        LayerData::There { start, size, said } => Record {
             stripe: k,
             layer,
             coder: 1,
             x: narrow(x),
             y: narrow(y),
-            width,
-            height,
-            res,
+            width: said.width,
+            height: said.height,
+            res: said.res,
             base0: base.c0,
             base1: base.c1,
             base2: base.c2,

@@ -37,7 +37,7 @@ use Rattle.read_stripe.proofs.Layers.{layers-parts, layers-refused, lay
 -- ---- stripe_layers
 
 placed-any : (c : LayerData) (x y : ℕ) → x ≤ 65535 → y ≤ 65535 → Placed c x y
-placed-any (There start size width height res) x y p q = (p, q)
+placed-any (There start size said) x y p q = (p, q)
 placed-any Absent x y p q = tt
 
 -- a layer that is coded is one that the type names

@@ -15,6 +15,7 @@ use Rattle.sheet_rules.specs.Record.{records, sheetOf}
 use Rattle.sheet_rules.specs.Judge.{coded}
 use Rattle.sheet_rules.specs.Sentences.{Among, Sheet}
 use Rattle.sheet_rules.proofs.New.{says-coded}
+use Rattle.jpeg_rules.specs.Said.{recordSaid}
 use Rattle.jpeg_rules.specs.Grammar.{Layer}
 use Rattle.start_rules.specs.Grammar.{startOf}
 use Rattle.page_rules.specs.Grammar.{Page}
@@ -61,8 +62,8 @@ module _ (s : List ℕ) (rs : List Record) (y : Page s rs) (short : length s ≤
       record {
         fits = λ r m c. page-named s rs y r m c .inside;
         layers = λ r m c n.
-            subst (λ (j : ℕ). Layer j (layerOctets s r) (r .width) (r .height) (r .res)) e
-            (⊎-elim (λ (z : r .layer ≡ 2). absurd (n z)) (λ (z : Layer (y .head .main) (layerOctets s r) (r .width) (r .height) (r .res)). z) (page-named s rs y r m c .layer));
+            subst (λ (j : ℕ). Layer j (layerOctets s r) (recordSaid r)) e
+            (⊎-elim (λ (z : r .layer ≡ 2). absurd (n z)) (λ (z : Layer (y .head .main) (layerOctets s r) (recordSaid r)). z) (page-named s rs y r m c .layer));
         coders = λ r q m j c w e f. lent r m .mask c e ∙ sym (lent q j .mask w f);
       }
 

@@ -8,6 +8,7 @@ use mathlib.Core.List.{List}
 use lib.ListN.{take, drop}
 use lib.Dec.{eqb}
 use borrow.Author.Needs.{needs}
+use Rattle.jpeg_rules.specs.declared.Said.{Said}
 use Rattle.jpeg_rules.specs.declared.Fault.{Fault}
 use Rattle.jpeg_rules.specs.declared.Walk.{Walk}
 use Rattle.jpeg_rules.specs.declared.Walk.the-variants.{Ends, Refused}
@@ -18,9 +19,9 @@ use Rattle.write_rules.specs.Layer.{endsAs, agrees}
 pub ends-refused : (w : Walk) (r : Record) (f : Fault) → w ≡ Refused f → false ≡ endsAs w r
 ends-refused w r f e = rw e refl
 
-pub ends-compared : (w : Walk) (r : Record) (next width height res : ℕ) → w ≡ Ends next width height res
-    → eqb next (r .len) && eqb width (r .width) && eqb height (r .height) && eqb res (r .res) ≡ endsAs w r
-ends-compared w r next width height res e = rw e refl
+pub ends-compared : (w : Walk) (r : Record) (next : ℕ) (said : Said) → w ≡ Ends next said
+    → eqb next (r .len) && eqb (said .width) (r .width) && eqb (said .height) (r .height) && eqb (said .res) (r .res) ≡ endsAs w r
+ends-compared w r next said e = rw e refl
 
 pub data-walked : (d : List ℕ) (main : ℕ) (r : Record) {w : Walk} {b : Bool} (to : ℕ) → to ≡ r .start + r .len
     → w ≡ walkOf (take (to - r .start) (drop (r .start) d)) 0 main → b ≡ endsAs w r → b ≡ agrees d main r

@@ -12,13 +12,11 @@ fn ends_as(w: Walk, r: Record) -> bool
 {
     match w {
         Walk::Refused(f) => false,
-        Walk::Ends {
-            next,
-            width,
-            height,
-            res,
-        } => {
-            (next == r.len as usize) & (width == r.width) & (height == r.height) & (res == r.res)
+        Walk::Ends { next, said } => {
+            (next == r.len as usize)
+                & (said.width == r.width)
+                & (said.height == r.height)
+                & (said.res == r.res)
         }
     }
 }

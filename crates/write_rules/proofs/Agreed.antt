@@ -2,7 +2,7 @@
 -- Assumes nothing.
 use Prim.Native.Nat.{ℕ, _+_, _-_, _≤_, _<_}
 use native.Mathlib.Omega.{arith}
-use mathlib.Core.Path.{_≡_, refl, sym, ap, subst, _∙_}
+use mathlib.Core.Path.{_≡_, refl, sym, ap, ap₂, subst, _∙_}
 use mathlib.Core.Logic.{_⊎_}
 use mathlib.Core.Bool.{Bool, true, false, cond, false≢true}
 use mathlib.Core.List.{List, [], append-nil}
@@ -20,6 +20,8 @@ use Rattle.segment_rules.specs.declared.Mode.{Mode}
 use Rattle.sheet_rules.specs.declared.Record.{Record}
 use Rattle.sheet_rules.specs.Sentences.{Coded}
 use Rattle.sheet_rules.proofs.New.{says-coded}
+use Rattle.jpeg_rules.specs.Said.{recordSaid}
+use Rattle.jpeg_rules.specs.declared.Said.{Said}
 use Rattle.jpeg_rules.specs.declared.Walk.{Walk}
 use Rattle.jpeg_rules.specs.declared.Walk.the-variants.{Ends, Refused}
 use Rattle.jpeg_rules.specs.Grammar.{Layer}
@@ -38,11 +40,14 @@ says-cond {a = false} p q r =
 
 -- ---- agreement
 
-says-ends : (x : Walk) (r : Record) → Says (endsAs x r) (x ≡ Ends (r .len) (r .width) (r .height) (r .res))
-says-ends (Ends n w h s) r =
-    says-as (says-and (says-and (says-and (says-eq n (r .len)) (says-eq w (r .width))) (says-eq h (r .height))) (says-eq s (r .res)))
-    (λ k. let a = k .0 .0 .0 in let b = k .0 .0 .1 in let c = k .0 .1 in let d = k .1 in cc)
-    (λ e. (((cc, cc), cc), cc))
+says-ends : (x : Walk) (r : Record) → Says (endsAs x r) (x ≡ Ends (r .len) (recordSaid r))
+says-ends (Ends n said) r =
+    says-as (says-and (says-and (says-and (says-eq n (r .len)) (says-eq (said .width) (r .width))) (says-eq (said .height) (r .height))) (says-eq (said .res) (r .res)))
+    (λ k. ap₂ Ends (k .0 .0 .0) (λ i. record { width = k .0 .0 .1 i; height = k .0 .1 i; res = k .1 i }))
+    (λ e.
+    let n-is : n ≡ r .len = cc in
+    let said-is : said ≡ recordSaid r = cc in
+    (((n-is, ap (λ (x : Said). x .width) said-is), ap (λ (x : Said). x .height) said-is), ap (λ (x : Said). x .res) said-is))
 says-ends (Refused f) r = says-as says-false (λ k. absurd k) (λ e. clash cc)
 
 module _ (d : List ℕ) (o : Octets d) (r : Record) (h : r .start + r .len ≤ length d) where
@@ -50,27 +55,27 @@ module _ (d : List ℕ) (o : Octets d) (r : Record) (h : r .start + r .len ≤ l
   length-data = length-take-le (r .len) (drop (r .start) d) (let l = length-drop (r .start) d in omega arith)
 
   -- the walk of a record's data ends as the record says exactly if they are such a layer
-  pub says-agrees : (main : ℕ) → Says (agrees d main r) (Layer main (layerOctets d r) (r .width) (r .height) (r .res))
+  pub says-agrees : (main : ℕ) → Says (agrees d main r) (Layer main (layerOctets d r) (recordSaid r))
   unfolding agrees
   says-agrees main = says-as (says-ends (walkOf (layerOctets d r) 0 main) r) to back
     where
-      to : walkOf (layerOctets d r) 0 main ≡ Ends (r .len) (r .width) (r .height) (r .res) → Layer main (layerOctets d r) (r .width) (r .height) (r .res)
+      to : walkOf (layerOctets d r) 0 main ≡ Ends (r .len) (recordSaid r) → Layer main (layerOctets d r) (recordSaid r)
       to e =
-          let y = walk-exactly (layerOctets d r) (octets-take (r .len) (drop (r .start) d) (octets-drop (r .start) d o)) 0 main (r .len) (r .width) (r .height) (r .res) .0 e in
+          let y = walk-exactly (layerOctets d r) (octets-take (r .len) (drop (r .start) d) (octets-drop (r .start) d o)) 0 main (r .len) (recordSaid r) .0 e in
           let n = length-data in
-          subst (λ (l : List ℕ). Layer main l (r .width) (r .height) (r .res)) (take-all (r .len - 0) (layerOctets d r) (omega arith)) (y .layer)
+          subst (λ (l : List ℕ). Layer main l (recordSaid r)) (take-all (r .len - 0) (layerOctets d r) (omega arith)) (y .layer)
 
-      back : Layer main (layerOctets d r) (r .width) (r .height) (r .res) → walkOf (layerOctets d r) 0 main ≡ Ends (r .len) (r .width) (r .height) (r .res)
+      back : Layer main (layerOctets d r) (recordSaid r) → walkOf (layerOctets d r) 0 main ≡ Ends (r .len) (recordSaid r)
       back y =
           let n = length-data in
           let z : 0 + length (layerOctets d r) ≡ r .len = omega arith in
-          layer-walk (layerOctets d r) 0 main (layerOctets d r) [] (r .width) (r .height) (r .res) y (sym (append-nil (layerOctets d r)))
-          ∙ ap (λ (k : ℕ). Ends k (r .width) (r .height) (r .res)) z
+          layer-walk (layerOctets d r) 0 main (layerOctets d r) [] (recordSaid r) y (sym (append-nil (layerOctets d r)))
+          ∙ ap (λ (k : ℕ). Ends k (recordSaid r)) z
 
   -- what is asked of a record
   abbrev pub Meets : ℕ → Tally → Type 0
   Meets main t =
-      Coded r → (r .layer ≡ 2 → (t .mask ≡ 0) ⊎ (t .mask ≡ r .coder)) × ((r .layer ≡ 2 → ⊥) → Layer main (layerOctets d r) (r .width) (r .height) (r .res))
+      Coded r → (r .layer ≡ 2 → (t .mask ≡ 0) ⊎ (t .mask ≡ r .coder)) × ((r .layer ≡ 2 → ⊥) → Layer main (layerOctets d r) (recordSaid r))
 
   pub says-matches : (main : ℕ) (t : Tally) → Says (matches d main t r) (Meets main t)
   unfolding matches

@@ -29,6 +29,7 @@ use Rattle.sheet_rules.specs.Sentences.{Among, Coded, Sheet, stripeCount, BadSh
 use Rattle.sheet_rules.proofs.Among.{among-new, among-old, all-more, pair-more}
 use Rattle.sheet_rules.proofs.Fold.{begun-unbroken, unbroken-begun}
 use Rattle.sheet_rules.proofs.Theorems.{sheet-accepted, sheet-refused}
+use Rattle.jpeg_rules.specs.Said.{recordSaid}
 use Rattle.jpeg_rules.specs.Grammar.{Layer}
 use Rattle.write_rules.specs.declared.Tally.{Tally}
 use Rattle.write_rules.specs.Layer.{layerOctets}
@@ -194,7 +195,7 @@ module _ (mode : Mode) (d : List ℕ) (o : Octets d) (main : ℕ) (rs : List Rec
       (record {
         fits = all-more (take i rs) (nth rs i) (λ r. Coded r → r .start + r .len ≤ length d) (λ r k c. q .inside r k) (λ c. h);
         layers =
-            all-more (take i rs) (nth rs i) (λ r. Coded r → r .layer ≢ 2 → Layer main (layerOctets d r) (r .width) (r .height) (r .res)) (q .layer) (λ c. m c .1);
+            all-more (take i rs) (nth rs i) (λ r. Coded r → r .layer ≢ 2 → Layer main (layerOctets d r) (recordSaid r)) (q .layer) (λ c. m c .1);
         coders =
             pair-more (take i rs) (nth rs i) (λ r q. Coded r → Coded q → r .layer ≡ 2 → q .layer ≡ 2 → r .coder ≡ q .coder)
             (λ r x j k c v e f. sym (q .mask r j c e) ∙ q .mask x k v f)

@@ -18,6 +18,7 @@ use Rattle.sheet_rules.specs.Judge.{coded}
 use Rattle.sheet_rules.specs.Sentences.{Among, Coded, Uncoded, heights}
 use lib.Dec.{eqb}
 use Rattle.sheet_rules.proofs.New.{BaseFacts, ChoiceFacts, says-coded}
+use Rattle.jpeg_rules.specs.Said.{recordSaid}
 use Rattle.jpeg_rules.specs.Grammar.{Layer}
 use Rattle.start_rules.specs.declared.Head.{Head}
 use Rattle.mode1_rules.specs.Kinds.{stripeBody, hasBack, hasMask, hasFore, maskRecord}
@@ -122,8 +123,8 @@ moved1 d at q =
 module _ (d : List ℕ) (hd : Head) (k left at : ℕ) (a b c : Record) (t : Three hd k left a b c)
     (za : Sized a) (zb : Sized b) (zc : Sized c)
     (na : length (layerOctets d a) ≡ a .len) (nb : length (layerOctets d b) ≡ b .len) (nc : length (layerOctets d c) ≡ c .len)
-    (ya : Coded a → Layer (hd .main) (layerOctets d a) (a .width) (a .height) (a .res))
-    (yc : Coded c → Layer (hd .main) (layerOctets d c) (c .width) (c .height) (c .res))
+    (ya : Coded a → Layer (hd .main) (layerOctets d a) (recordSaid a))
+    (yc : Coded c → Layer (hd .main) (layerOctets d c) (recordSaid c))
     (mb : Coded b → hd .mask ≡ b .coder) (ia : Coded a → hd .image ≡ 1) (ic : Coded c → hd .image ≡ 1) where
   backIs : hasBack (typeBy (coded a) (coded b) (coded c)) ≡ coded a
   backIs = back-bit (coded a) (coded b) (coded c)
@@ -228,8 +229,8 @@ module _ (d : List ℕ) (hd : Head) (rs : List Record) (y : Ready d hd rs) (k le
       let mc = f c (List·Memᴰ·tail (List·Memᴰ·tail (List·Memᴰ·head refl))) in
       let na : a .layer ≢ 2 = λ z. omega arith in
       let nc : c .layer ≢ 2 = λ z. omega arith in
-      let ya : Coded a → Layer (hd .main) (layerOctets d a) (a .width) (a .height) (a .res) = λ e. y .layer a ma e na in
-      let yc : Coded c → Layer (hd .main) (layerOctets d c) (c .width) (c .height) (c .res) = λ e. y .layer c mc e nc in
+      let ya : Coded a → Layer (hd .main) (layerOctets d a) (recordSaid a) = λ e. y .layer a ma e na in
+      let yc : Coded c → Layer (hd .main) (layerOctets d c) (recordSaid c) = λ e. y .layer c mc e nc in
       record {
         stripe =
             lands d hd k left at a b c t (y .sized a ma) (y .sized b mb) (y .sized c mc) (y .long a ma) (y .long b mb) (y .long c mc) ya yc (λ e. y .mask b mb e (l .1))

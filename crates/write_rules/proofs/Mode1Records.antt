@@ -12,6 +12,7 @@ use Rattle.laws.specs.Tests.{only}
 use Rattle.sheet_rules.specs.Judge.{coded}
 use Rattle.sheet_rules.specs.Sentences.{Coded, Uncoded, CoderOf}
 use Rattle.sheet_rules.proofs.New.{BaseFacts, ChoiceFacts, says-coded}
+use Rattle.jpeg_rules.specs.Said.{recordSaid}
 use Rattle.jpeg_rules.specs.Grammar.{Layer}
 use Rattle.start_rules.specs.declared.Head.{Head}
 use Rattle.mode1_rules.specs.declared.LayerData.{LayerData}
@@ -79,10 +80,10 @@ record-by r q e1 e2 e3 e4 e5 e6 e7 e8 e9 e10 e11 e12 e13 e14 e15 = let all : sta
 
 -- what the page says of an image layer's data at a place
 unfoldable pub imageIs : Bool → Record → List ℕ → ℕ → LayerData
-imageIs true r l at = There at (length l) (r .width) (r .height) (r .res)
+imageIs true r l at = There at (length l) (recordSaid r)
 imageIs false r l at = Absent
 
-pub image-made : (main at : ℕ) (d : List ℕ) (r : Record) → (Coded r → Layer main (layerOctets d r) (r .width) (r .height) (r .res))
+pub image-made : (main at : ℕ) (d : List ℕ) (r : Record) → (Coded r → Layer main (layerOctets d r) (recordSaid r))
     → Image main at (coded r) (layerOctets d r) (imageIs (coded r) r (layerOctets d r) at)
 unfolding imageIs
 image-made main at d r y = go (coded r) refl

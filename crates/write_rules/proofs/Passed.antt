@@ -20,6 +20,7 @@ use Rattle.sheet_rules.specs.Record.{blank, nth, sumOf}
 use Rattle.sheet_rules.specs.Judge.{coded}
 use Rattle.sheet_rules.specs.Sentences.{Among, Coded, Uncoded, CoderOf}
 use Rattle.sheet_rules.proofs.New.{says-coded}
+use Rattle.jpeg_rules.specs.Said.{recordSaid}
 use Rattle.jpeg_rules.specs.Grammar.{Layer}
 use Rattle.write_rules.specs.declared.Tally.{Tally}
 use Rattle.write_rules.specs.Layer.{layerOctets}
@@ -97,7 +98,7 @@ module _ (mode : Mode) (t : Tally) (r : Record) where
 
 pub record Passed (mode : Mode) (d : List ℕ) (main : ℕ) (t u : Tally) (rs : List Record) : Type 0 where
   pub inside : (r : Record) → Among r rs → r .start + r .len ≤ length d
-  pub layer : (r : Record) → Among r rs → Coded r → r .layer ≢ 2 → Layer main (layerOctets d r) (r .width) (r .height) (r .res)
+  pub layer : (r : Record) → Among r rs → Coded r → r .layer ≢ 2 → Layer main (layerOctets d r) (recordSaid r)
   pub mask : (r : Record) → Among r rs → Coded r → r .layer ≡ 2 → u .mask ≡ r .coder
   pub maskKept : t .mask ≢ 0 → u .mask ≡ t .mask
   pub maskUsed : (u .mask ≡ t .mask) ⊎ UsedMask rs
@@ -123,7 +124,7 @@ passed-more mode d o main t u r rs p h m k =
     let here : Among r (r ∷ rs) = List·Memᴰ·head refl in
     record {
       inside = each r rs (λ q. q .start + q .len ≤ length d) h (k .inside);
-      layer = each r rs (λ q. Coded q → q .layer ≢ 2 → Layer main (layerOctets d q) (q .width) (q .height) (q .res)) (λ c e. m c .1 e) (k .layer);
+      layer = each r rs (λ q. Coded q → q .layer ≢ 2 → Layer main (layerOctets d q) (recordSaid q)) (λ c e. m c .1 e) (k .layer);
       mask =
           each r rs (λ q. Coded q → q .layer ≡ 2 → u .mask ≡ q .coder)
           (λ c e.

@@ -9,6 +9,7 @@ use Rattle.segment_rules.specs.declared.Mode.{Mode}
 use Rattle.sheet_rules.specs.declared.Record.{Record}
 use Rattle.sheet_rules.specs.Record.{nth}
 use Rattle.sheet_rules.specs.Sentences.{Among, Coded, Sheet}
+use Rattle.jpeg_rules.specs.Said.{recordSaid}
 use Rattle.jpeg_rules.specs.Grammar.{Layer}
 use Rattle.start_rules.specs.declared.Head.{Head}
 use Rattle.write_rules.specs.Layer.{layerOctets}
@@ -32,6 +33,6 @@ pub record Under (mode : Mode) (hd : Head) (rs : List Record) : Type 0 where
 pub record Ready (d : List ℕ) (hd : Head) (rs : List Record) : Type 0 where
   pub sized : (r : Record) → Among r rs → Sized r
   pub long : (r : Record) → Among r rs → length (layerOctets d r) ≡ r .len
-  pub layer : (r : Record) → Among r rs → Coded r → r .layer ≢ 2 → Layer (hd .main) (layerOctets d r) (r .width) (r .height) (r .res)
+  pub layer : (r : Record) → Among r rs → Coded r → r .layer ≢ 2 → Layer (hd .main) (layerOctets d r) (recordSaid r)
   pub mask : (r : Record) → Among r rs → Coded r → r .layer ≡ 2 → hd .mask ≡ r .coder
   pub image : (r : Record) → Among r rs → Coded r → r .layer ≢ 2 → hd .image ≡ 1

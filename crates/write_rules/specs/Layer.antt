@@ -19,7 +19,7 @@ layerOctets d r = take (r .len) (drop (r .start) d)
 
 -- the walk begins at the first of them, so that it ends where as many were passed as the record has
 abbrev pub endsAs : Walk → Record → Bool
-endsAs (Ends next width height res) r = eqb next (r .len) && eqb width (r .width) && eqb height (r .height) && eqb res (r .res)
+endsAs (Ends next said) r = eqb next (r .len) && eqb (said .width) (r .width) && eqb (said .height) (r .height) && eqb (said .res) (r .res)
 endsAs (Refused f) r = false
 
 unfoldable pub agrees : List ℕ → ℕ → Record → Bool

@@ -25,6 +25,7 @@ use Rattle.sheet_rules.specs.Record.{records, rest, nth, sumOf}
 use Rattle.sheet_rules.specs.Sentences.{Among, Coded, Sheet, Accepted, BadSheetAt}
 use Rattle.segment_rules.specs.declared.Mode.{Mode}
 use Rattle.segment_rules.specs.declared.Mode.the-variants.{One}
+use Rattle.jpeg_rules.specs.Said.{recordSaid}
 use Rattle.jpeg_rules.specs.Grammar.{Layer}
 use Rattle.write_rules.specs.Layer.{layerOctets}
 use Rattle.write_rules.specs.Modes.{headIn}
@@ -36,7 +37,7 @@ sheetMain rs = nth rs 1 .res
 
 pub record Fine (main : ℕ) (d : List ℕ) (rs : List Record) : Type 0 where
   pub fits : (r : Record) → Among r rs → Coded r → r .start + r .len ≤ length d
-  pub layers : (r : Record) → Among r rs → Coded r → r .layer ≢ 2 → Layer main (layerOctets d r) (r .width) (r .height) (r .res)
+  pub layers : (r : Record) → Among r rs → Coded r → r .layer ≢ 2 → Layer main (layerOctets d r) (recordSaid r)
   pub coders : (r q : Record) → Among r rs → Among q rs → Coded r → Coded q → r .layer ≡ 2 → q .layer ≡ 2 → r .coder ≡ q .coder
 
 -- no N is more than the mode carries

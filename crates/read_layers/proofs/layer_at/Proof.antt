@@ -9,14 +9,14 @@ walk-layer-requires c κs = search needs
 enum-known-next : tie.Need-enum-known-next
 enum-known-next c = search needs
 
-sub-t16 : tie.Need-sub-t16
-sub-t16 c = search layer-laws
+sub-t14 : tie.Need-sub-t14
+sub-t14 c = search layer-laws
+
+cast-t15 : tie.Need-cast-t15
+cast-t15 c = search layer-laws
 
 cast-t17 : tie.Need-cast-t17
 cast-t17 c = search layer-laws
-
-cast-t19 : tie.Need-cast-t19
-cast-t19 c = search layer-laws
 
 enum-known-f : tie.Need-enum-known-f
 enum-known-f c = search needs
@@ -39,9 +39,9 @@ layer-at-spec =
     (tie.spec
     walk-layer-requires
     enum-known-next
-    sub-t16
+    sub-t14
+    cast-t15
     cast-t17
-    cast-t19
     enum-known-f
     fault-answer-requires
     returns
