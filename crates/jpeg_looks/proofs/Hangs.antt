@@ -31,7 +31,7 @@ use Rattle.jpeg_rules.specs.declared.Walk.the-variants.{Ends}
 use Rattle.jpeg_rules.specs.declared.Turn.{Turn}
 use Rattle.jpeg_rules.specs.declared.Turn.the-variants.{Go, Stop}
 use Rattle.jpeg_rules.specs.Marker.{classOf, markerOf}
-use Rattle.jpeg_rules.specs.Walk.{segOf, scanOf, resolves, tagOf, framed, passed, moved, refused, onBody, onFound, onTag, frameBodyOf, frameOf, scanStepOf, segmentOf, endOf, markOf, onMarker, turnOf, onTurn, walkFrom, begun, walkOf}
+use Rattle.jpeg_rules.specs.Walk.{segOf, scanOf, resolves, tagOf, framed, passed, moved, refused, onBody, onFound, onTag, componentsOk, frameBodyOf, frameOf, scanStepOf, segmentOf, endOf, markOf, onMarker, turnOf, onTurn, walkFrom, begun, walkOf}
 use Rattle.jpeg_looks.proofs.Look.{bodyLook, whole, foundLook, markLook, markerLook, markEnd, turnLook, onwardLook, walkLookFrom, walkLook, walkBeyond}
 use Rattle.jpeg_rules.proofs.Runs.{fillEnd, Marked, marker-back, marker-is, fill-marked}
 use Rattle.jpeg_rules.proofs.Scans.{scan-back}
@@ -139,7 +139,8 @@ module _ (s : List ℕ) (o : Octets s) (main : ℕ) where
               near =
                   cond-with (NearTurn s next) (eqb (be16At s (n + 3)) 0) (λ q. let y : (n + 3 < next) × (next ≤ n + 3 + (fillEnd s (n + 3) - (n + 3) + 65532)) = (omega arith, omega arith) in y) λ q.
                   cond-with (NearTurn s next) (eqb (be16At s (n + 5)) 0) (λ q. let y : (n + 5 < next) × (next ≤ n + 5 + (fillEnd s (n + 5) - (n + 5) + 65532)) = (omega arith, omega arith) in y) λ q.
-                  let y : (next ≤ next) × (next ≤ markEnd s next) = (omega arith, mark-ahead s next) in y;
+                  cond-with (NearTurn s next) (componentsOk (getD s (n + 7) 0)) (λ q. let y : (next ≤ next) × (next ≤ markEnd s next) = (omega arith, mark-ahead s next) in y)
+                  (λ q. let y : (n + 7 < next) × (next ≤ n + 7 + (fillEnd s (n + 7) - (n + 7) + 65532)) = (omega arith, omega arith) in y);
             }
 
         by : (f d : Bool)

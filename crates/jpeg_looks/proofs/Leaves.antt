@@ -182,5 +182,6 @@ module _ (s : List ℕ) (st : Reach) (c n next : ℕ) (size : next ≡ n + be16A
         same = λ t a.
             let u : be16At t (n + 3) ≡ be16At s (n + 3) = sym (be16-agree next s t a (n + 3) (omega arith)) in
             let v : be16At t (n + 5) ≡ be16At s (n + 5) = sym (be16-agree next s t a (n + 5) (omega arith)) in
-            simp (u, v);
+            let w : getD t (n + 7) 0 ≡ getD s (n + 7) 0 = sym (octet-agree next s t a (n + 7) (omega arith)) in
+            simp (u, v, w);
       }

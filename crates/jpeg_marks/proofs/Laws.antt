@@ -1,9 +1,11 @@
 -- One law for each way out of a frame's, a scan's and the end's step: its premises are what is known there.
 -- Assumes nothing.
 use Prim.Native.Nat.{ℕ, _+_}
-use mathlib.Core.Bool.{true, false}
+use mathlib.Core.Bool.{Bool, true, false}
 use mathlib.Core.List.{List}
 use mathlib.Core.Path.{_≡_, refl, sym, subst, _∙_}
+use lib.ListN.{getD}
+use borrow.Author.Needs.{needs}
 use borrow.Author.Tests.{eq-eqb, ne-eqb}
 use Rattle.octets.specs.Octets.{be16At}
 use Rattle.jpeg_rules.specs.declared.Fault.{Fault}
@@ -18,7 +20,7 @@ use Rattle.jpeg_rules.specs.declared.Turn.the-variants.{Go, Stop}
 use Rattle.jpeg_rules.specs.declared.Walk.{Walk}
 use Rattle.jpeg_rules.specs.declared.Walk.the-variants.{Ends}
 use Rattle.jpeg_rules.specs.Marker.{markerOf}
-use Rattle.jpeg_rules.specs.Walk.{segOf, scanOf, framed, passed, refused, frameBodyOf, frameOf, scanStepOf, endOf}
+use Rattle.jpeg_rules.specs.Walk.{segOf, scanOf, framed, passed, refused, componentsOk, frameBodyOf, frameOf, scanStepOf, endOf}
 use Rattle.jpeg_scan.specs.declared.Next.{Next}
 use Rattle.jpeg_scan.specs.Search.{Shows}
 use Rattle.jpeg_segment.proofs.Whole.{room}
@@ -36,11 +38,16 @@ module _ (s : List ℕ) (st : Reach) (n next : ℕ) {h : ℕ} (e : h ≡ be16At 
     unfolding frameBodyOf
     no-width z = simp (ne-eqb (be16At s (n + 3)) 0 (rw e at d), eq-eqb (be16At s (n + 5)) 0 (sym f ∙ z))
 
-    pub whole-frame : (w ≡ 0 → ⊥) → Go (framed st next (record { width = w; height = h; res = st .said .res })) ≡ frameBodyOf s st n next
-    unfolding frameBodyOf
-    whole-frame m = rw (e, f) (simp (ne-eqb (be16At s (n + 3)) 0 (rw e at d), ne-eqb (be16At s (n + 5)) 0 (rw f at m)))
+    module _ (m : w ≡ 0 → ⊥) {b : Bool} (g : b ≡ componentsOk (getD s (n + 7) 0)) where
+      pub other-count : b ≡ false → refused (BadLayer (n + 7)) ≡ frameBodyOf s st n next
+      unfolding frameBodyOf
+      other-count z = simp (ne-eqb (be16At s (n + 3)) 0 (rw e at d), ne-eqb (be16At s (n + 5)) 0 (rw f at m), sym g ∙ z)
 
-pub ruleset frame-body-laws = (no-height, no-width, whole-frame)
+      pub whole-frame : b ≡ true → Go (framed st next (record { width = w; height = h; res = st .said .res; components = getD s (n + 7) 0 })) ≡ frameBodyOf s st n next
+      unfolding frameBodyOf
+      whole-frame z = rw (e, f) (simp (ne-eqb (be16At s (n + 3)) 0 (rw e at d), ne-eqb (be16At s (n + 5)) 0 (rw f at m), sym g ∙ z))
+
+pub ruleset frame-body-laws = (needs, no-height, no-width, other-count, whole-frame)
 
 module _ (s : List ℕ) (st : Reach) (n : ℕ) where
   pub frame-again : st .framed ≡ true → refused (BadLayer (st .at)) ≡ frameOf s st n

@@ -2,7 +2,7 @@
 ghost use mathlib.Core.Path.{_≡_};
 ghost use Prim.Native.Nat.{ℕ, _≤_};
 ghost use lib.ListN.{length};
-ghost use Rattle.jpeg_rules.specs.Walk.{frameBodyOf, frameOf, scanStepOf, endOf};
+ghost use Rattle.jpeg_rules.specs.Walk.{componentsOk, frameBodyOf, frameOf, scanStepOf, endOf};
 ghost use Rattle.jpeg_marks.specs.Step.{Leads};
 ghost use Rattle.jpeg_segment.specs.Room.{Room};
 use jpeg_rules::Fault;
@@ -13,7 +13,14 @@ use jpeg_rules::Turn;
 use jpeg_rules::Walk;
 use jpeg_scan::Next;
 
-// T.81 B.2.2: a precision octet stands before the number of lines, and that before the samples a line.
+// 02, 2026-07: lightness alone, or lightness and chroma.
+fn components_ok(n: u8) -> bool
+    ensures { λ b. ⌜ b ≡ componentsOk n ⌝ }
+{
+    (n == 1) | (n == 3)
+}
+
+// T.81 B.2.2: a precision octet stands before the number of lines, that before the samples a line, and that before the components.
 fn frame_body(s: &[u8], st: Reach, n: usize, next: usize) -> Turn
     requires { ⌜ Room (now s) n 8 next ⌝ }
     ensures { λ r. ⌜ r ≡ frameBodyOf (now (s .entry)) st n next ⌝ }
@@ -26,16 +33,22 @@ fn frame_body(s: &[u8], st: Reach, n: usize, next: usize) -> Turn
     if width == 0 {
         return Turn::Stop(Walk::Refused(Fault::BadLayer(n + 5)));
     }
-    Turn::Go(Reach {
-        at: next,
-        framed: true,
-        scanned: st.scanned,
-        said: Said {
-            width,
-            height,
-            res: st.said.res,
-        },
-    })
+    let components = s[n + 7];
+    if components_ok(components) {
+        Turn::Go(Reach {
+            at: next,
+            framed: true,
+            scanned: st.scanned,
+            said: Said {
+                width,
+                height,
+                res: st.said.res,
+                components,
+            },
+        })
+    } else {
+        Turn::Stop(Walk::Refused(Fault::BadLayer(n + 7)))
+    }
 }
 
 // Order before length: a frame out of its place is refused at its marker, whatever it holds.

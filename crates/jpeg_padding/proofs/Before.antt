@@ -30,7 +30,7 @@ use Rattle.jpeg_rules.specs.declared.Turn.{Turn}
 use Rattle.jpeg_rules.specs.declared.Turn.the-variants.{Go, Stop}
 use Rattle.jpeg_rules.specs.Marker.{classOf, codeFrom, markerOf}
 use Rattle.jpeg_rules.specs.Grammar.{DataRun}
-use Rattle.jpeg_rules.specs.Walk.{segOf, scanOf, tagOf, passed, onBody, onFound, frameBodyOf, frameOf, scanStepOf, segmentOf, endOf, markOf, onMarker, turnOf, onTurn, walkFrom, begun, walkOf}
+use Rattle.jpeg_rules.specs.Walk.{segOf, scanOf, tagOf, passed, onBody, onFound, componentsOk, frameBodyOf, frameOf, scanStepOf, segmentOf, endOf, markOf, onMarker, turnOf, onTurn, walkFrom, begun, walkOf}
 use Rattle.jpeg_rules.proofs.Runs.{fill-over, fill-here}
 use Rattle.jpeg_rules.proofs.Scans.{scan-over, plain-next, run-over, run-next, run-here}
 use Rattle.jpeg_padding.specs.Frozen.{frozenClassOf, frozenMarkerOf, frozenSegOf, frozenStopsOf, frozenScanFrom, frozenScanOf, frozenTagOf, frozenOnBody, frozenOnFound, frozenFrameBodyOf, frozenFrameOf, frozenScanStepOf, frozenSegmentOf, frozenEndOf, frozenMarkOf, frozenOnMarker, frozenTurnOf, frozenOnTurn, frozenWalkFrom, frozenWalkOf}
@@ -49,7 +49,7 @@ pub tag-same : (s : List ℕ) (st : Reach) (c n : ℕ) → frozenTagOf s st c n 
 unfolding frozenTagOf tagOf
 tag-same s st c n = refl
 
-pub frame-same : (s : List ℕ) (st : Reach) (n : ℕ) → frozenFrameOf s st n ≡ frameOf s st n
+pub frame-same : (s : List ℕ) (st : Reach) (n : ℕ) → frozenFrameOf componentsOk s st n ≡ frameOf s st n
 unfolding frozenFrameOf frameOf frozenFrameBodyOf frameBodyOf frozenSegOf segOf
 frame-same s st n = refl
 
@@ -171,7 +171,7 @@ module _ (s : List ℕ) (main : ℕ) where
       body (Body next) g = ap (after next) (scan-same s next (λ p q. g (passed st p) (ap (after next) q)))
       body (Seg.Refused f) g = refl
 
-  mark-same : (st : Reach) (c n : ℕ) (k : Class) → Lone (frozenMarkOf s main st c n k) → markOf s main st c n k ≡ frozenMarkOf s main st c n k
+  mark-same : (st : Reach) (c n : ℕ) (k : Class) → Lone (frozenMarkOf componentsOk s main st c n k) → markOf s main st c n k ≡ frozenMarkOf componentsOk s main st c n k
   unfolding frozenMarkOf markOf
   mark-same st c n Alone g = refl
   mark-same st c n Frame g = sym (frame-same s st n)
@@ -180,7 +180,7 @@ module _ (s : List ℕ) (main : ℕ) where
   mark-same st c n Wrong g = refl
   mark-same st c n Segment g = sym (segment-same s main st c n)
 
-  turn-same : (st : Reach) → LoneAt s (st .at) → Lone (frozenTurnOf s main st) → turnOf s main st ≡ frozenTurnOf s main st
+  turn-same : (st : Reach) → LoneAt s (st .at) → Lone (frozenTurnOf componentsOk s main st) → turnOf s main st ≡ frozenTurnOf componentsOk s main st
   unfolding frozenTurnOf turnOf
   turn-same st d g = ap today (marker-same s (st .at) d) ∙ by (frozenMarkerOf s (st .at)) g
     where
@@ -188,7 +188,7 @@ module _ (s : List ℕ) (main : ℕ) where
       today x = onMarker x (st .at) (λ (c n : ℕ). markOf s main st c n (classOf c))
 
       before : Marker → Turn
-      before x = frozenOnMarker x (st .at) (λ (c n : ℕ). frozenMarkOf s main st c n (frozenClassOf c))
+      before x = frozenOnMarker x (st .at) (λ (c n : ℕ). frozenMarkOf componentsOk s main st c n (frozenClassOf c))
 
       by : (x : Marker) → Lone (before x) → today x ≡ before x
       by (Code c n) g = ap (markOf s main st c n) (sym (class-same c)) ∙ mark-same st c n (frozenClassOf c) g
@@ -198,24 +198,24 @@ module _ (s : List ℕ) (main : ℕ) where
   -- ---- the walk, with the same count of markers
 
   step-same : (k : ℕ) (st : Reach) → LoneAt s (st .at)
-      → ((t : Reach) → frozenTurnOf s main st ≡ Go t → LoneAt s (t .at) × (walkFrom k s main t ≡ frozenWalkFrom k s main t))
-      → walkFrom (suc k) s main st ≡ frozenWalkFrom (suc k) s main st
+      → ((t : Reach) → frozenTurnOf componentsOk s main st ≡ Go t → LoneAt s (t .at) × (walkFrom k s main t ≡ frozenWalkFrom componentsOk k s main t))
+      → walkFrom (suc k) s main st ≡ frozenWalkFrom componentsOk (suc k) s main st
   unfolding walkFrom frozenWalkFrom
   step-same k st d more =
-      ap (λ (x : Turn). onTurn x (walkFrom k s main)) (turn-same st d (λ t q. more t q .0)) ∙ by (frozenTurnOf s main st) refl
+      ap (λ (x : Turn). onTurn x (walkFrom k s main)) (turn-same st d (λ t q. more t q .0)) ∙ by (frozenTurnOf componentsOk s main st) refl
     where
-      by : (x : Turn) → frozenTurnOf s main st ≡ x → onTurn x (walkFrom k s main) ≡ frozenOnTurn x (frozenWalkFrom k s main)
+      by : (x : Turn) → frozenTurnOf componentsOk s main st ≡ x → onTurn x (walkFrom k s main) ≡ frozenOnTurn x (frozenWalkFrom componentsOk k s main)
       by (Go t) q = more t q .1
       by (Stop w) q = refl
 
-  lone-same : ((i : ℕ) → LoneAt s i) → (k : ℕ) (st : Reach) → walkFrom k s main st ≡ frozenWalkFrom k s main st
+  lone-same : ((i : ℕ) → LoneAt s i) → (k : ℕ) (st : Reach) → walkFrom k s main st ≡ frozenWalkFrom componentsOk k s main st
   unfolding walkFrom frozenWalkFrom
   lone-same d zero st = refl
   lone-same d (suc k) st = step-same k st (d (st .at)) (λ t q. (d (t .at), lone-same d k t))
 
   module _ (e : ℕ) (said : Said) where
     -- where an FF stood behind an FF, the frozen walk was refused
-    ends-lone : (k : ℕ) (st : Reach) → frozenWalkFrom k s main st ≡ Ends e said → LoneAt s (st .at)
+    ends-lone : (k : ℕ) (st : Reach) → frozenWalkFrom componentsOk k s main st ≡ Ends e said → LoneAt s (st .at)
     unfolding frozenWalkFrom frozenMarkerOf frozenClassOf
     ends-lone zero st z f q = clash cc
     ends-lone (suc k) st z f q =
@@ -226,30 +226,30 @@ module _ (s : List ℕ) (main : ℕ) where
         refuses (ltb (length s) (st .at + 2)) y
       where
         onward : Marker → Walk
-        onward x = frozenOnTurn (frozenOnMarker x (st .at) (λ (c n : ℕ). frozenMarkOf s main st c n (frozenClassOf c))) (frozenWalkFrom k s main)
+        onward x = frozenOnTurn (frozenOnMarker x (st .at) (λ (c n : ℕ). frozenMarkOf componentsOk s main st c n (frozenClassOf c))) (frozenWalkFrom componentsOk k s main)
 
         refuses : (b : Bool) → onward (cond b Cut (Code 0xFF (st .at + 2))) ≡ Ends e said → ⊥
         refuses true y = clash cc
         refuses false y = clash cc
 
-    ends-same : (k : ℕ) (st : Reach) → frozenWalkFrom k s main st ≡ Ends e said → walkFrom k s main st ≡ frozenWalkFrom k s main st
+    ends-same : (k : ℕ) (st : Reach) → frozenWalkFrom componentsOk k s main st ≡ Ends e said → walkFrom k s main st ≡ frozenWalkFrom componentsOk k s main st
     unfolding walkFrom frozenWalkFrom
     ends-same zero st z = refl
     ends-same (suc k) st z =
         step-same k st (ends-lone (suc k) st z)
         (λ t q.
-        let y : frozenWalkFrom k s main t ≡ Ends e said = sym (ap (λ (x : Turn). frozenOnTurn x (frozenWalkFrom k s main)) q) ∙ z in
+        let y : frozenWalkFrom componentsOk k s main t ≡ Ends e said = sym (ap (λ (x : Turn). frozenOnTurn x (frozenWalkFrom componentsOk k s main)) q) ∙ z in
         (ends-lone k t y, ends-same k t y))
 
 module _ (s : List ℕ) (start main : ℕ) where
-  pub walk-ends-same : (e : ℕ) (said : Said) → frozenWalkOf s start main ≡ Ends e said → walkOf s start main ≡ Ends e said
+  pub walk-ends-same : (e : ℕ) (said : Said) → frozenWalkOf componentsOk s start main ≡ Ends e said → walkOf s start main ≡ Ends e said
   unfolding frozenWalkOf walkOf
   walk-ends-same e said =
       cond-both (λ u x. x ≡ Ends e said → u ≡ Ends e said) (ltb (length s) (start + 2)) (λ t z. z) λ t.
       cond-both (λ u x. x ≡ Ends e said → u ≡ Ends e said) (eqb (getD s start 0) 0xFF && eqb (getD s (start + 1) 0) 0xD8)
       (λ f z. ends-same s main e said (length s) (begun (start + 2)) z ∙ z) (λ f z. z)
 
-  pub walk-lone-same : ((i : ℕ) → LoneAt s i) → walkOf s start main ≡ frozenWalkOf s start main
+  pub walk-lone-same : ((i : ℕ) → LoneAt s i) → walkOf s start main ≡ frozenWalkOf componentsOk s start main
   unfolding frozenWalkOf walkOf
   walk-lone-same d =
       cond-both (λ u x. u ≡ x) (ltb (length s) (start + 2)) (λ t. refl) λ t.

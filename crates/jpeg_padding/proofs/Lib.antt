@@ -1,4 +1,5 @@
 pub mod Before
+pub mod Counts
 pub mod Pads
 pub mod Reached
 pub mod Walked

@@ -163,6 +163,7 @@ module _ {main : ℕ} {l : List ℕ} {said : Said} (y : Layer main l said) where
         says = y .says ∙ ap (saidBy (y .body)) (sym (b .resolves));
         high = y .high;
         wide = y .wide;
+        counted = y .counted;
         listed = y .listed;
         divides = y .divides;
         scanned = a .scanned (y .scanned);

@@ -6,7 +6,7 @@ use mathlib.Core.Path.{_≡_, refl, sym, ap, subst, _∙_}
 use mathlib.Core.Logic.{_≢_, ⊎-elim}
 use mathlib.Core.Bool.{true, false, cond}
 use mathlib.Core.List.{List, [], _∷_, _++_, append-assoc}
-use lib.ListN.{length, drop, length-append}
+use lib.ListN.{length, getD, drop, length-append}
 use lib.Dec.{eqb}
 use Rattle.octets.specs.Octets.{be16At, octets16}
 use Rattle.octets.proofs.Laws.{drop-next}
@@ -22,7 +22,7 @@ use Rattle.jpeg_rules.specs.declared.Turn.{Turn}
 use Rattle.jpeg_rules.specs.declared.Turn.the-variants.{Go}
 use Rattle.jpeg_rules.specs.Marker.{classOf}
 use Rattle.jpeg_rules.specs.Grammar.{marker, Data, Piece, alone, segment, scan, lengthed, octetsOf, piecesOf, Good, Each, Layer}
-use Rattle.jpeg_rules.specs.Walk.{resolves, tagOf, framed, moved, passed, refused, onBody, onTag, frameSaid, frameBodyOf, frameOf, scanStepOf, endOf, markOf, turnOf, begun}
+use Rattle.jpeg_rules.specs.Walk.{resolves, tagOf, framed, moved, passed, refused, onBody, onTag, frameSaid, componentsOk, frameBodyOf, frameOf, scanStepOf, endOf, markOf, turnOf, begun}
 use Rattle.jpeg_rules.proofs.Leaves.{class-other}
 use Rattle.jpeg_rules.proofs.Runs.{length-marker}
 use Rattle.jpeg_rules.proofs.Scans.{Opens}
@@ -68,7 +68,7 @@ module _ (s : List ℕ) (main : ℕ) where
           subst (λ (g : Seg). To next (onBody g (λ (n : ℕ). frameBodyOf s st (st .at + f + 2) n))) (sym (seg-is s main st f c body l other e 8 h))
           (cond-with (To next) (eqb (be16At s (st .at + f + 2 + 3)) 0) (λ t. to-none next _) λ t.
           cond-with (To next) (eqb (be16At s (st .at + f + 2 + 5)) 0) (λ t. to-none next _) λ t.
-          to-place (framed st next (frameSaid s st (st .at + f + 2))) next refl))
+          cond-with (To next) (componentsOk (getD s (st .at + f + 2 + 7) 0)) (λ t. to-place (framed st next (frameSaid s st (st .at + f + 2))) next refl) (λ t. to-none next _)))
 
     scan-to : (f : ℕ) (header d l : List ℕ) → drop (st .at) s ≡ lengthed f 0xDA header ++ (d ++ l) → Data d → Opens l
         → To (st .at + f + 2 + (length header + 2) + length d) (turnOf s main st)

@@ -2,32 +2,42 @@
 -- Assumes nothing.
 use Prim.Native.Nat.{ℕ, _+_, _≤_}
 use mathlib.Core.Path.{_≡_}
-use mathlib.Core.Logic.{_≢_, ⊎-elim}
+use mathlib.Core.Logic.{_⊎_, _≢_, ⊎-elim}
 use mathlib.Core.List.{List, _++_}
 use lib.ListN.{getD, replicate}
 use Rattle.octets.specs.Octets.{Octets}
 use Rattle.jpeg_rules.specs.declared.Said.{Said}
 use Rattle.jpeg_rules.specs.declared.Reach.{Reach}
 use Rattle.jpeg_rules.specs.declared.Walk.the-variants.{Ends}
-use Rattle.jpeg_rules.specs.Grammar.{marker, DataRun, Data, scan, lengthed, Layer}
-use Rattle.jpeg_rules.specs.Walk.{begun, walkOf}
+use Rattle.jpeg_rules.specs.Grammar.{marker, DataRun, Data, scan, lengthed, Components, Layer}
+use Rattle.jpeg_rules.specs.Walk.{componentsOk, begun, walkOf}
+use Rattle.jpeg_rules.proofs.There.{says-components}
 use Rattle.jpeg_rules.proofs.Theorems.{LayerAt, walk-exactly}
-use Rattle.jpeg_padding.specs.Frozen.{frozenWalkOf}
+use Rattle.jpeg_padding.specs.Frozen.{anyCount, frozenWalkOf}
 use Rattle.jpeg_padding.specs.Places.{InPiece, restart, MarkerIn, BeginsAt, paddedAt, Comes}
 use Rattle.jpeg_padding.proofs.Before.{walk-ends-same, walk-lone-same}
+use Rattle.jpeg_padding.proofs.Counts.{Uncounted, walk-counted, walk-beside}
 use Rattle.jpeg_padding.proofs.Pads.{layer-more, layer-parts}
 use Rattle.jpeg_padding.proofs.Walked.{walk-more, walk-reaches}
 
--- ---- where the walk ended before padded markers, it ends today, with the same width, height and resolution
+-- ---- where the walk ended before padded markers and grey layers, with one component or three, it ends today, and says the same
 
-pub conservative : (s : List ℕ) (start main e : ℕ) (said : Said) → frozenWalkOf s start main ≡ Ends e said → walkOf s start main ≡ Ends e said
-conservative s start main = walk-ends-same s start main
+pub conservative : (s : List ℕ) (start main e : ℕ) (said : Said) → frozenWalkOf anyCount s start main ≡ Ends e said → Components (said .components)
+    → walkOf s start main ≡ Ends e said
+conservative s start main e said q c =
+    walk-ends-same s start main e said (walk-counted s main componentsOk start e said (says-components (said .components) .shown c) q)
 
--- and a list in which no FF stands behind an FF is walked as it was, with every refusal
-pub unpadded-same : (s : List ℕ) (start main : ℕ) → ((i : ℕ) → getD s i 0 ≡ 0xFF → getD s (i + 1) 0 ≢ 0xFF) → walkOf s start main ≡ frozenWalkOf s start main
+-- and a list in which no FF stands behind an FF is walked as it was, with every refusal, but for the count of components that is judged now
+pub unpadded-same : (s : List ℕ) (start main : ℕ) → ((i : ℕ) → getD s i 0 ≡ 0xFF → getD s (i + 1) 0 ≢ 0xFF)
+    → walkOf s start main ≡ frozenWalkOf componentsOk s start main
 unpadded-same s start main = walk-lone-same s start main
 
--- ---- octets FF put in before any marker of a layer but the first: a layer again, with the same width, height and resolution
+-- where that judging changes an answer, it is BadLayer at an octet that is not 1 and not 3
+pub count-added : (s : List ℕ) (start main : ℕ)
+    → (frozenWalkOf componentsOk s start main ≡ frozenWalkOf anyCount s start main) ⊎ Uncounted s main componentsOk (frozenWalkOf componentsOk s start main)
+count-added s start main = walk-beside s main componentsOk start
+
+-- ---- octets FF put in before any marker of a layer but the first: a layer again, that says the same of itself
 
 pub marker-parts : {main : ℕ} {l : List ℕ} {said : Said} (y : Layer main l said) (a b : List ℕ) → MarkerIn y a b → l ≡ a ++ b
 marker-parts y a b = layer-parts y

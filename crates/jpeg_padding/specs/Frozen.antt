@@ -3,14 +3,17 @@
 -- the walk of today changes: every rule of it is copied. What both share are the declared types, the numbers and strings of octets, and the sheet's tests of a
 -- resolution.
 --
+-- It took a frame of any number of components (`anyCount`). The count is kept here as it stands, and `taken` tells which counts are taken, so that the rule of
+-- 2026-07, which only the walk of today has, can be put in at its place and nothing else.
+--
 --   frozenClassOf c         what a code makes of a marker
 --   frozenMarkerOf s at     what stands at a place where a marker is due: exactly one FF and a code
 --   frozenSegOf s n least   the segment whose length stands at n
 --   frozenStopsOf a b       two octets at which scan data ends: FF and a code other than 00 and D0 to D7
 --   frozenScanOf s i        the next marker after scan data
 --   frozenFrameOf, frozenScanStepOf, frozenSegmentOf   a marker of each kind, its code after which n stands
---   frozenTurnOf s main st  one marker
---   frozenWalkOf s start main   the walk
+--   frozenTurnOf taken s main st  one marker
+--   frozenWalkOf taken s start main   the walk
 --
 -- Within a marker: its own rule, then the length's least value, then a body that passes the end, then the body.
 use Prim.Native.Nat.{ℕ, zero, suc, _+_, _-_}
@@ -101,9 +104,9 @@ frozenTagOf s st c n =
 
 -- ---- what is known after a frame, a scan and another marker
 
-abbrev pub frozenFramed : Reach → ℕ → ℕ → ℕ → Reach
-frozenFramed st at width height =
-    record { at = at; framed = true; scanned = st .scanned; said = record { width = width; height = height; res = st .said .res } }
+abbrev pub frozenFramed : Reach → ℕ → ℕ → ℕ → ℕ → Reach
+frozenFramed st at width height count =
+    record { at = at; framed = true; scanned = st .scanned; said = record { width = width; height = height; res = st .said .res; components = count } }
 
 abbrev pub frozenPassed : Reach → ℕ → Reach
 frozenPassed st at =
@@ -111,7 +114,12 @@ frozenPassed st at =
 
 abbrev pub frozenMoved : Reach → ℕ → ℕ → Reach
 frozenMoved st at res =
-    record { at = at; framed = st .framed; scanned = st .scanned; said = record { width = st .said .width; height = st .said .height; res = res } }
+    record {
+      at = at;
+      framed = st .framed;
+      scanned = st .scanned;
+      said = record { width = st .said .width; height = st .said .height; res = res; components = st .said .components };
+    }
 
 -- ---- one marker
 
@@ -130,19 +138,24 @@ abbrev pub frozenOnTag : Tag → Turn → (ℕ → Turn) → Turn
 frozenOnTag Plain plain go = plain
 frozenOnTag (Gives r) plain go = go r
 
--- a frame's body: height before width, neither 0
-unfoldable pub frozenFrameBodyOf : List ℕ → Reach → ℕ → ℕ → Turn
-frozenFrameBodyOf s st n next =
+-- the counts that were taken
+abbrev pub anyCount : ℕ → Bool
+anyCount c = true
+
+-- a frame's body: height before width, neither 0, and the count of components
+unfoldable pub frozenFrameBodyOf : (ℕ → Bool) → List ℕ → Reach → ℕ → ℕ → Turn
+frozenFrameBodyOf taken s st n next =
     cond (eqb (be16At s (n + 3)) 0) (frozenRefused (BadLayer (n + 3)))
     (cond (eqb (be16At s (n + 5)) 0) (frozenRefused (BadLayer (n + 5)))
-    (Go (frozenFramed st next (be16At s (n + 5)) (be16At s (n + 3)))))
+    (cond (taken (getD s (n + 7) 0)) (Go (frozenFramed st next (be16At s (n + 5)) (be16At s (n + 3)) (getD s (n + 7) 0)))
+    (frozenRefused (BadLayer (n + 7)))))
 
 -- the frame: the first, after the resolution, and at least 8 long
-unfoldable pub frozenFrameOf : List ℕ → Reach → ℕ → Turn
-frozenFrameOf s st n =
+unfoldable pub frozenFrameOf : (ℕ → Bool) → List ℕ → Reach → ℕ → Turn
+frozenFrameOf taken s st n =
     cond (st .framed) (frozenRefused (BadLayer (st .at)))
     (cond (eqb (st .said .res) 0) (frozenRefused (BadLayer (st .at)))
-    (frozenOnBody (frozenSegOf s n 8) (λ (next : ℕ). frozenFrameBodyOf s st n next)))
+    (frozenOnBody (frozenSegOf s n 8) (λ (next : ℕ). frozenFrameBodyOf taken s st n next)))
 
 -- a scan: after the frame; the next marker stands after its header and its data
 unfoldable pub frozenScanStepOf : List ℕ → Reach → ℕ → Turn
@@ -162,23 +175,23 @@ frozenSegmentOf s main st c n =
 unfoldable pub frozenEndOf : Reach → ℕ → Turn
 frozenEndOf st n = cond (st .scanned) (Stop (Ends n (st .said))) (frozenRefused (BadLayer (st .at)))
 
-unfoldable pub frozenMarkOf : List ℕ → ℕ → Reach → ℕ → ℕ → Class → Turn
+unfoldable pub frozenMarkOf : (ℕ → Bool) → List ℕ → ℕ → Reach → ℕ → ℕ → Class → Turn
 unfolding frozenFrameOf frozenScanStepOf frozenSegmentOf frozenEndOf
-frozenMarkOf s main st c n Alone = Go (frozenMoved st n (st .said .res))
-frozenMarkOf s main st c n Frame = frozenFrameOf s st n
-frozenMarkOf s main st c n Scan = frozenScanStepOf s st n
-frozenMarkOf s main st c n End = frozenEndOf st n
-frozenMarkOf s main st c n Wrong = frozenRefused (BadLayer (st .at))
-frozenMarkOf s main st c n Segment = frozenSegmentOf s main st c n
+frozenMarkOf taken s main st c n Alone = Go (frozenMoved st n (st .said .res))
+frozenMarkOf taken s main st c n Frame = frozenFrameOf taken s st n
+frozenMarkOf taken s main st c n Scan = frozenScanStepOf s st n
+frozenMarkOf taken s main st c n End = frozenEndOf st n
+frozenMarkOf taken s main st c n Wrong = frozenRefused (BadLayer (st .at))
+frozenMarkOf taken s main st c n Segment = frozenSegmentOf s main st c n
 
 abbrev pub frozenOnMarker : Marker → ℕ → (ℕ → ℕ → Turn) → Turn
 frozenOnMarker (Code c n) at go = go c n
 frozenOnMarker Missing at go = frozenRefused (BadLayer at)
 frozenOnMarker Cut at go = frozenRefused (Short at)
 
-unfoldable pub frozenTurnOf : List ℕ → ℕ → Reach → Turn
+unfoldable pub frozenTurnOf : (ℕ → Bool) → List ℕ → ℕ → Reach → Turn
 unfolding frozenMarkOf
-frozenTurnOf s main st = frozenOnMarker (frozenMarkerOf s (st .at)) (st .at) (λ (c n : ℕ). frozenMarkOf s main st c n (frozenClassOf c))
+frozenTurnOf taken s main st = frozenOnMarker (frozenMarkerOf s (st .at)) (st .at) (λ (c n : ℕ). frozenMarkOf taken s main st c n (frozenClassOf c))
 
 -- ---- the walk
 
@@ -187,19 +200,19 @@ frozenOnTurn (Go st) go = go st
 frozenOnTurn (Stop w) go = w
 
 -- at most so many markers; each takes two octets or more, so that the length of the list is enough
-unfoldable pub frozenWalkFrom : ℕ → List ℕ → ℕ → Reach → Walk
+unfoldable pub frozenWalkFrom : (ℕ → Bool) → ℕ → List ℕ → ℕ → Reach → Walk
 unfolding frozenTurnOf
-frozenWalkFrom zero s main st = Walk.Refused (Short (st .at))
-frozenWalkFrom (suc fuel) s main st = frozenOnTurn (frozenTurnOf s main st) (λ (t : Reach). frozenWalkFrom fuel s main t)
+frozenWalkFrom taken zero s main st = Walk.Refused (Short (st .at))
+frozenWalkFrom taken (suc fuel) s main st = frozenOnTurn (frozenTurnOf taken s main st) (λ (t : Reach). frozenWalkFrom taken fuel s main t)
 
 abbrev pub frozenBegun : ℕ → Reach
-frozenBegun at = record { at = at; framed = false; scanned = false; said = record { width = 0; height = 0; res = 0 } }
+frozenBegun at = record { at = at; framed = false; scanned = false; said = record { width = 0; height = 0; res = 0; components = 0 } }
 
 -- FF D8, then the markers
-unfoldable pub frozenWalkOf : List ℕ → ℕ → ℕ → Walk
+unfoldable pub frozenWalkOf : (ℕ → Bool) → List ℕ → ℕ → ℕ → Walk
 unfolding frozenWalkFrom
-frozenWalkOf s start main =
+frozenWalkOf taken s start main =
     cond (ltb (length s) (start + 2)) (Walk.Refused (Short start))
     (cond (eqb (getD s start 0) 0xFF && eqb (getD s (start + 1) 0) 0xD8)
-    (frozenWalkFrom (length s) s main (frozenBegun (start + 2)))
+    (frozenWalkFrom taken (length s) s main (frozenBegun (start + 2)))
     (Walk.Refused (BadLayer start)))

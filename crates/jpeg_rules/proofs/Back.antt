@@ -2,7 +2,7 @@
 -- Assumes nothing.
 use Prim.Native.Nat.{ℕ, _+_, _-_, _≤_, _<_, _∣_}
 use native.Mathlib.Omega.{arith}
-use mathlib.Core.Path.{_≡_, refl, sym, ap, _∙_}
+use mathlib.Core.Path.{_≡_, refl, sym, ap, subst, _∙_}
 use mathlib.Core.Logic.{_⊎_, inl, inr, _≢_, ⊎-elim, ⊎-map}
 use mathlib.Core.Bool.{Bool, true, false, _&&_, cond, false≢true}
 use mathlib.Core.List.{List, [], _∷_, _++_, append-assoc}
@@ -23,15 +23,15 @@ use Rattle.jpeg_rules.specs.declared.Turn.the-variants.{Stop}
 use Rattle.jpeg_rules.specs.declared.Walk.{Walk}
 use Rattle.jpeg_rules.specs.declared.Walk.the-variants.{Ends}
 use Rattle.jpeg_rules.specs.Marker.{classOf, markerOf}
-use Rattle.jpeg_rules.specs.Grammar.{marker, Piece, alone, segment, lengthed, octetsOf, piecesOf, Fits, Good, isScan, tagged, resolution, Each, Scanned, saidBy, Layer}
-use Rattle.jpeg_rules.specs.Walk.{segOf, resolves, tagOf, framed, moved, frameSaid, begun, walkOf}
+use Rattle.jpeg_rules.specs.Grammar.{marker, Piece, alone, segment, lengthed, octetsOf, piecesOf, Fits, Good, isScan, tagged, resolution, Each, Scanned, Components, saidBy, Layer}
+use Rattle.jpeg_rules.specs.Walk.{segOf, resolves, tagOf, framed, moved, frameSaid, componentsOk, begun, walkOf}
 use Rattle.laws.proofs.Cases.{cond-with, clash}
 use Rattle.jpeg_rules.proofs.Leaves.{two-stand}
 use Rattle.jpeg_rules.proofs.Runs.{length-marker, marker-back}
 use Rattle.jpeg_rules.proofs.Turns.{frame-says}
 use Rattle.jpeg_rules.proofs.Walks.{Onward, by-alone, by-frame, by-scan, by-plain, by-tag, turn-told, Walks, stops, goes, walks-from}
 use Rattle.jpeg_rules.proofs.Tail.{Stood, stood, Over, alone-over, segment-over, plain-test, gives-test, Tail, tail-back}
-use Rattle.jpeg_rules.proofs.There.{length-lengthed, says-resolves, res-plain, resolves-nonzero}
+use Rattle.jpeg_rules.proofs.There.{length-lengthed, says-resolves, says-components, res-plain, resolves-nonzero}
 
 -- ---- before the frame
 
@@ -51,6 +51,7 @@ pub record Head (s : List ℕ) (main : ℕ) (st : Reach) (e : ℕ) (said : Said)
   pub says : said ≡ saidBy body (cond (eqb (st .said .res) 0) (resolution before) (st .said .res))
   pub high : said .height ≢ 0
   pub wide : said .width ≢ 0
+  pub counted : Components (said .components)
   pub scanned : Scanned after
   pub found : (st .said .res ≢ 0) ⊎ (resolves main (said .res) ≡ true)
   pub ends : e ≡ st .at + (length (piecesOf before) + (fill + 2 + (length body + 2) + (length (piecesOf after) + (last + 2))))
@@ -85,6 +86,7 @@ module _ (s : List ℕ) (o : Octets s) (main e : ℕ) (said : Said) where
         says = k .says ∙ ap (saidBy (k .body)) (rs (k .before));
         high = k .high;
         wide = k .wide;
+        counted = k .counted;
         scanned = k .scanned;
         found = fd k;
         ends = omega arith;
@@ -99,10 +101,10 @@ module _ (s : List ℕ) (o : Octets s) (main e : ℕ) (said : Said) where
 
   -- the frame itself
   head-frame : (st t : Reach) (c n next : ℕ) → markerOf s (st .at) ≡ Code c n → classOf c ≡ Frame → st .scanned ≡ false → st .said .res ≢ 0
-      → segOf s n 8 ≡ Body next → be16At s (n + 3) ≢ 0 → be16At s (n + 5) ≢ 0 → framed st next (frameSaid s st n) ≡ t
+      → segOf s n 8 ≡ Body next → be16At s (n + 3) ≢ 0 → be16At s (n + 5) ≢ 0 → componentsOk (getD s (n + 7) 0) ≡ true → framed st next (frameSaid s st n) ≡ t
       → Tail s t e said → Head s main st e said
   unfolding Each piecesOf resolution
-  head-frame st t c n next m k ns d g nh nw q y =
+  head-frame st t c n next m k ns d g nh nw co q y =
       let x = stood s o (st .at) c n 8 next (omega arith) m g in
       let a : t .at ≡ next = at-of q in
       let b = x .after in
@@ -129,6 +131,7 @@ module _ (s : List ℕ) (o : Octets s) (main e : ℕ) (said : Said) where
             ∙ ap (saidBy (x .body)) (sym (ap (λ (v : Bool). cond v 0 (st .said .res)) (ne-eqb (st .said .res) 0 d)));
         high = λ v. nh (sym (ap (λ (v : Said). v .height) ty) ∙ v);
         wide = λ v. nw (sym (ap (λ (v : Said). v .width) ty) ∙ v);
+        counted = subst Components (sym (ap (λ (v : Said). v .components) ty)) (says-components (getD s (n + 7) 0) .told co);
         scanned = ⊎-elim (λ (v : t .scanned ≡ true). absurd (false≢true (sym ts ∙ v))) (λ (v : Scanned (y .after)). v) (y .scanned);
         found = inl d;
         ends = omega arith;
@@ -169,8 +172,8 @@ module _ (s : List ℕ) (o : Octets s) (main e : ℕ) (said : Said) where
       head-more st t (alone (x .fill)) (alone-over s st t c n x k (at-of q)) refl
       (λ ps. ap (λ (m : ℕ). cond (eqb m 0) (resolution ps) m) tr) (found-same st t tr)
       (go (ap (λ (v : Reach). v .framed) (sym q) ∙ f) (ap (λ (v : Reach). v .scanned) (sym q) ∙ ns))
-  head-onward st t f ns (by-frame c n next m k nf nr g nh nw q) go frame =
-      head-frame st t c n next m k ns nr g nh nw q (frame (ap (λ (v : Reach). v .framed) (sym q)) (λ z. nr (sym (res-of q) ∙ z)))
+  head-onward st t f ns (by-frame c n next m k nf nr g nh nw co q) go frame =
+      head-frame st t c n next m k ns nr g nh nw co q (frame (ap (λ (v : Reach). v .framed) (sym q)) (λ z. nr (sym (res-of q) ∙ z)))
   head-onward st t f ns (by-scan c n next p m k fr g fo q) go frame = absurd (false≢true (sym f ∙ fr))
   head-onward st t f ns (by-plain c n next m k g pl q) go frame =
       let x = stood s o (st .at) c n 2 next (omega arith) m g in
@@ -233,6 +236,7 @@ module _ (s : List ℕ) (o : Octets s) (start main e : ℕ) (said : Said) where
               says = k .says;
               high = k .high;
               wide = k .wide;
+              counted = k .counted;
               listed = rr .0;
               divides = rr .1;
               scanned = k .scanned;

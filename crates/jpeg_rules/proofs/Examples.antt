@@ -24,8 +24,13 @@ tag200 = 0xFF ∷ 0xE1 ∷ 0x00 ∷ 0x0C ∷ 0x47 ∷ 0x33 ∷ 0x46 ∷ 0x41 ∷
 unfoldable pub tag300 : List ℕ
 tag300 = 0xFF ∷ 0xE1 ∷ 0x00 ∷ 0x0C ∷ 0x47 ∷ 0x33 ∷ 0x46 ∷ 0x41 ∷ 0x58 ∷ 0x00 ∷ 0x00 ∷ 0x01 ∷ 0x01 ∷ 0x2C ∷ []
 
+-- of so many lines and components
+unfoldable pub counting : ℕ → ℕ → List ℕ
+counting lines count = 0xFF ∷ 0xC0 ∷ 0x00 ∷ 0x08 ∷ 0x08 ∷ 0x00 ∷ lines ∷ 0x00 ∷ 0x08 ∷ count ∷ []
+
 unfoldable pub frame : List ℕ
-frame = 0xFF ∷ 0xC0 ∷ 0x00 ∷ 0x08 ∷ 0x08 ∷ 0x00 ∷ 0x10 ∷ 0x00 ∷ 0x08 ∷ 0x01 ∷ []
+unfolding counting
+frame = counting 0x10 1
 
 unfoldable pub scan : List ℕ
 scan = 0xFF ∷ 0xDA ∷ 0x00 ∷ 0x03 ∷ 0x00 ∷ 0x12 ∷ 0xFF ∷ 0x00 ∷ 0x34 ∷ 0xFF ∷ 0xD0 ∷ 0x56 ∷ []
@@ -35,7 +40,7 @@ alone = 0xFF ∷ 0x01 ∷ []
 
 -- what that frame and that segment say
 abbrev pub small : Said
-small = record { width = 8; height = 16; res = 200 }
+small = record { width = 8; height = 16; res = 200; components = 1 }
 
 -- two scans, a marker that stands alone, and octets after the layer, FF D9 FF D9 among them
 pub walk-ends : walkOf (opening ++ tag200 ++ alone ++ frame ++ scan ++ tag300 ++ scan ++ closing ++ closing ++ closing) 0 400 ≡ Ends 68 small
@@ -85,3 +90,18 @@ walk-stuffed = (refl, refl, refl)
 pub walk-cut : (walkOf (opening ++ tag200 ++ fill) 0 400 ≡ Refused (Short 16)) × (walkOf (opening ++ tag200 ++ frame ++ scan ++ fill) 0 400 ≡ Refused (Short 31))
 unfolding walkOf turnOf markerOf classOf segOf scanOf tagOf frameOf frameBodyOf scanStepOf segmentOf endOf standsAt begins be16At opening tag200 frame scan fill
 walk-cut = (refl, refl)
+
+-- ---- the count of components
+
+-- three are taken, whatever the scan's header says; two and four are refused where the frame counts them, but a height of 0 comes before
+pub walk-three : walkOf (opening ++ tag200 ++ counting 0x10 3 ++ (0xFF ∷ 0xDA ∷ 0x00 ∷ 0x03 ∷ 0x01 ∷ 0x12 ∷ []) ++ closing) 0 400
+    ≡ Ends 34 (record { width = 8; height = 16; res = 200; components = 3 })
+unfolding walkOf turnOf markerOf classOf segOf scanOf tagOf frameOf frameBodyOf scanStepOf segmentOf endOf standsAt begins be16At opening closing tag200 counting
+walk-three = refl
+
+pub walk-miscounted : (walkOf (opening ++ tag200 ++ counting 0x10 2 ++ scan ++ closing) 0 400 ≡ Refused (BadLayer 25))
+    × (walkOf (opening ++ tag200 ++ counting 0x10 4 ++ scan ++ closing) 0 400 ≡ Refused (BadLayer 25))
+    × (walkOf (opening ++ tag200 ++ counting 0x10 0 ++ scan ++ closing) 0 400 ≡ Refused (BadLayer 25))
+    × (walkOf (opening ++ tag200 ++ counting 0x00 2 ++ scan ++ closing) 0 400 ≡ Refused (BadLayer 21))
+unfolding walkOf turnOf markerOf classOf segOf scanOf tagOf frameOf frameBodyOf scanStepOf segmentOf endOf standsAt begins be16At opening closing tag200 scan counting
+walk-miscounted = (refl, refl, refl, refl)

@@ -1,3 +1,4 @@
+pub mod Grey
 pub mod Leaves
 pub mod Runs
 pub mod Scans

@@ -29,15 +29,15 @@ use Rattle.jpeg_rules.specs.declared.Turn.{Turn}
 use Rattle.jpeg_rules.specs.declared.Turn.the-variants.{Go, Stop}
 use Rattle.jpeg_rules.specs.Marker.{classOf, markerOf}
 use Rattle.jpeg_rules.specs.Grammar.{marker, Piece, alone, segment, scan, lengthed, Good}
-use Rattle.jpeg_rules.specs.Walk.{segOf, scanOf, resolves, tagOf, framed, passed, moved, refused, onBody, onFound, onTag, frameBodyOf, frameOf, scanStepOf, segmentOf, endOf, markOf, onMarker, turnOf, begun, walkOf}
-use Rattle.jpeg_rules.specs.Faults.{Known, heightOf, widthOf, resOf, FrameDue, May, past, framing, Next, any, no-data, Least, of-segment, of-scan, of-frame, BadLength, cut-length, small, cut-body, BadMarker, cut, cut-run, no-marker, wrong-code, second-frame, no-resolution, no-frame, no-scan, bad-length, no-height, no-width, bad-resolution, endless, BadFrom, here, past-piece, past-frame, BadLayer, cut-start, no-start, started}
+use Rattle.jpeg_rules.specs.Walk.{segOf, scanOf, resolves, tagOf, framed, passed, moved, refused, onBody, onFound, onTag, componentsOk, frameBodyOf, frameOf, scanStepOf, segmentOf, endOf, markOf, onMarker, turnOf, begun, walkOf}
+use Rattle.jpeg_rules.specs.Faults.{Known, heightOf, widthOf, componentsOf, resOf, FrameDue, May, past, framing, Next, any, no-data, Least, of-segment, of-scan, of-frame, BadLength, cut-length, small, cut-body, BadMarker, cut, cut-run, no-marker, wrong-code, second-frame, no-resolution, no-frame, no-scan, bad-length, no-height, no-width, bad-components, bad-resolution, endless, BadFrom, here, past-piece, past-frame, BadLayer, cut-start, no-start, started}
 use Rattle.jpeg_rules.proofs.Leaves.{scan-code, two-stand}
 use Rattle.jpeg_rules.proofs.Runs.{fillEnd, Marked, marker-by, marker-back, run-cut}
-use Rattle.jpeg_rules.proofs.Turns.{number-is}
+use Rattle.jpeg_rules.proofs.Turns.{number-is, octet-is}
 use Rattle.jpeg_rules.proofs.Scans.{scan-back, none-endless}
 use Rattle.jpeg_rules.proofs.Tail.{Stood, stood, Over, alone-over, segment-over, scan-over, plain-test, gives-test}
 use Rattle.jpeg_rules.proofs.Walks.{Onward, by-alone, by-frame, by-scan, by-plain, by-tag, turn-told, Walks, stops, goes, walks-from}
-use Rattle.jpeg_rules.proofs.There.{length-lengthed, says-resolves}
+use Rattle.jpeg_rules.proofs.There.{length-lengthed, says-resolves, says-components}
 use Rattle.jpeg_rules.proofs.Refuses.{knownOf}
 
 -- ---- a length
@@ -123,6 +123,7 @@ module _ (s : List ℕ) (o : Octets s) (main : ℕ) (st : Reach) (q : Bool) wher
         let hi = x .after in
         let a : be16At s (n + 3) ≡ heightOf (x .body) = number-is s main st (x .fill) c (x .body) (drop next s) (x .other) (x .stands) 1 (n + 3) (omega arith) (omega arith) in
         let b : be16At s (n + 5) ≡ widthOf (x .body) = number-is s main st (x .fill) c (x .body) (drop next s) (x .other) (x .stands) 3 (n + 5) (omega arith) (omega arith) in
+        let d : getD s (n + 7) 0 ≡ componentsOf (x .body) = octet-is s main st (x .fill) c (x .body) (drop next s) (x .other) (x .stands) 5 (n + 7) (omega arith) (omega arith) in
         cond-with Blames (eqb (be16At s (n + 3)) 0)
         (λ e.
         placed-blames Fault.BadLayer (st .at + x .fill + 5) (n + 3) (omega arith)
@@ -132,7 +133,12 @@ module _ (s : List ℕ) (o : Octets s) (main : ℕ) (st : Reach) (q : Bool) wher
         placed-blames Fault.BadLayer (st .at + x .fill + 7) (n + 5) (omega arith)
         (by-body 8 next x
         (no-width (x .fill) c (x .body) (drop next s) due (x .fits, en) (λ z. eqb-false (be16At s (n + 3)) 0 nh (a ∙ z)) (sym b ∙ eqb-true (be16At s (n + 5)) 0 e)))) λ nw.
-        go-blames _
+        cond-with Blames (componentsOk (getD s (n + 7) 0)) (λ co. go-blames _)
+        (λ co.
+        placed-blames Fault.BadLayer (st .at + x .fill + 9) (n + 7) (omega arith)
+        (by-body 8 next x
+        (bad-components (x .fill) c (x .body) (drop next s) due (x .fits, en) (λ z. eqb-false (be16At s (n + 3)) 0 nh (a ∙ z)) (λ z. eqb-false (be16At s (n + 5)) 0 nw (b ∙ z))
+        (λ z. false≢true (sym co ∙ ap componentsOk d ∙ says-components (componentsOf (x .body)) .shown z)))))
 
     scan-blames : classOf c ≡ Scan → Blames (scanStepOf s st n)
     unfolding scanStepOf
@@ -252,7 +258,7 @@ module _ (s : List ℕ) (o : Octets s) (main : ℕ) (f : Fault) where
   onward st t q (by-alone c n m w e) go =
       let x = marker-back s (st .at) c n m in
       on-piece st t q false (alone (x .fill)) (alone-over s st t c n x w (at-of e)) tt (known-of false e) (go false any)
-  onward st t q (by-frame c n next m w nf nr g nh nw e) go =
+  onward st t q (by-frame c n next m w nf nr g nh nw co e) go =
       let x = stood s o (st .at) c n 8 next (omega arith) m g in
       let a : t .at ≡ next = at-of e in
       let mb = x .after in
@@ -261,9 +267,11 @@ module _ (s : List ℕ) (o : Octets s) (main : ℕ) (f : Fault) where
       let l2 = length-lengthed (x .fill) c (x .body) in
       let hh : be16At s (n + 3) ≡ heightOf (x .body) = number-is s main st (x .fill) c (x .body) (drop next s) (x .other) (x .stands) 1 (n + 3) (omega arith) (omega arith) in
       let ww : be16At s (n + 5) ≡ widthOf (x .body) = number-is s main st (x .fill) c (x .body) (drop next s) (x .other) (x .stands) 3 (n + 5) (omega arith) (omega arith) in
+      let nc : getD s (n + 7) 0 ≡ componentsOf (x .body) = octet-is s main st (x .fill) c (x .body) (drop next s) (x .other) (x .stands) 5 (n + 7) (omega arith) (omega arith) in
       let z : t .at ≡ st .at + length (lengthed (x .fill) c (x .body)) = omega arith in
       subst (λ (l : List ℕ). BadFrom main (knownOf st q) (st .at) l f) (sym (x .stands ∙ ap (λ (j : ℕ). lengthed (x .fill) c (x .body) ++ drop j s) (sym a)))
       (past-frame (x .fill) c (x .body) (drop (t .at) s) (record { code = w; first = nf; resolved = nr }) (x .fits, en) (λ y. nh (hh ∙ y)) (λ y. nw (ww ∙ y))
+      (says-components (componentsOf (x .body)) .told (ap componentsOk (sym nc) ∙ co))
       (subst (λ (j : ℕ). BadFrom main (framing (knownOf st q)) j (drop (t .at) s) f) z
       (subst (λ (i : Known). BadFrom main i (t .at) (drop (t .at) s) f) (known-of false e) (go false any))))
   onward st t q (by-scan c n next p m w fr g fo e) go =

@@ -18,19 +18,20 @@ use Rattle.jpeg_rules.specs.declared.Marker.{Marker}
 use Rattle.jpeg_rules.specs.declared.Fault.{Fault}
 use Rattle.jpeg_rules.specs.declared.Seg.{Seg}
 use Rattle.jpeg_rules.specs.declared.Tag.the-variants.{Gives, Plain}
+use Rattle.jpeg_rules.specs.declared.Said.{Said}
 use Rattle.jpeg_rules.specs.declared.Reach.{Reach}
 use Rattle.jpeg_rules.specs.declared.Walk.{Walk}
 use Rattle.jpeg_rules.specs.declared.Turn.the-variants.{Go}
 use Rattle.jpeg_rules.specs.Marker.{classOf, markerOf}
 use Rattle.jpeg_rules.specs.Grammar.{marker, Piece, alone, segment, scan, lengthed, octetsOf, Good, tagged, saidBy}
-use Rattle.jpeg_rules.specs.Walk.{segOf, resolves, tagOf, framed, passed, moved, refused, onBody, onTag, frameBodyOf, frameOf, scanStepOf, segmentOf, endOf, markOf, onMarker, turnOf, begun, walkOf}
-use Rattle.jpeg_rules.specs.Faults.{Known, heightOf, widthOf, resOf, gives, FrameDue, May, past, framing, Next, any, no-data, Least, of-segment, of-scan, of-frame, BadLength, cut-length, small, cut-body, BadMarker, cut, cut-run, no-marker, wrong-code, second-frame, no-resolution, no-frame, no-scan, bad-length, no-height, no-width, bad-resolution, endless, BadFrom, here, past-piece, past-frame, BadLayer, cut-start, no-start, started}
+use Rattle.jpeg_rules.specs.Walk.{segOf, resolves, tagOf, framed, passed, moved, refused, onBody, onTag, frameSaid, frameBodyOf, frameOf, scanStepOf, segmentOf, endOf, markOf, onMarker, turnOf, begun, walkOf}
+use Rattle.jpeg_rules.specs.Faults.{Known, heightOf, widthOf, componentsOf, resOf, gives, FrameDue, May, past, framing, Next, any, no-data, Least, of-segment, of-scan, of-frame, BadLength, cut-length, small, cut-body, BadMarker, cut, cut-run, no-marker, wrong-code, second-frame, no-resolution, no-frame, no-scan, bad-length, no-height, no-width, bad-components, bad-resolution, endless, BadFrom, here, past-piece, past-frame, BadLayer, cut-start, no-start, started}
 use Rattle.jpeg_rules.proofs.Leaves.{class-other, two-there}
 use Rattle.jpeg_rules.proofs.Runs.{length-marker, begins-there, marker-cut}
 use Rattle.jpeg_rules.proofs.Scans.{Opens, endless-none}
-use Rattle.jpeg_rules.proofs.Turns.{scan-other, turn-class, turn-alone, turn-plain, turn-tag, turn-frame, turn-scan, opened, seg-is, segment-opened, number-is, tag-of, rest-at}
+use Rattle.jpeg_rules.proofs.Turns.{scan-other, turn-class, turn-alone, turn-plain, turn-tag, turn-frame, turn-scan, frame-says, opened, seg-is, segment-opened, number-is, tag-of, rest-at}
 use Rattle.jpeg_rules.proofs.Walks.{Walks, stops, goes, walks-count}
-use Rattle.jpeg_rules.proofs.There.{length-lengthed, lengthed-opens, piece-opens, says-resolves, tagged-long}
+use Rattle.jpeg_rules.proofs.There.{length-lengthed, lengthed-opens, piece-opens, says-resolves, says-components, tagged-long}
 
 -- what a walk's state says
 abbrev pub knownOf : Reach → Bool → Known
@@ -81,16 +82,22 @@ module _ (s : List ℕ) (main : ℕ) (st : Reach) (o : Bool) where
   placed : (F : ℕ → Fault) (i j : ℕ) → i ≡ j → turnOf s main st ≡ refused (F i) → turnOf s main st ≡ refused (F j)
   placed F i j z q = q ∙ ap (λ (n : ℕ). refused (F n)) z
 
-  -- a frame as the walk sees it: its length, its height and its width
+  -- a frame as the walk sees it: its length, its height, its width and its count of components
   module _ (i c : ℕ) (body r : List ℕ) (e : drop (st .at) s ≡ lengthed i c body ++ r) (w : FrameDue k c) (lo : 8 ≤ length body + 2) where
     frame-other : c ≢ 0xFF
     frame-other = class-other c Frame (w .code) (λ z. clash cc)
 
+    said-is : frameSaid s st (st .at + i + 2) ≡ saidBy body (st .said .res)
+    said-is = frame-says s main st i c body r frame-other e lo
+
     height-is : be16At s (st .at + i + 2 + 3) ≡ heightOf body
-    height-is = number-is s main st i c body r frame-other e 1 (st .at + i + 2 + 3) (omega arith) (omega arith)
+    height-is = ap (λ (x : Said). x .height) said-is
 
     width-is : be16At s (st .at + i + 2 + 5) ≡ widthOf body
-    width-is = number-is s main st i c body r frame-other e 3 (st .at + i + 2 + 5) (omega arith) (omega arith)
+    width-is = ap (λ (x : Said). x .width) said-is
+
+    count-is : getD s (st .at + i + 2 + 7) 0 ≡ componentsOf body
+    count-is = ap (λ (x : Said). x .components) said-is
 
     frame-opens : turnOf s main st ≡ frameBodyOf s st (st .at + i + 2) (st .at + i + 2 + (length body + 2))
     unfolding markOf frameOf
@@ -142,6 +149,17 @@ module _ (s : List ℕ) (main : ℕ) (st : Reach) (o : Bool) where
       placed Fault.BadLayer (st .at + i + 2 + 5) (st .at + i + 7) (omega arith)
       (frame-opens i c body r e w (lo .1)
       ∙ simp (height-is i c body r e w (lo .1), ne-eqb (heightOf body) 0 nz, width-is i c body r e w (lo .1), eq-eqb (widthOf body) 0 z) refl)
+  turn-bad e (bad-components i c body r w lo nh nw n) =
+      placed Fault.BadLayer (st .at + i + 2 + 7) (st .at + i + 9) (omega arith)
+      (frame-opens i c body r e w (lo .1)
+      ∙ simp (
+        height-is i c body r e w (lo .1),
+        ne-eqb (heightOf body) 0 nh,
+        width-is i c body r e w (lo .1),
+        ne-eqb (widthOf body) 0 nw,
+        count-is i c body r e w (lo .1),
+        says-fails (says-components (componentsOf body)) n,
+      ) refl)
   turn-bad e (bad-resolution i c body r g t n) =
       let u = says-and (says-eq (st .said .res) 0) (says-true (tagged c body)) .told t in
       let long = tagged-long s main c body (u .1) in
@@ -172,7 +190,7 @@ from-opens (here n b) e = by n e
     by any e = absurd (false≢true e)
     by (no-data i c r n d) e = record { fill = i; code = c; rest = r; is = refl; other = n; stop = d }
 from-opens (past-piece q l g m b) e = piece-opens q l g
-from-opens (past-frame i c body l w lo hi wi b) e = lengthed-opens i c body l (λ e. let z : Frame ≡ Wrong = sym (w .code) ∙ e in clash cc)
+from-opens (past-frame i c body l w lo hi wi co b) e = lengthed-opens i c body l (λ e. let z : Frame ≡ Wrong = sym (w .code) ∙ e in clash cc)
 
 module _ (s : List ℕ) (main : ℕ) (st : Reach) (o : Bool) (w : Walk) where
   -- after a piece the walk goes on, with what is known there
@@ -222,11 +240,11 @@ module _ (s : List ℕ) (main : ℕ) where
       piece-on s main st o (Walk.Refused f) q l g (subst (λ (i : Known). May main i q) (sym e) m) d
       (λ z. from-opens b (ap (λ (i : Known). past i q .inScan) (sym e) ∙ z))
       (λ t u k at r. walk-bad b t u (k ∙ ap (λ (i : Known). past i q) e) (at ∙ ap (λ (n : ℕ). n + length (octetsOf q)) a) r)
-  walk-bad {j = j} {p = p} {f = f} (past-frame i c body l w lo hi wi b) st o e a d =
+  walk-bad {j = j} {p = p} {f = f} (past-frame i c body l w lo hi wi co b) st o e a d =
       let y = length-lengthed i c body in
       let other = class-other c Frame (w .code) (λ z. clash cc) in
       let v : FrameDue (knownOf st o) c = subst (λ (i : Known). FrameDue i c) (sym e) w in
-      goes (turn-frame s main st i c body l other d (v .code) (v .first) (v .resolved) (lo .1) hi wi)
+      goes (turn-frame s main st i c body l other d (v .code) (v .first) (v .resolved) (lo .1) hi wi (says-components (componentsOf body) .shown co))
       (walk-bad b (framed st (st .at + i + 2 + (length body + 2)) (saidBy body (st .said .res))) false (ap framing e) (omega arith)
       (rest-at s main st i c body l other d))
 

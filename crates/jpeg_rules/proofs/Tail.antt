@@ -225,7 +225,7 @@ module _ (s : List ℕ) (o : Octets s) (main e : ℕ) (said : Said) where
       tail-more s st t e said (alone (x .fill)) (alone-over s st t c n x k (reach-of (λ (z : Reach). z .at) q))
       (λ y. inl (reach-of (λ (z : Reach). z .scanned) (sym q) ∙ y)) (reach-of (λ (z : Reach). z .said) q)
       (go (reach-of (λ (z : Reach). z .framed) q ∙ f) (λ y. d (sym (reach-of (λ (z : Reach). z .said .res) q) ∙ y)))
-  tail-onward st t f d (by-frame c n next m k nf nr g nh nw q) go = absurd (false≢true (sym nf ∙ f))
+  tail-onward st t f d (by-frame c n next m k nf nr g nh nw co q) go = absurd (false≢true (sym nf ∙ f))
   tail-onward st t f d (by-scan c n next p m k fr g fo q) go =
       let x = stood s o (st .at) c n 2 next (omega arith) m g in
       tail-more s st t e said (scan (x .fill) (x .body) (take (p - next) (drop next s))) (scan-over s st t c n next x p k fo (reach-of (λ (z : Reach). z .at) q))

@@ -13,7 +13,7 @@ use Rattle.octets.specs.Octets.{be16At, octets16, begins}
 use Rattle.octets.proofs.Laws.{length-octets16}
 use Rattle.sheet_rules.specs.Judge.{listed, divides}
 use Rattle.sheet_rules.specs.Sentences.{Listed}
-use Rattle.laws.proofs.Says.{Says, says-eq, says-le, says-and, says-true, says-as, says-else}
+use Rattle.laws.proofs.Says.{Says, says-eq, says-le, says-and, says-or, says-true, says-as, says-else}
 use Rattle.sheet_rules.proofs.New.{says-listed, says-divides}
 use Rattle.sheet_rules.proofs.Backward.{listed-nonzero}
 use Rattle.jpeg_rules.specs.declared.Class.the-variants.{Frame, Wrong, Segment}
@@ -24,8 +24,8 @@ use Rattle.jpeg_rules.specs.declared.Turn.the-variants.{Stop}
 use Rattle.jpeg_rules.specs.declared.Walk.{Walk}
 use Rattle.jpeg_rules.specs.declared.Walk.the-variants.{Ends}
 use Rattle.jpeg_rules.specs.Marker.{classOf}
-use Rattle.jpeg_rules.specs.Grammar.{marker, Data, Piece, alone, segment, scan, lengthed, octetsOf, piecesOf, Good, isScan, g3fax, tagged, resolution, Each, Scanned, saidBy, Layer}
-use Rattle.jpeg_rules.specs.Walk.{resolves, withRes, framed, passed, moved, begun, walkOf}
+use Rattle.jpeg_rules.specs.Grammar.{marker, Data, Piece, alone, segment, scan, lengthed, octetsOf, piecesOf, Good, isScan, g3fax, tagged, resolution, Each, Scanned, Components, saidBy, Layer}
+use Rattle.jpeg_rules.specs.Walk.{resolves, withRes, componentsOk, framed, passed, moved, begun, walkOf}
 use Rattle.laws.proofs.Cases.{clash, bool-else}
 use Rattle.jpeg_rules.proofs.Leaves.{class-other, code-stops, two-there}
 use Rattle.jpeg_rules.proofs.Runs.{length-marker, begins-there}
@@ -44,6 +44,9 @@ length-lengthed f c body =
 
 pub says-resolves : (main r : ℕ) → Says (resolves main r) (Listed r × (r ∣ main))
 says-resolves main r = says-as (says-and (says-listed r) (says-divides r main)) (λ k. (k .0, k .1 .1)) (λ k. (k .0, (listed-nonzero r (k .0), k .1)))
+
+pub says-components : (c : ℕ) → Says (componentsOk c) (Components c)
+says-components c = says-or (says-eq c 1) (says-eq c 3)
 
 -- ---- what may stand after scan data
 
@@ -353,7 +356,8 @@ module _ (s : List ℕ) (start main : ℕ) (l rest : List ℕ) (said : Said) (y 
       let tf : t .framed ≡ false = b .framed in
       goes
       (turn-frame s main t (y .fill) (y .code) (y .body) (piecesOf (y .after) ++ (marker (y .last) 0xD9 ++ rest)) frame-other d (y .frame) tf (λ k. res-nonzero (sym tr ∙ k)) (y .long)
-      (λ k. y .high (ap (λ (x : Said). x .height) (y .says) ∙ k)) (λ k. y .wide (ap (λ (x : Said). x .width) (y .says) ∙ k)))
+      (λ k. y .high (ap (λ (x : Said). x .height) (y .says) ∙ k)) (λ k. y .wide (ap (λ (x : Said). x .width) (y .says) ∙ k))
+      (says-components (getD (y .body) 5 0) .shown (subst Components (ap (λ (x : Said). x .components) (y .says)) (y .counted))))
       (pieces-walk s main (y .after) u (marker (y .last) 0xD9 ++ rest) w
       (rest-at s main t (y .fill) (y .code) (y .body) (piecesOf (y .after) ++ (marker (y .last) 0xD9 ++ rest)) frame-other d)
       (marker-opens (y .last) 0xD9 rest (λ e. clash cc)) (y .late) (inl refl)

@@ -1,12 +1,13 @@
 -- A turn of the walk for each kind of marker, by the octets that stand there.
 -- Assumes nothing.
-use Prim.Native.Nat.{ℕ, _+_, _≤_}
+use Prim.Native.Nat.{ℕ, _+_, _≤_, _<_}
 use native.Mathlib.Omega.{arith}
 use mathlib.Core.Path.{_≡_, refl, sym, ap, ap₂, _∙_}
 use mathlib.Core.Logic.{_≢_}
 use mathlib.Core.Bool.{Bool, true, false, _&&_, cond}
 use mathlib.Core.List.{List, _++_, append-assoc}
-use lib.ListN.{length, drop}
+use lib.ListN.{length, getD, drop, List·getD-append}
+use lib.Seq.{getD-drop}
 use lib.Dec.{eqb, leb}
 use borrow.Author.Tests.{ne-eqb, le-leb, leb-true}
 use Rattle.octets.specs.Octets.{be16At, octets16, begins, standsAt}
@@ -25,7 +26,7 @@ use Rattle.jpeg_rules.specs.declared.Walk.the-variants.{Ends}
 use Rattle.jpeg_rules.specs.declared.Turn.the-variants.{Go, Stop}
 use Rattle.jpeg_rules.specs.Marker.{classOf}
 use Rattle.jpeg_rules.specs.Grammar.{marker, Data, lengthed, g3fax, tagged, saidBy}
-use Rattle.jpeg_rules.specs.Walk.{segOf, resolves, tagOf, framed, passed, moved, refused, onBody, onTag, frameSaid, frameBodyOf, frameOf, scanStepOf, segmentOf, markOf, onMarker, turnOf}
+use Rattle.jpeg_rules.specs.Walk.{segOf, resolves, tagOf, framed, passed, moved, refused, onBody, onTag, frameSaid, componentsOk, frameBodyOf, frameOf, scanStepOf, segmentOf, markOf, onMarker, turnOf}
 use Rattle.jpeg_rules.proofs.Leaves.{seg-there}
 use Rattle.jpeg_rules.proofs.Runs.{begins-there, marker-there}
 use Rattle.jpeg_rules.proofs.Scans.{Opens, scan-there}
@@ -80,6 +81,11 @@ module _ (s : List ℕ) (main : ℕ) (st : Reach) where
     pub number-is : (k j : ℕ) → st .at + f + 2 + 2 + k ≡ j → k + 2 ≤ length body → be16At s j ≡ be16At body k
     number-is k j z h =
         ap (be16At s) (sym z) ∙ sym (be16-drop s (st .at + f + 2 + 2) k) ∙ ap (λ (l : List ℕ). be16At l k) body-at ∙ be16-append body r k h
+
+    -- an octet of the body
+    pub octet-is : (k j : ℕ) → st .at + f + 2 + 2 + k ≡ j → k < length body → getD s j 0 ≡ getD body k 0
+    octet-is k j z h =
+        ap (λ (i : ℕ). getD s i 0) (sym z) ∙ sym (getD-drop (st .at + f + 2 + 2) s k 0) ∙ ap (λ (l : List ℕ). getD l k 0) body-at ∙ List·getD-append body r 0 k h
 
     -- ---- the tag
 
@@ -173,16 +179,19 @@ module _ (s : List ℕ) (main : ℕ) (st : Reach) where
     frame-says l =
         let a = number-is 1 (st .at + f + 2 + 3) (let z : st .at + f + 2 + 2 + 1 ≡ st .at + f + 2 + 3 = omega arith in z) (omega arith) in
         let b = number-is 3 (st .at + f + 2 + 5) (let z : st .at + f + 2 + 2 + 3 ≡ st .at + f + 2 + 5 = omega arith in z) (omega arith) in
-        λ i. record { width = b i; height = a i; res = st .said .res }
+        let d = octet-is 5 (st .at + f + 2 + 7) (let z : st .at + f + 2 + 2 + 5 ≡ st .at + f + 2 + 7 = omega arith in z) (omega arith) in
+        λ i. record { width = b i; height = a i; res = st .said .res; components = d i }
 
     pub turn-frame : classOf c ≡ Frame → st .framed ≡ false → st .said .res ≢ 0 → 8 ≤ length body + 2 → be16At body 1 ≢ 0 → be16At body 3 ≢ 0
+        → componentsOk (getD body 5 0) ≡ true
         → turnOf s main st ≡ Go (framed st (st .at + f + 2 + (length body + 2)) (saidBy body (st .said .res)))
     unfolding markOf frameOf frameBodyOf
-    turn-frame k nf d l h w =
+    turn-frame k nf d l h w co =
         let a : be16At s (st .at + f + 2 + 3) ≡ be16At body 1 = ap (λ (x : Said). x .height) (frame-says l) in
         let b : be16At s (st .at + f + 2 + 5) ≡ be16At body 3 = ap (λ (x : Said). x .width) (frame-says l) in
+        let e : getD s (st .at + f + 2 + 7) 0 ≡ getD body 5 0 = ap (λ (x : Said). x .components) (frame-says l) in
         turn-class f c (octets16 (length body + 2) ++ (body ++ r)) Frame other opened k
-        ∙ simp (nf, ne-eqb (st .said .res) 0 d, seg-is 8 l, a, b, ne-eqb (be16At body 1) 0 h, ne-eqb (be16At body 3) 0 w) refl
+        ∙ simp (nf, ne-eqb (st .said .res) 0 d, seg-is 8 l, a, b, e, ne-eqb (be16At body 1) 0 h, ne-eqb (be16At body 3) 0 w, co) refl
 
 -- ---- a scan, with its data and the marker after it
 

@@ -6,7 +6,7 @@ use mathlib.Core.Path.{_≡_, refl, sym, ap, _∙_}
 use mathlib.Core.Logic.{_≢_}
 use mathlib.Core.Bool.{true, false, cond}
 use mathlib.Core.List.{List}
-use lib.ListN.{length}
+use lib.ListN.{length, getD}
 use lib.Dec.{eqb, ltb}
 use borrow.Author.Tests.{eqb-false, lt-ltb, ltb-false}
 use Rattle.octets.specs.Octets.{be16At}
@@ -28,7 +28,7 @@ use Rattle.jpeg_rules.specs.declared.Walk.the-variants.{Ends}
 use Rattle.jpeg_rules.specs.declared.Turn.{Turn}
 use Rattle.jpeg_rules.specs.declared.Turn.the-variants.{Go, Stop}
 use Rattle.jpeg_rules.specs.Marker.{classOf, markerOf}
-use Rattle.jpeg_rules.specs.Walk.{segOf, scanOf, resolves, tagOf, framed, passed, moved, refused, onBody, onFound, onTag, frameSaid, frameBodyOf, frameOf, scanStepOf, segmentOf, endOf, markOf, onMarker, turnOf, onTurn, walkFrom}
+use Rattle.jpeg_rules.specs.Walk.{segOf, scanOf, resolves, tagOf, framed, passed, moved, refused, onBody, onFound, onTag, frameSaid, componentsOk, frameBodyOf, frameOf, scanStepOf, segmentOf, endOf, markOf, onMarker, turnOf, onTurn, walkFrom}
 use Rattle.laws.proofs.Cases.{cond-with, clash}
 use Rattle.jpeg_rules.proofs.Runs.{marker-back}
 use Rattle.jpeg_rules.proofs.Scans.{scan-back}
@@ -39,7 +39,7 @@ module _ (s : List ℕ) (main : ℕ) (st : Reach) where
   pub data Onward (t : Reach) : Type 0 where
     by-alone : (c n : ℕ) → markerOf s (st .at) ≡ Code c n → classOf c ≡ Alone → moved st n (st .said .res) ≡ t → Onward t
     by-frame : (c n next : ℕ) → markerOf s (st .at) ≡ Code c n → classOf c ≡ Frame → st .framed ≡ false → st .said .res ≢ 0 → segOf s n 8 ≡ Body next
-        → be16At s (n + 3) ≢ 0 → be16At s (n + 5) ≢ 0 → framed st next (frameSaid s st n) ≡ t → Onward t
+        → be16At s (n + 3) ≢ 0 → be16At s (n + 5) ≢ 0 → componentsOk (getD s (n + 7) 0) ≡ true → framed st next (frameSaid s st n) ≡ t → Onward t
     by-scan : (c n next p : ℕ) → markerOf s (st .at) ≡ Code c n → classOf c ≡ Scan → st .framed ≡ true → segOf s n 2 ≡ Body next
         → scanOf s next ≡ At p → passed st p ≡ t → Onward t
     by-plain : (c n next : ℕ) → markerOf s (st .at) ≡ Code c n → classOf c ≡ Segment → segOf s n 2 ≡ Body next → tagOf s st c n ≡ Plain
@@ -78,7 +78,12 @@ module _ (s : List ℕ) (main : ℕ) (st : Reach) where
         told-body 8 (λ (next : ℕ). frameBodyOf s st n next) λ next g.
         cond-with Told (eqb (be16At s (n + 3)) 0) (λ e. told-refused _) λ h.
         cond-with Told (eqb (be16At s (n + 5)) 0) (λ e. told-refused _) λ w.
-        (λ t e. by-frame c n next m k f (eqb-false (st .said .res) 0 d) g (eqb-false (be16At s (n + 3)) 0 h) (eqb-false (be16At s (n + 5)) 0 w) cc, λ e said q. clash cc)
+        cond-with Told (componentsOk (getD s (n + 7) 0))
+        (λ o. (
+          λ t e. by-frame c n next m k f (eqb-false (st .said .res) 0 d) g (eqb-false (be16At s (n + 3)) 0 h) (eqb-false (be16At s (n + 5)) 0 w) o cc,
+          λ e said q. clash cc,
+        ))
+        (λ o. told-refused _)
 
     told-scan : classOf c ≡ Scan → Told (scanStepOf s st n)
     unfolding scanStepOf
@@ -158,7 +163,7 @@ ahead-at e = ap (λ (x : Reach). x .at) e
 pub ahead : (s : List ℕ) (main : ℕ) (st t : Reach) → Onward s main st t → st .at + 2 ≤ t .at
 ahead s main st t (by-alone c n m k e) =
     let a = marker-back s (st .at) c n m .ends in let b : n ≡ t .at = ahead-at e in omega arith
-ahead s main st t (by-frame c n next m k f d g h w e) =
+ahead s main st t (by-frame c n next m k f d g h w o e) =
     let a = marker-back s (st .at) c n m .ends in let b : next ≡ t .at = ahead-at e in let q = seg-ahead s n 8 next g in omega arith
 ahead s main st t (by-scan c n next p m k f g q e) =
     let a = marker-back s (st .at) c n m .ends in

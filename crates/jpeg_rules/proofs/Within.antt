@@ -28,7 +28,7 @@ use Rattle.jpeg_rules.specs.declared.Turn.{Turn}
 use Rattle.jpeg_rules.specs.declared.Turn.the-variants.{Go, Stop}
 use Rattle.jpeg_rules.specs.Marker.{classOf, markerOf}
 use Rattle.jpeg_rules.specs.Grammar.{g3fax}
-use Rattle.jpeg_rules.specs.Walk.{segOf, scanOf, resolves, tagOf, framed, passed, moved, refused, onBody, onFound, onTag, frameBodyOf, frameOf, scanStepOf, segmentOf, endOf, markOf, onMarker, turnOf, begun, walkOf}
+use Rattle.jpeg_rules.specs.Walk.{segOf, scanOf, resolves, tagOf, framed, passed, moved, refused, onBody, onFound, onTag, componentsOk, frameBodyOf, frameOf, scanStepOf, segmentOf, endOf, markOf, onMarker, turnOf, begun, walkOf}
 use Rattle.jpeg_rules.proofs.Runs.{marker-back}
 use Rattle.jpeg_rules.proofs.Scans.{scan-back}
 use Rattle.jpeg_rules.proofs.Walks.{Walks, stops, goes, walks-from}
@@ -73,7 +73,8 @@ module _ (s : List ℕ) (main : ℕ) where
         cond-with Within (eqb (st .said .res) 0) (λ e. h) λ d.
         body-within 8 (λ (next : ℕ). frameBodyOf s st n next) λ next lo hi e.
         cond-with Within (eqb (be16At s (n + 3)) 0) (λ q. let u : n + 3 ≤ length s = omega arith in u) λ q1.
-        cond-with Within (eqb (be16At s (n + 5)) 0) (λ q. let u : n + 5 ≤ length s = omega arith in u) λ q2. hi
+        cond-with Within (eqb (be16At s (n + 5)) 0) (λ q. let u : n + 5 ≤ length s = omega arith in u) λ q2.
+        cond-with Within (componentsOk (getD s (n + 7) 0)) (λ q. hi) (λ q. let u : n + 7 ≤ length s = omega arith in u)
 
     scan-within : Within (scanStepOf s st n)
     unfolding scanStepOf placeOf Within

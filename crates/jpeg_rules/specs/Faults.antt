@@ -3,7 +3,7 @@
 -- place is the first octet of the field at fault; a marker's is the first FF of its run.
 --
 --   Known            what is known where a marker is due: a frame came, a scan came, the resolution (0 where none is yet), the last piece is a scan
---   heightOf, widthOf, resOf   the numbers in the body of a frame and of a tagged segment
+--   heightOf, widthOf, componentsOf, resOf   the numbers in the body of a frame and of a tagged segment
 --   gives k c b      a segment gives the resolution: it is tagged, and none before it was
 --   Resolves         a resolution that a layer may have
 --   FrameDue k c     a frame may stand here
@@ -21,14 +21,14 @@ use mathlib.Core.Path.{_≡_}
 use mathlib.Core.Logic.{_≢_}
 use mathlib.Core.Bool.{Bool, true, false, _&&_, cond}
 use mathlib.Core.List.{List, _∷_, _++_}
-use lib.ListN.{length, replicate}
+use lib.ListN.{length, getD, replicate}
 use lib.Dec.{eqb}
 use Rattle.octets.specs.Octets.{be16At, octets16}
 use Rattle.sheet_rules.specs.Sentences.{Listed}
 use Rattle.jpeg_rules.specs.declared.Class.the-variants.{Frame, Scan, End, Wrong, Segment}
 use Rattle.jpeg_rules.specs.declared.Fault.{Fault}
 use Rattle.jpeg_rules.specs.Marker.{classOf}
-use Rattle.jpeg_rules.specs.Grammar.{marker, DataRun, Data, Piece, alone, segment, scan, lengthed, octetsOf, Fits, Good, tagged}
+use Rattle.jpeg_rules.specs.Grammar.{marker, DataRun, Data, Piece, alone, segment, scan, lengthed, octetsOf, Fits, Good, tagged, Components}
 
 -- ---- what may stand where a marker is due
 
@@ -47,6 +47,9 @@ heightOf body = be16At body 1
 
 abbrev pub widthOf : List ℕ → ℕ
 widthOf body = be16At body 3
+
+abbrev pub componentsOf : List ℕ → ℕ
+componentsOf body = getD body 5 0
 
 abbrev pub resOf : List ℕ → ℕ
 resOf body = be16At body 8
@@ -130,6 +133,9 @@ pub data BadMarker (main : ℕ) (k : Known) (p : ℕ) : List ℕ → Fault → T
       → BadMarker main k p (lengthed fill c body ++ r) (Fault.BadLayer (p + fill + 5))
   no-width : (fill c : ℕ) (body r : List ℕ) → FrameDue k c → FrameLong body → heightOf body ≢ 0 → widthOf body ≡ 0
       → BadMarker main k p (lengthed fill c body ++ r) (Fault.BadLayer (p + fill + 7))
+  -- its components, counted 9 octets after the last FF, are one or three
+  bad-components : (fill c : ℕ) (body r : List ℕ) → FrameDue k c → FrameLong body → heightOf body ≢ 0 → widthOf body ≢ 0
+      → (Components (componentsOf body) → ⊥) → BadMarker main k p (lengthed fill c body ++ r) (Fault.BadLayer (p + fill + 9))
   -- a resolution, 12 octets after the last FF, that is not listed or no divisor
   bad-resolution : (fill c : ℕ) (body r : List ℕ) → Good (segment fill c body) → gives k c body ≡ true → (Resolves main (resOf body) → ⊥)
       → BadMarker main k p (lengthed fill c body ++ r) (Fault.BadRes (p + fill + 12))
@@ -144,7 +150,7 @@ pub data BadFrom (main : ℕ) : Known → ℕ → List ℕ → Fault → Type 0 
   past-piece : {k : Known} {p : ℕ} {f : Fault} (q : Piece) (l : List ℕ) → Good q → May main k q
       → BadFrom main (past k q) (p + length (octetsOf q)) l f → BadFrom main k p (octetsOf q ++ l) f
   past-frame : {k : Known} {p : ℕ} {f : Fault} (fill c : ℕ) (body l : List ℕ) → FrameDue k c → FrameLong body → heightOf body ≢ 0
-      → widthOf body ≢ 0 → BadFrom main (framing k) (p + length (lengthed fill c body)) l f → BadFrom main k p (lengthed fill c body ++ l) f
+      → widthOf body ≢ 0 → Components (componentsOf body) → BadFrom main (framing k) (p + length (lengthed fill c body)) l f → BadFrom main k p (lengthed fill c body ++ l) f
 
 -- the layer begins at `at`, with FF D8 and no fill before it
 pub data BadLayer (main at : ℕ) : List ℕ → Fault → Type 0 where

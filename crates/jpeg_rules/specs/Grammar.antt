@@ -13,7 +13,7 @@ use mathlib.Core.Path.{_≡_}
 use mathlib.Core.Logic.{_⊎_, _≢_}
 use mathlib.Core.Bool.{Bool, true, false, _&&_, cond}
 use mathlib.Core.List.{List, [], _∷_, _++_}
-use lib.ListN.{length, replicate}
+use lib.ListN.{length, getD, replicate}
 use lib.Dec.{eqb, leb}
 use Rattle.octets.specs.Octets.{be16At, octets16, begins}
 use Rattle.sheet_rules.specs.Sentences.{Listed}
@@ -94,9 +94,13 @@ unfoldable pub Scanned : List Piece → Type 0
 Scanned [] = ⊥
 Scanned (p ∷ ps) = (isScan p ≡ true) ⊎ Scanned ps
 
--- what a frame's body says, beside the resolution
+-- lightness alone, or lightness and chroma (02, 2026-07)
+abbrev pub Components : ℕ → Type 0
+Components c = (c ≡ 1) ⊎ (c ≡ 3)
+
+-- what a frame's body says, beside the resolution: T.81 B.2.2 has a precision octet, the number of lines, the samples a line, the components
 abbrev pub saidBy : List ℕ → ℕ → Said
-saidBy body res = record { width = be16At body 3; height = be16At body 1; res = res }
+saidBy body res = record { width = be16At body 3; height = be16At body 1; res = res; components = getD body 5 0 }
 
 pub record Layer (main : ℕ) (l : List ℕ) (said : Said) : Type 0 where
   pub before : List Piece
@@ -109,13 +113,14 @@ pub record Layer (main : ℕ) (l : List ℕ) (said : Said) : Type 0 where
   pub octets : l ≡ 0xFF ∷ 0xD8 ∷ piecesOf before ++ (lengthed fill code body ++ (piecesOf after ++ marker last 0xD9))
   pub early : Each (λ p. Good p × (isScan p ≡ false)) before
   pub late : Each Good after
-  -- the frame: its length at least 8, its width and height not 0
+  -- the frame: its length at least 8, its width and height not 0, its components one or three
   pub frame : classOf code ≡ Frame
   pub long : 8 ≤ length body + 2
   pub fits : Fits body
   pub says : said ≡ saidBy body (resolution before)
   pub high : said .height ≢ 0
   pub wide : said .width ≢ 0
+  pub counted : Components (said .components)
   -- before the frame stands the segment that gives the resolution, which is listed and divides the main one
   pub listed : Listed (said .res)
   pub divides : said .res ∣ main

@@ -76,7 +76,7 @@ tagOf s st c n =
 
 -- with another resolution
 abbrev pub withRes : Said → ℕ → Said
-withRes said res = record { width = said .width; height = said .height; res = res }
+withRes said res = record { width = said .width; height = said .height; res = res; components = said .components }
 
 abbrev pub framed : Reach → ℕ → Said → Reach
 framed st at said = record { at = at; framed = true; scanned = st .scanned; said = said }
@@ -106,14 +106,18 @@ onTag (Gives r) plain go = go r
 
 -- what a frame's body says, beside the resolution that is known
 abbrev pub frameSaid : List ℕ → Reach → ℕ → Said
-frameSaid s st n = record { width = be16At s (n + 5); height = be16At s (n + 3); res = st .said .res }
+frameSaid s st n = record { width = be16At s (n + 5); height = be16At s (n + 3); res = st .said .res; components = getD s (n + 7) 0 }
 
--- a frame's body: height before width, neither 0
+-- one component or three
+abbrev pub componentsOk : ℕ → Bool
+componentsOk c = eqb c 1 || eqb c 3
+
+-- a frame's body: height before width, neither 0, and then the count of components
 unfoldable pub frameBodyOf : List ℕ → Reach → ℕ → ℕ → Turn
 frameBodyOf s st n next =
     cond (eqb (be16At s (n + 3)) 0) (refused (BadLayer (n + 3)))
     (cond (eqb (be16At s (n + 5)) 0) (refused (BadLayer (n + 5)))
-    (Go (framed st next (frameSaid s st n))))
+    (cond (componentsOk (getD s (n + 7) 0)) (Go (framed st next (frameSaid s st n))) (refused (BadLayer (n + 7)))))
 
 -- the frame: the first, after the resolution, and at least 8 long
 unfoldable pub frameOf : List ℕ → Reach → ℕ → Turn
@@ -171,7 +175,7 @@ walkFrom zero s main st = Walk.Refused (Short (st .at))
 walkFrom (suc fuel) s main st = onTurn (turnOf s main st) (λ (t : Reach). walkFrom fuel s main t)
 
 abbrev pub begun : ℕ → Reach
-begun at = record { at = at; framed = false; scanned = false; said = record { width = 0; height = 0; res = 0 } }
+begun at = record { at = at; framed = false; scanned = false; said = record { width = 0; height = 0; res = 0; components = 0 } }
 
 -- FF D8, then the markers
 unfoldable pub walkOf : List ℕ → ℕ → ℕ → Walk

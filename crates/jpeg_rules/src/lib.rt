@@ -46,11 +46,12 @@ pub enum Tag {
     Plain,
 }
 
-// What a JPEG layer says of itself: its size and its resolution.
+// What a JPEG layer says of itself: its size, its resolution, and how many components its frame has.
 pub struct Said {
     pub width: u16,
     pub height: u16,
     pub res: u16,
+    pub components: u8,
 }
 
 // What is known where a marker is due, at `at`. A resolution of 0 is none yet.

@@ -43,6 +43,7 @@ pub fn moved_to(st: Reach, at: usize, res: u16) -> Reach
             width: st.said.width,
             height: st.said.height,
             res,
+            components: st.said.components,
         },
     }
 }

@@ -26,7 +26,7 @@ use Rattle.jpeg_rules.specs.declared.Turn.the-variants.{Go, Stop}
 use Rattle.jpeg_rules.specs.declared.Walk.{Walk}
 use Rattle.jpeg_rules.specs.declared.Walk.the-variants.{Ends}
 use Rattle.jpeg_rules.specs.Marker.{classOf, markerOf}
-use Rattle.jpeg_rules.specs.Walk.{segOf, scanOf, resolves, tagOf, passed, moved, refused, onBody, onFound, onTag, onMarker, frameBodyOf, frameOf, scanStepOf, segmentOf, endOf, markOf, turnOf, onTurn, walkFrom, begun, walkOf}
+use Rattle.jpeg_rules.specs.Walk.{segOf, scanOf, resolves, tagOf, passed, moved, refused, onBody, onFound, onTag, onMarker, componentsOk, frameBodyOf, frameOf, scanStepOf, segmentOf, endOf, markOf, turnOf, onTurn, walkFrom, begun, walkOf}
 use Rattle.jpeg_rules.proofs.Runs.{marker-back}
 use Rattle.jpeg_rules.proofs.Scans.{scan-back}
 use Rattle.jpeg_segment.specs.Room.{Room}
@@ -92,7 +92,8 @@ module _ (s : List ℕ) (st : Reach) (n : ℕ) (l : st .at + 2 ≤ n) (m : n ≤
       cond-with (Ahead s st) (eqb (st .said .res) 0) (λ _. tt) λ _.
       ahead-body s st n 8 (segOf s n 8) (λ (next : ℕ). frameBodyOf s st n next) (roomy s n 8) λ next r.
       cond-with (Ahead s st) (eqb (be16At s (n + 3)) 0) (λ _. tt) λ _.
-      cond-with (Ahead s st) (eqb (be16At s (n + 5)) 0) (λ _. tt) λ _. omega (arith, l)
+      cond-with (Ahead s st) (eqb (be16At s (n + 5)) 0) (λ _. tt) λ _.
+      cond-with (Ahead s st) (componentsOk (getD s (n + 7) 0)) (λ _. omega (arith, l)) (λ _. tt)
 
   ahead-scan : Ahead s st (scanStepOf s st n)
   unfolding scanStepOf

@@ -69,6 +69,7 @@ pub fn walk_layer(s: &[u8], start: usize, main: u16) -> Walk
                 width: 0,
                 height: 0,
                 res: 0,
+                components: 0,
             },
         }),
     );

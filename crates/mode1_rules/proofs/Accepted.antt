@@ -18,11 +18,13 @@ use Rattle.sheet_rules.specs.declared.Step.{Step}
 use Rattle.sheet_rules.specs.declared.Step.the-variants.{Next, Stop}
 use Rattle.sheet_rules.specs.Judge.{coded as isCoded, choiceOk, after, after1, after2, after3, stepOf, onStep, run}
 use Rattle.sheet_rules.specs.Sentences.{Coded, Uncoded as UncodedRecord, CoderOf, Listed}
-use Rattle.sheet_rules.proofs.New.{CodedFacts, UncodedFacts, ResFacts, New, says-choice}
+use Rattle.sheet_rules.proofs.New.{CodedFacts, UncodedFacts, ResFacts, GreyFacts, New, says-choice}
 use Rattle.sheet_rules.proofs.Backward.{listed-nonzero}
 use Rattle.sheet_rules.proofs.Fold.{step-next}
 use Rattle.jpeg_rules.specs.declared.Said.{Said}
+use Rattle.jpeg_rules.specs.Said.{greyOctet}
 use Rattle.jpeg_rules.specs.Grammar.{Layer}
+use Rattle.jpeg_rules.proofs.Grey.{octet-two}
 use Rattle.segment_rules.specs.declared.Mode.{Mode}
 use Rattle.segment_rules.specs.declared.Mode.the-variants.{One}
 use Rattle.segment_rules.specs.Rules.{longestPage}
@@ -40,7 +42,8 @@ use Rattle.mode1_rules.proofs.Parts.{backIn, maskIn, foreIn, stripe-len
 record ImageFacts (main k l : ℕ) (b : Bool) (r : Record) : Type 0 where
   stripe-is : r .stripe ≡ k
   layer-is : r .layer ≡ l
-  zeros : (r .octet17 ≡ 0) × (r .octets26 ≡ 0)
+  zeros : r .octets26 ≡ 0
+  grey : (r .octet17 ≡ 0) ⊎ GreyFacts r
   coded-is : isCoded r ≡ b
   contents : (Coded r × CodedFacts r) ⊎ (UncodedRecord r × UncodedFacts r)
   listed : Listed (r .res)
@@ -57,7 +60,11 @@ image-facts hd k l at base x y b o c odd g small (there {said = said} z) =
     record {
       stripe-is = refl;
       layer-is = refl;
-      zeros = (refl, refl);
+      zeros = refl;
+      grey =
+          ⊎-elim (λ (y : (said .components ≡ 1) × (greyOctet (said .components) ≡ 1)). inr ((y .1, odd), refl))
+          (λ (y : (said .components ≡ 3) × (greyOctet (said .components) ≡ 0)). inl (y .1))
+          (octet-two (said .components) (z .counted));
       coded-is = says-not (says-eq (length o) 0) .shown nz;
       contents = inl (nz, record { coder = inl refl; width = z .wide; height = z .high; ending = omega arith });
       listed = z .listed;
@@ -67,7 +74,8 @@ image-facts hd k l at base x y b o c odd g small absent =
     record {
       stripe-is = refl;
       layer-is = refl;
-      zeros = (refl, refl);
+      zeros = refl;
+      grey = inl refl;
       coded-is = refl;
       contents = inr (refl, record { coder = refl; start = refl; empty = inr (record { x = refl; y = refl; width = refl; height = refl }) });
       listed = g;
@@ -153,6 +161,7 @@ module _ (hd : Head) (g : GoodHead hd) (k left at : ℕ) (l : List ℕ) (height 
       let li = x .layer-is in
       record {
         zeros = x .zeros;
+        grey = x .grey;
         place =
             ⊎-elim
             (λ (y : (k ≡ 0) × (st .stripe ≡ 0) × (st .layer ≡ 0)). inl ((omega arith, omega arith), omega arith))
@@ -179,7 +188,8 @@ module _ (hd : Head) (g : GoodHead hd) (k left at : ℕ) (l : List ℕ) (height 
       let h = z .good .height in
       let ll = rdy .left-is in
       record {
-        zeros = (refl, refl);
+        zeros = refl;
+        grey = inl refl;
         place = inl ((sym si, omega arith), lit≤ tt);
         contents = y .contents;
         listed = g .main;
@@ -215,6 +225,7 @@ module _ (hd : Head) (g : GoodHead hd) (k left at : ℕ) (l : List ℕ) (height 
       let li = x .layer-is in
       record {
         zeros = x .zeros;
+        grey = x .grey;
         place = inl ((si, li), omega arith);
         contents = x .contents;
         listed = x .listed;

@@ -2,7 +2,7 @@
 -- Assumes nothing.
 use Prim.Native.Nat.{ℕ, _+_, _≤_}
 use native.Mathlib.Omega.{arith}
-use mathlib.Core.Path.{_≡_, refl, sym, subst}
+use mathlib.Core.Path.{_≡_, refl, sym, subst₂}
 use mathlib.Core.Logic.{_⊎_, inl, inr}
 use mathlib.Core.Bool.{Bool, true, false, cond}
 use mathlib.Core.List.{List, _++_}
@@ -12,13 +12,15 @@ use Rattle.sheet_rules.specs.declared.Record.{Record}
 use Rattle.sheet_rules.specs.Sentences.{Among, Coded}
 use Rattle.jpeg_rules.specs.Said.{recordSaid}
 use Rattle.jpeg_rules.specs.Grammar.{Layer}
+use Rattle.jpeg_rules.proofs.Grey.{count-again}
 use Rattle.start_rules.specs.declared.Head.{Head}
 use Rattle.mode1_rules.specs.declared.LayerData.{LayerData}
+use Rattle.mode1_rules.specs.declared.LayerData.the-variants.{There}
 use Rattle.mode1_rules.specs.Kinds.{stripeBody, hasBack, hasMask, hasFore, imageRecord, maskRecord}
 use Rattle.mode1_rules.specs.Grammar.{Image, there, absent, Stripe}
 use Rattle.mode1_rules.proofs.Parts.{stripe-each, stripe-length, back-octets, fore-octets}
 
--- the octets that a record names are within the page; those of an image layer are a JPEG layer of the record's size and resolution
+-- the octets that a record names are within the page; those of an image layer are a JPEG layer that says of itself what the record says
 pub record Named (main : ℕ) (s : List ℕ) (r : Record) : Type 0 where
   pub inside : r .start + r .len ≤ length s
   pub layer : (r .layer ≡ 2) ⊎ Layer main (take (r .len) (drop (r .start) s)) (recordSaid r)
@@ -28,7 +30,9 @@ image-named : (hd : Head) (s : List ℕ) (k l at : ℕ) (base : Colour) (x y : �
     → Named (hd .main) s (imageRecord hd k l base x y c)
 unfolding imageRecord
 image-named hd s k l at base x y b o c (there {said = said} z) e i d =
-    record { inside = i; layer = inr (subst (λ (q : List ℕ). Layer (hd .main) q said) (sym e) z) }
+    let same : said ≡ recordSaid (imageRecord hd k l base x y (There at (length o) said)) =
+    λ j. record { width = said .width; height = said .height; res = said .res; components = sym (count-again (said .components) (z .counted)) j } in
+    record { inside = i; layer = inr (subst₂ (Layer (hd .main)) (sym e) same z) }
 image-named hd s k l at base x y b o c absent e i d = absurd (d refl)
 
 mask-named : (hd : Head) (s : List ℕ) (k height at n : ℕ) (b : Bool) → at + n ≤ length s → Coded (maskRecord hd k height (cond b (hd .mask) 0) (cond b at 0) n)

@@ -11,6 +11,7 @@ use lib.Dec.{eqb, leb}
 use Rattle.laws.specs.Tests.{among}
 use Rattle.sheet_rules.specs.declared.Colour.{Colour}
 use Rattle.sheet_rules.specs.declared.Record.{Record}
+use Rattle.jpeg_rules.specs.Said.{greyOctet}
 use Rattle.start_rules.specs.declared.Head.{Head}
 use Rattle.mode1_rules.specs.declared.LayerData.{LayerData}
 use Rattle.mode1_rules.specs.declared.LayerData.the-variants.{There, Absent}
@@ -39,7 +40,7 @@ offsetOk present x y = not present || leb x 65535 && leb y 65535
 
 -- ---- records
 
--- an image layer: its own size and resolution where it is coded, and else nothing but its base colour
+-- an image layer: its own size, resolution and count of components where it is coded, and else nothing but its base colour
 unfoldable pub imageRecord : Head → ℕ → ℕ → Colour → ℕ → ℕ → LayerData → Record
 imageRecord hd k l base x y (There start size said) =
     record {
@@ -54,7 +55,7 @@ imageRecord hd k l base x y (There start size said) =
       base0 = base .c0;
       base1 = base .c1;
       base2 = base .c2;
-      octet17 = 0;
+      octet17 = greyOctet (said .components);
       start = start;
       len = size;
       octets26 = 0;

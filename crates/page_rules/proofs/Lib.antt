@@ -2,6 +2,7 @@ pub mod Items
 pub mod Exactly
 pub mod Refused
 pub mod Parts
+pub mod Grey
 pub mod Theorems
 pub mod Into
 pub mod Samples

@@ -7,6 +7,7 @@ use mathlib.Core.Bool.{Bool, true, false, cond}
 use mathlib.Core.List.{List, [], _∷_, _++_, append-assoc, append-nil}
 use lib.ListN.{length, length-append}
 use borrow.Author.Needs.{needs}
+use borrow.Author.Tests.{eq-eqb, ne-eqb}
 use Rattle.octets.specs.Octets.{putAt}
 use Rattle.octets.proofs.Laws.{put-put}
 use Rattle.octets.specs.Entries.{joined}
@@ -21,6 +22,7 @@ use Rattle.mode1_rules.specs.declared.LayerData.the-variants.{There, Absent}
 use Rattle.mode1_rules.specs.Kinds.{hasMask, imageRecord, maskRecord}
 use Rattle.mode1_rules.specs.Grammar.{recordsOf}
 use Rattle.jpeg_rules.specs.declared.Said.{Said}
+use Rattle.jpeg_rules.specs.Said.{greyOctet}
 use Rattle.read_records.specs.Places.{Placed, Room}
 
 -- ---- coder_if and start_if
@@ -31,6 +33,17 @@ pub if-none : (t v : ℕ) {b : Bool} → b ≡ hasMask t → b ≡ false → _�
 if-none t v e y = simp (sym e ∙ y)
 
 pub ruleset if-laws = (needs, if-mask, if-none)
+
+-- ---- grey_octet
+pub octet-one : (c : ℕ) → c ≡ 1 → 1 ≡ greyOctet c
+unfolding greyOctet
+octet-one c e = simp (eq-eqb c 1 e)
+
+pub octet-other : (c : ℕ) → (c ≡ 1 → ⊥) → 0 ≡ greyOctet c
+unfolding greyOctet
+octet-other c d = simp (ne-eqb c 1 d)
+
+pub ruleset octet-laws = (needs, octet-one, octet-other)
 
 -- ---- image_record
 module _ (c : LayerData) (x y : ℕ) (p : Placed c x y) {start size : ℕ} {said : Said} (z : c ≡ There start size said) where
@@ -44,10 +57,27 @@ module _ (c : LayerData) (x y : ℕ) (p : Placed c x y) {start size : ℕ} {said
   down-low = low .1
 
 module _ (hd : Head) (k layer : ℕ) (base : Colour) (x y : ℕ) (c : LayerData) where
-  pub image-there : {start size u v : ℕ} {said : Said} → c ≡ There start size said → u ≡ x → v ≡ y
-      → imageRecord hd k layer base u v (There start size said) ≡ imageRecord hd k layer base x y c
+  pub image-there : {start size u v g : ℕ} {said : Said} → c ≡ There start size said → u ≡ x → v ≡ y → g ≡ greyOctet (said .components)
+      → record {
+        stripe = k;
+        layer = layer;
+        coder = 1;
+        x = u;
+        y = v;
+        width = said .width;
+        height = said .height;
+        res = said .res;
+        base0 = base .c0;
+        base1 = base .c1;
+        base2 = base .c2;
+        octet17 = g;
+        start = start;
+        len = size;
+        octets26 = 0;
+      }
+      ≡ imageRecord hd k layer base x y c
   unfolding imageRecord
-  image-there z d f = rw (z, d, f) refl
+  image-there z d f h = rw (z, d, f, h) refl
 
   pub image-absent : {r : Record} → c ≡ Absent → r ≡ imageRecord hd k layer base 0 0 Absent → r ≡ imageRecord hd k layer base x y c
   unfolding imageRecord

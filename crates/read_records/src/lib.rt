@@ -6,6 +6,7 @@ ghost use mathlib.Core.Bool.{cond};
 ghost use Prim.Native.Nat.{_≤_};
 ghost use Rattle.octets.specs.Octets.{putAt};
 ghost use Rattle.sheet_rules.specs.Record.{sheetOf};
+ghost use Rattle.jpeg_rules.specs.Said.{greyOctet};
 ghost use Rattle.mode1_rules.specs.declared.LayerData.the-variants.{Absent};
 ghost use Rattle.mode1_rules.specs.Kinds.{hasMask, imageRecord, maskRecord};
 ghost use Rattle.mode1_rules.specs.Grammar.{recordsOf};
@@ -48,6 +49,13 @@ fn absent_record(hd: Head, k: u16, layer: u8, base: Colour) -> Record
     }
 }
 
+// 02, 2026-07: octet 17 tells a layer of lightness alone.
+fn grey_octet(components: u8) -> u8
+    ensures { λ r. ⌜ r ≡ greyOctet components ⌝ }
+{
+    if components == 1 { 1 } else { 0 }
+}
+
 fn image_record(hd: Head, k: u16, layer: u8, base: Colour, x: u32, y: u32, c: LayerData) -> Record
     requires { ⌜ Placed c x y ⌝ }
     ensures { λ r. ⌜ r ≡ imageRecord hd k layer base x y c ⌝ }
@@ -65,7 +73,7 @@ fn image_record(hd: Head, k: u16, layer: u8, base: Colour, x: u32, y: u32, c: La
             base0: base.c0,
             base1: base.c1,
             base2: base.c2,
-            octet17: 0,
+            octet17: grey_octet(said.components),
             start,
             len: size,
             octets26: 0,

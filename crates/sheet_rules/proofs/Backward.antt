@@ -12,10 +12,10 @@ use borrow.Author.Tests.{eq-eqb}
 use Rattle.sheet_rules.specs.declared.Record.{Record}
 use Rattle.sheet_rules.specs.declared.State.{State}
 use Rattle.sheet_rules.specs.Record.{blank, nth, heightIn}
-use Rattle.sheet_rules.specs.Sentences.{Among, Coded, Uncoded, Above, Opening, Listed, Unbroken}
+use Rattle.sheet_rules.specs.Sentences.{Among, Coded, Uncoded, Grey, Above, Opening, Listed, Unbroken}
 use Rattle.laws.proofs.Says.{says-eq, says-else}
 use Rattle.sheet_rules.proofs.Among.{heights-append, length-more, nth-old, nth-new, heights-more, among-new, among-old}
-use Rattle.sheet_rules.proofs.New.{NextLayer, NextStripe, CodedFacts, EmptyFacts, UncodedFacts, BaseFacts, ResFacts, PageFacts, UpperFacts, New, says-coded}
+use Rattle.sheet_rules.proofs.New.{NextLayer, NextStripe, CodedFacts, EmptyFacts, UncodedFacts, BaseFacts, ResFacts, PageFacts, UpperFacts, GreyFacts, New, says-coded}
 use Rattle.sheet_rules.proofs.Agrees.{Agrees}
 
 pub listed-nonzero : (n : ℕ) → Listed n → n ≢ 0
@@ -66,6 +66,9 @@ module _ (rs : List Record) (st : State) (r : Record) (w : Unbroken (rs ++ (r �
           ⊎-map (λ (l : r .layer ≡ 2). l)
           (λ (d : r .layer ≢ 2). let s = w .empty r new e d in record { x = s .0; y = s .1; width = s .2; height = s .3 })
           (says-else (says-eq (r .layer) 2))
+
+  grey : (r .octet17 ≡ 0) ⊎ GreyFacts r
+  grey = ⊎-map (λ (z : r .octet17 ≡ 0). z) (λ (k : Grey r). ((k .0, k .2), k .3)) (w .grey r new)
 
   base : (r .layer % 2 ≡ 1) ⊎ BaseFacts r
   base =
@@ -171,7 +174,7 @@ module _ (rs : List Record) (st : State) (r : Record) (w : Unbroken (rs ++ (r �
 
   pub unbroken-new : New st r
   unbroken-new =
-      record { zeros = w .zeros r new; place = place; contents = contents; listed = w .listed r new; base = base; layer = layer }
+      record { zeros = w .zeros r new; grey = grey; place = place; contents = contents; listed = w .listed r new; base = base; layer = layer }
 
 -- ---- records unbroken are unbroken up to any of them
 
@@ -188,6 +191,7 @@ module _ (ps qs : List Record) (w : Unbroken (ps ++ qs)) where
       let h = heights-append ps qs in
       record {
         zeros = λ r m. w .zeros r (in-front r m);
+        grey = λ r m. w .grey r (in-front r m);
         first = λ h. subst (λ (x : Record). (x .stripe ≡ 0) × (x .layer ≡ 1)) (nth-front 0 h) (w .first (omega arith));
         next = λ i h.
             subst₂ (λ (x y : Record). Above x y ⊎ Opening x y) (nth-front i (omega arith)) (nth-front (i + 1) h) (w .next i (omega arith));

@@ -5,7 +5,7 @@ use Prim.Native.Nat.{ℕ}
 use mathlib.Core.Path.{_≡_, refl}
 use mathlib.Core.List.{List, [], _∷_}
 use Rattle.sheet_rules.specs.declared.Record.{Record}
-use Rattle.sheet_rules.proofs.Make.{made}
+use Rattle.sheet_rules.proofs.Make.{made, marked}
 use Rattle.sheet_rules.specs.declared.Verdict.the-variants.{Good, Refused}
 use Rattle.sheet_rules.specs.Record.{recordAt, records}
 use Rattle.sheet_rules.specs.Judge.{keeps, after, after1, after2, after3, stepOf, endOf, onStep, walk, judge, judgeOf}
@@ -69,3 +69,26 @@ part-due = refl
 pub even-due : judge (layer 0 1 0 0 0 0 0 400 0 0 ∷ layer 0 2 4 0 0 8 8 400 9 9 ∷ layer 1 1 0 0 0 0 0 400 0 0 ∷ []) 0 ≡ Refused 2
 unfolding judge walk onStep stepOf keeps after after1 after2 after3 endOf layer
 even-due = refl
+
+-- ---- octet 17: 1 in a coded image layer, above a mask and below all, and nowhere else, and no other value
+
+-- layers 1 to 3 coded, with this octet 17 in each
+pub marks : ℕ → ℕ → ℕ → List Record
+unfolding layer
+marks a b c = marked a (layer 0 1 1 0 0 5 5 400 9 9) ∷ marked b (layer 0 2 1 0 0 8 8 400 9 9) ∷ marked c (layer 0 3 1 0 0 5 5 200 9 9) ∷ []
+
+pub grey-accepted : judge (marks 1 0 1) 0 ≡ Good 3 1
+unfolding judge walk onStep stepOf keeps after after1 after2 after3 endOf marks
+grey-accepted = refl
+
+pub grey-mask : judge (marks 1 1 1) 0 ≡ Refused 1
+unfolding judge walk onStep stepOf keeps after after1 after2 after3 endOf marks
+grey-mask = refl
+
+pub grey-two : judge (marks 1 0 2) 0 ≡ Refused 2
+unfolding judge walk onStep stepOf keeps after after1 after2 after3 endOf marks
+grey-two = refl
+
+pub grey-uncoded : judge (marked 1 (layer 0 1 0 0 0 0 0 400 0 0) ∷ layer 0 2 4 0 0 8 8 400 9 9 ∷ layer 0 3 0 0 0 0 0 400 0 0 ∷ []) 0 ≡ Refused 0
+unfolding judge walk onStep stepOf keeps after after1 after2 after3 endOf layer
+grey-uncoded = refl

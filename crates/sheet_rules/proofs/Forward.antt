@@ -13,10 +13,10 @@ use Rattle.sheet_rules.specs.declared.Record.{Record}
 use Rattle.sheet_rules.specs.declared.State.{State}
 use Rattle.sheet_rules.specs.Record.{nth, heightIn}
 use Rattle.sheet_rules.specs.Judge.{coded}
-use Rattle.sheet_rules.specs.Sentences.{Among, Coded, Uncoded, CoderOf, Above, Opening, Main, heights, Unbroken}
+use Rattle.sheet_rules.specs.Sentences.{Among, Coded, Uncoded, Grey, CoderOf, Above, Opening, Main, heights, Unbroken}
 use Rattle.laws.proofs.Says.{says-eq, says-else}
 use Rattle.sheet_rules.proofs.Among.{length-more, nth-old, nth-new, heights-more, all-more, pair-more}
-use Rattle.sheet_rules.proofs.New.{NextLayer, NextStripe, CodedFacts, EmptyFacts, UncodedFacts, BaseFacts, PageFacts, ChoiceFacts, UpperFacts, New, says-coded}
+use Rattle.sheet_rules.proofs.New.{NextLayer, NextStripe, CodedFacts, EmptyFacts, UncodedFacts, BaseFacts, PageFacts, ChoiceFacts, UpperFacts, GreyFacts, New, says-coded}
 use Rattle.sheet_rules.proofs.Agrees.{Agrees, fresh, upward, stands}
 
 pub unbroken-none : Unbroken []
@@ -24,6 +24,7 @@ unfolding heights
 unbroken-none =
     record {
       zeros = λ r m. absurd (List·Memᴰ·not-nil m);
+      grey = λ r m. absurd (List·Memᴰ·not-nil m);
       first = λ h. absurd (omega arith);
       next = λ i h. absurd (omega arith);
       few = λ r m. absurd (List·Memᴰ·not-nil m);
@@ -71,6 +72,13 @@ module _ (rs : List Record) (st : State) (r : Record) (u : Unbroken rs) (g : Agr
 
   base-facts : r .layer % 2 ≡ 0 → BaseFacts r
   base-facts e = ⊎-elim (λ (k : r .layer % 2 ≡ 1). absurd (omega arith)) (λ (k : BaseFacts r). k) (n .base)
+
+  -- a layer of coder 1 is coded: the coder of one that is not is 0
+  grey′ : (r .octet17 ≡ 0) ⊎ Grey r
+  grey′ = ⊎-map (λ (z : r .octet17 ≡ 0). z) (λ (k : GreyFacts r). (k .0 .0, coder-coded (k .1), k .0 .1, k .1)) (n .grey)
+    where
+      coder-coded : r .coder ≡ 1 → Coded r
+      coder-coded e = ⊎-elim (λ (k : Coded r × CodedFacts r). k .0) (λ (k : Uncoded r × UncodedFacts r). let z = k .1 .coder in absurd (omega arith)) (n .contents)
 
   -- ---- order
 
@@ -220,7 +228,8 @@ module _ (rs : List Record) (st : State) (r : Record) (u : Unbroken rs) (g : Agr
   pub unbroken-more : Unbroken (rs ++ (r ∷ []))
   unbroken-more =
       record {
-        zeros = all-more rs r (λ x. (x .octet17 ≡ 0) × (x .octets26 ≡ 0)) (u .zeros) (n .zeros);
+        zeros = all-more rs r (λ x. x .octets26 ≡ 0) (u .zeros) (n .zeros);
+        grey = all-more rs r (λ x. (x .octet17 ≡ 0) ⊎ Grey x) (u .grey) grey′;
         first = first′;
         next = next′;
         few = all-more rs r (λ x. (x .stripe < 64) × (x .layer ≤ 15)) (u .few) (let s = stands rs st r g n in (s .0, s .2));

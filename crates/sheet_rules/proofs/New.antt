@@ -9,7 +9,7 @@ use lib.Dec.{eqb}
 use borrow.Author.Tests.{eqb-true, eq-eqb, ne-eqb}
 use Rattle.sheet_rules.specs.declared.Record.{Record}
 use Rattle.sheet_rules.specs.declared.State.{State}
-use Rattle.sheet_rules.specs.Judge.{closes, placed, coded, coderOk, codedOk, uncodedOk, dataOk, listed, divides, resOk, baseOk, pageOk, choiceOk, upperOk, layerOk, keeps}
+use Rattle.sheet_rules.specs.Judge.{greyOk, closes, placed, coded, coderOk, codedOk, uncodedOk, dataOk, listed, divides, resOk, baseOk, pageOk, choiceOk, upperOk, layerOk, keeps}
 use Rattle.sheet_rules.specs.Sentences.{Coded, Uncoded, CoderOf, Listed}
 use Rattle.laws.proofs.Says.{Says, says-eq, says-le, says-lt, says-true, says-and, says-or, says-not, says-not-not, says-as, says-group}
 
@@ -69,8 +69,12 @@ pub record UpperFacts (st : State) (r : Record) : Type 0 where
   pub res : ResFacts (coded r) (r .res) (st .main)
   pub choice : (r .layer ≢ 3) ⊎ ChoiceFacts (st .coded1) (st .coded2) (coded r)
 
+abbrev pub GreyFacts : Record → Type 0
+GreyFacts r = ((r .octet17 ≡ 1) × (r .layer % 2 ≡ 1)) × (r .coder ≡ 1)
+
 pub record New (st : State) (r : Record) : Type 0 where
-  pub zeros : (r .octet17 ≡ 0) × (r .octets26 ≡ 0)
+  pub zeros : r .octets26 ≡ 0
+  pub grey : (r .octet17 ≡ 0) ⊎ GreyFacts r
   pub place : NextLayer st r ⊎ NextStripe st r
   pub contents : (Coded r × CodedFacts r) ⊎ (Uncoded r × UncodedFacts r)
   pub listed : Listed (r .res)
@@ -81,6 +85,10 @@ pub record New (st : State) (r : Record) : Type 0 where
 
 pub says-coded : (r : Record) → Says (coded r) (Coded r)
 says-coded r = says-not (says-eq (r .len) 0)
+
+says-grey : (r : Record) → Says (greyOk r) ((r .octet17 ≡ 0) ⊎ GreyFacts r)
+says-grey r =
+    says-or (says-eq (r .octet17) 0) (says-and (says-and (says-eq (r .octet17) 1) (says-eq (r .layer % 2) 1)) (says-eq (r .coder) 1))
 
 says-closes : (l : ℕ) → Says (closes l) ((l % 2 ≡ 1) × (3 ≤ l))
 says-closes l = says-and (says-eq (l % 2) 1) (says-le 3 l)
@@ -210,17 +218,18 @@ says-new st r =
     (says-and
     (says-and
     (says-and
-    (says-and (says-and (says-and (says-eq (r .octet17) 0) (says-eq (r .octets26) 0)) (says-placed st r)) (says-data r))
+    (says-and (says-and (says-and (says-eq (r .octets26) 0) (says-grey r)) (says-placed st r)) (says-data r))
     (says-listed (r .res)))
     (says-base r))
     (says-layer st r))
     (λ k.
     record {
-      zeros = k .0 .0 .0 .0 .0;
+      zeros = k .0 .0 .0 .0 .0 .0;
+      grey = k .0 .0 .0 .0 .0 .1;
       place = k .0 .0 .0 .0 .1;
       contents = k .0 .0 .0 .1;
       listed = k .0 .0 .1;
       base = k .0 .1;
       layer = k .1;
     })
-    (λ k. (((((k .zeros, k .place), k .contents), k .listed), k .base), k .layer))
+    (λ k. ((((((k .zeros, k .grey), k .place), k .contents), k .listed), k .base), k .layer))

@@ -21,13 +21,17 @@ use Rattle.sheet_rules.specs.declared.Step.{Step}
 use Rattle.sheet_rules.specs.declared.Step.the-variants.{Next, Stop}
 use Rattle.sheet_rules.specs.declared.Verdict.{Verdict}
 use Rattle.sheet_rules.specs.declared.Verdict.the-variants.{Good, Refused}
-use Rattle.sheet_rules.specs.Record.{records, rest}
+use Rattle.sheet_rules.specs.Record.{isGrey, records, rest}
 
 -- ---- the tests, in the paper's order
 
--- octet 17, and octets 26 and 27, are 0
+-- octets 26 and 27 are 0
 abbrev pub zerosOk : Record → Bool
-zerosOk r = eqb (r .octet17) 0 && eqb (r .octets26) 0
+zerosOk r = eqb (r .octets26) 0
+
+-- octet 17 is 0, or 1 in an image layer of coder 1; such a layer is coded, since dataOk gives one that is not the coder 0
+abbrev pub greyOk : Record → Bool
+greyOk r = eqb (r .octet17) 0 || isGrey r && eqb (r .layer % 2) 1 && eqb (r .coder) 1
 
 -- a stripe may stop after this layer: N is odd and at least 3 (that it is at most 15, nextLayer says)
 abbrev pub closes : ℕ → Bool
@@ -101,7 +105,7 @@ abbrev pub layerOk : State → Record → Bool
 layerOk st r = eqb (r .layer) 1 || eqb (r .layer) 2 && pageOk st r || leb 3 (r .layer) && upperOk st r
 
 unfoldable pub keeps : State → Record → Bool
-keeps st r = zerosOk r && placed st r && dataOk r && listed (r .res) && baseOk r && layerOk st r
+keeps st r = zerosOk r && greyOk r && placed st r && dataOk r && listed (r .res) && baseOk r && layerOk st r
 
 -- ---- the fold
 

@@ -6,6 +6,7 @@
 --   colourAt      the colour of the three octets from a place on
 --   recordFrom    the record of the 28 octets from a place on
 --   recordAt      the record of a number in a sheet
+--   isGrey        octet 17 is 1: the layer's data has one component, lightness
 --   encode        the 28 octets of a record
 --   sheetOf       the octets of records, one after the other
 --   recordsFrom   so many records of a sheet from a number on
@@ -15,6 +16,7 @@
 --   sumOf         a number of each record, added up
 --   heightIn      what a record adds to the page's height: that of layer 2
 use Prim.Native.Nat.{ℕ, _+_, _*_, _%_}
+use mathlib.Core.Bool.{Bool}
 use mathlib.Core.List.{List, [], _∷_, _++_}
 use lib.ListN.{length, getD}
 use lib.Dec.{eqb}
@@ -57,6 +59,9 @@ recordFrom s at =
       len = be32At s (at + 22);
       octets26 = be16At s (at + 26);
     }
+
+abbrev pub isGrey : Record → Bool
+isGrey r = eqb (r .octet17) 1
 
 unfoldable pub recordAt : List ℕ → ℕ → Record
 recordAt s i = recordFrom s (i * recordSize)

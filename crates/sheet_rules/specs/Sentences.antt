@@ -2,6 +2,7 @@
 --
 --   Among r rs    r is one of the records rs
 --   Coded r       its length is not 0
+--   Grey r        its octet 17 is 1, where it may be
 --   Unbroken rs   no rule is broken by the records rs, of which more may follow
 --   Complete rs   the last stripe may stop there
 --   Sheet rs      a whole sheet: both
@@ -33,6 +34,10 @@ Coded r = r .len ≢ 0
 abbrev pub Uncoded : Record → Type 0
 Uncoded r = r .len ≡ 0
 
+-- octet 17 is 1, and the record is one that it may be 1 in: of a coded image layer of coder 1
+abbrev pub Grey : Record → Type 0
+Grey r = (r .octet17 ≡ 1) × Coded r × (r .layer % 2 ≡ 1) × (r .coder ≡ 1)
+
 -- q is the layer above r in the same stripe
 abbrev pub Above : Record → Record → Type 0
 Above r q = (q .stripe ≡ r .stripe) × (q .layer ≡ r .layer + 1)
@@ -62,8 +67,10 @@ unfolding sumOf
 heights rs = sumOf heightIn rs
 
 pub record Unbroken (rs : List Record) : Type 0 where
-  -- octets 17, 26 and 27 are 0
-  pub zeros : (r : Record) → Among r rs → (r .octet17 ≡ 0) × (r .octets26 ≡ 0)
+  -- octets 26 and 27 are 0
+  pub zeros : (r : Record) → Among r rs → r .octets26 ≡ 0
+  -- octet 17 is 0, or the layer is a grey one
+  pub grey : (r : Record) → Among r rs → (r .octet17 ≡ 0) ⊎ Grey r
   -- stripes run 0, 1, 2 with no gap, at most 64; each has layers 1 to N, every number once, N odd, 3 to 15
   pub first : 0 < length rs → (nth rs 0 .stripe ≡ 0) × (nth rs 0 .layer ≡ 1)
   pub next : (i : ℕ) → i + 1 < length rs → Above (nth rs i) (nth rs (i + 1)) ⊎ Opening (nth rs i) (nth rs (i + 1))

@@ -34,6 +34,7 @@ pub struct Record {
     pub base0: u8,
     pub base1: u8,
     pub base2: u8,
+    // 1 in a grey layer: coded image data of one component, lightness; else 0
     pub octet17: u8,
     // of the coded data
     pub start: u32,

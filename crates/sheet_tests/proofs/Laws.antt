@@ -11,7 +11,7 @@ use borrow.Author.Tests.{eq-eqb, ne-eqb, lt-leb, not-true, not-false}
 use borrow.Author.Needs.{needs}
 use Rattle.sheet_rules.specs.declared.Record.{Record}
 use Rattle.sheet_rules.specs.declared.State.{State}
-use Rattle.sheet_rules.specs.Judge.{coderOk, choiceOk, zerosOk, closes, placed, coded, codedOk, uncodedOk, dataOk, listed, divides, resOk, baseOk, pageOk, upperOk, layerOk, keeps}
+use Rattle.sheet_rules.specs.Judge.{coderOk, choiceOk, zerosOk, greyOk, closes, placed, coded, codedOk, uncodedOk, dataOk, listed, divides, resOk, baseOk, pageOk, upperOk, layerOk, keeps}
 
 -- ---- the resolution
 
@@ -93,28 +93,32 @@ module _ (st : State) (r : Record) where
   unfolding keeps
   breaks-zeros b k e = simp (sym k ∙ not-true b e)
 
+  pub breaks-grey : (b : Bool) → b ≡ greyOk r → not b ≡ true → false ≡ keeps st r
+  unfolding keeps
+  breaks-grey b k e = simp (sym k ∙ not-true b e, and-false (zerosOk r))
+
   pub breaks-place : (b : Bool) → b ≡ placed st r → not b ≡ true → false ≡ keeps st r
   unfolding keeps
-  breaks-place b k e = simp (sym k ∙ not-true b e, and-false (zerosOk r))
+  breaks-place b k e = simp (sym k ∙ not-true b e, and-false (zerosOk r && greyOk r))
 
   pub breaks-data : (b : Bool) → b ≡ dataOk r → not b ≡ true → false ≡ keeps st r
   unfolding keeps
-  breaks-data b k e = simp (sym k ∙ not-true b e, and-false (zerosOk r && placed st r))
+  breaks-data b k e = simp (sym k ∙ not-true b e, and-false (zerosOk r && greyOk r && placed st r))
 
   pub breaks-listed : (b : Bool) → b ≡ listed (r .res) → not b ≡ true → false ≡ keeps st r
   unfolding keeps
-  breaks-listed b k e = simp (sym k ∙ not-true b e, and-false (zerosOk r && placed st r && dataOk r))
+  breaks-listed b k e = simp (sym k ∙ not-true b e, and-false (zerosOk r && greyOk r && placed st r && dataOk r))
 
   pub breaks-base : (b : Bool) → b ≡ baseOk r → not b ≡ true → false ≡ keeps st r
   unfolding keeps
-  breaks-base b k e = simp (sym k ∙ not-true b e, and-false (zerosOk r && placed st r && dataOk r && listed (r .res)))
+  breaks-base b k e = simp (sym k ∙ not-true b e, and-false (zerosOk r && greyOk r && placed st r && dataOk r && listed (r .res)))
 
-  pub breaks-none : (z p d l b v : Bool) → z ≡ zerosOk r → not z ≡ false → p ≡ placed st r → not p ≡ false → d ≡ dataOk r → not d ≡ false
+  pub breaks-none : (z g p d l b v : Bool) → z ≡ zerosOk r → not z ≡ false → g ≡ greyOk r → not g ≡ false → p ≡ placed st r → not p ≡ false → d ≡ dataOk r → not d ≡ false
       → l ≡ listed (r .res) → not l ≡ false → b ≡ baseOk r → not b ≡ false → v ≡ layerOk st r → v ≡ keeps st r
   unfolding keeps
-  breaks-none z p d l b v kz ez kp ep kd ed kl el kb eb k =
-      simp (sym kz ∙ not-false z ez, sym kp ∙ not-false p ep, sym kd ∙ not-false d ed, sym kl ∙ not-false l el, sym kb ∙ not-false b eb) k
+  breaks-none z g p d l b v kz ez kg eg kp ep kd ed kl el kb eb k =
+      simp (sym kz ∙ not-false z ez, sym kg ∙ not-false g eg, sym kp ∙ not-false p ep, sym kd ∙ not-false d ed, sym kl ∙ not-false l el, sym kb ∙ not-false b eb) k
 
 pub ruleset joining = (needs, coded-made, page-made, upper-made)
 
-pub ruleset testing = (needs, res-same, res-coded, res-other, data-coded, data-uncoded, placed-same, placed-next, layer-one, layer-two, layer-more, breaks-zeros, breaks-place, breaks-data, breaks-listed, breaks-base, breaks-none)
+pub ruleset testing = (needs, res-same, res-coded, res-other, data-coded, data-uncoded, placed-same, placed-next, layer-one, layer-two, layer-more, breaks-zeros, breaks-grey, breaks-place, breaks-data, breaks-listed, breaks-base, breaks-none)

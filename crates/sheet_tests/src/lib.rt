@@ -5,14 +5,20 @@
 // the judge takes less than half the time.
 ghost use mathlib.Core.Path.{_≡_};
 ghost use Prim.Native.Nat.{_+_};
-ghost use Rattle.sheet_rules.specs.Judge.{zerosOk, closes, placed, coded, coderOk, codedOk, uncodedOk, dataOk, resOk, baseOk, pageOk, choiceOk, upperOk, layerOk, keeps};
+ghost use Rattle.sheet_rules.specs.Judge.{zerosOk, greyOk, closes, placed, coded, coderOk, codedOk, uncodedOk, dataOk, resOk, baseOk, pageOk, choiceOk, upperOk, layerOk, keeps};
 use sheet_rules::Record;
 use sheet_rules::State;
 
 pub fn zeros_ok(r: Record) -> bool
     ensures { λ b. ⌜ b ≡ zerosOk r ⌝ }
 {
-    (r.octet17 == 0) & (r.octets26 == 0)
+    r.octets26 == 0
+}
+
+pub fn grey_ok(r: Record) -> bool
+    ensures { λ b. ⌜ b ≡ greyOk r ⌝ }
+{
+    (r.octet17 == 0) | (r.octet17 == 1) & (r.layer % 2 == 1) & (r.coder == 1)
 }
 
 pub fn may_close(l: u8) -> bool
@@ -132,6 +138,9 @@ pub fn keeps_rules(st: State, r: Record) -> bool
     ensures { λ b. ⌜ b ≡ keeps st r ⌝ }
 {
     if !zeros_ok(r) {
+        return false;
+    }
+    if !grey_ok(r) {
         return false;
     }
     if !is_placed(st, r) {

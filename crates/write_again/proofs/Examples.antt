@@ -22,7 +22,7 @@ use Rattle.segment_rules.specs.Segment.{beginOf}
 use Rattle.page_rules.proofs.Samples.{coded-mask, stripeHead, page}
 use Rattle.page_rules.proofs.Examples.{picture}
 use Rattle.write_rules.specs.Layer.{agrees}
-use Rattle.sheet_rules.proofs.Make.{made}
+use Rattle.sheet_rules.proofs.Make.{made, marked}
 use Rattle.write_rules.specs.Writing.{counted, matches, sizeAnswer, writeOf, writeInto}
 
 -- a record: stripe, layer, coder, offsets, size, resolution, base colour, coded data
@@ -68,11 +68,11 @@ pub too-long : sizeAnswer 0 (longestPage + 1) ≡ TooLong
 unfolding sizeAnswer
 too-long = refl
 
--- ---- all three layers coded, the two image layers from the same octets
+-- ---- all three layers coded, the two image layers from the same octets, of one component; `grey` is octet 17 of layer 1
 
-unfoldable pub layers : ℕ → ℕ → List Record
-layers width coder =
-    layer 0 1 1 2 3 width 16 200 white 0 40 ∷ layer 0 2 8 0 0 100 40 400 none 40 5 ∷ layer 0 3 1 4 5 8 16 200 black 0 40
+unfoldable pub layers : ℕ → ℕ → ℕ → List Record
+layers grey width coder =
+    marked grey (layer 0 1 1 2 3 width 16 200 white 0 40) ∷ layer 0 2 8 0 0 100 40 400 none 40 5 ∷ marked 1 (layer 0 3 1 4 5 8 16 200 black 0 40)
     ∷ layer 1 1 0 0 0 0 0 400 white 0 0 ∷ layer 1 2 coder 0 0 100 7 400 none 41 4 ∷ layer 1 3 0 0 0 0 0 400 black 0 0 ∷ []
 
 abbrev first : Fields
@@ -104,17 +104,19 @@ second =
     }
 
 -- mask, background, foreground
-pub two-stripes : writeInto (sheetOf (layers 8 8)) (picture ++ coded-mask) (replicate 193 7)
+pub two-stripes : writeInto (sheetOf (layers 1 8 8)) (picture ++ coded-mask) (replicate 193 7)
     ≡ startOf (record { rules = mode1; mask = 8; image = 1; main = 400; width = 100 })
     ++ (stripeHead first ++ (coded-mask ++ (picture ++ (picture ++ (stripeHead second ++ ((2 ∷ 3 ∷ 4 ∷ 5 ∷ []) ++ (0xFF ∷ 0xD9 ∷ 0xFF ∷ 0xD9 ∷ [])))))))
 unfolding writeInto putAt startOf beginOf fieldsOf colourOf octets16 octets32 joined encode layers picture counted matches agrees judgeOf judge walk onStep stepOf keeps after after1 after2 after3 endOf records recordAt be16At be32At walkOf turnOf markerOf classOf segOf scanOf tagOf frameOf frameBodyOf scanStepOf segmentOf W.endOf standsAt begins
 two-stripes = refl
 
--- a width that the layer does not have, at its record, before the mask that is cut; another mask coder, at the later mask; a fifth layer
-pub mismatch : (writeOf (sheetOf (layers 9 8)) picture 193 ≡ Mismatch 0) × (writeOf (sheetOf (layers 8 4)) (picture ++ coded-mask) 193 ≡ Mismatch 4)
+-- a width or a count of components that the layer does not have, at its record, before the mask that is cut; another mask coder, at the later mask
+pub mismatch : (writeOf (sheetOf (layers 1 9 8)) picture 193 ≡ Mismatch 0) × (writeOf (sheetOf (layers 0 8 8)) picture 193 ≡ Mismatch 0)
+    × (writeOf (sheetOf (layers 1 8 4)) (picture ++ coded-mask) 193 ≡ Mismatch 4)
 unfolding writeOf octets16 octets32 joined encode layers picture counted matches agrees judgeOf judge walk onStep stepOf keeps after after1 after2 after3 endOf records recordAt be16At be32At walkOf turnOf markerOf classOf segOf scanOf tagOf frameOf frameBodyOf scanStepOf segmentOf W.endOf standsAt begins
-mismatch = (refl, refl)
+mismatch = (refl, refl, refl)
 
-pub bad-mode : writeOf (sheetOf (layers 8 8 ++ (layer 1 4 0 0 0 0 0 400 none 0 0 ∷ layer 1 5 0 0 0 0 0 400 white 0 0 ∷ []))) [] 0 ≡ BadMode 6
+-- a fifth layer
+pub bad-mode : writeOf (sheetOf (layers 1 8 8 ++ (layer 1 4 0 0 0 0 0 400 none 0 0 ∷ layer 1 5 0 0 0 0 0 400 white 0 0 ∷ []))) [] 0 ≡ BadMode 6
 unfolding writeOf octets16 octets32 joined encode layers judgeOf judge walk onStep stepOf keeps after after1 after2 after3 endOf records recordAt be16At be32At
 bad-mode = refl

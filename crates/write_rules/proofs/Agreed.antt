@@ -40,14 +40,18 @@ says-cond {a = false} p q r =
 
 -- ---- agreement
 
+ends-said : (n m : ℕ) (a b : Said) → Ends n a ≡ Ends m b → (n ≡ m) × (a ≡ b)
+ends-said n m a b e = (cc, cc)
+
 says-ends : (x : Walk) (r : Record) → Says (endsAs x r) (x ≡ Ends (r .len) (recordSaid r))
 says-ends (Ends n said) r =
-    says-as (says-and (says-and (says-and (says-eq n (r .len)) (says-eq (said .width) (r .width))) (says-eq (said .height) (r .height))) (says-eq (said .res) (r .res)))
-    (λ k. ap₂ Ends (k .0 .0 .0) (λ i. record { width = k .0 .0 .1 i; height = k .0 .1 i; res = k .1 i }))
+    says-as
+    (says-and (says-and (says-and (says-and (says-eq n (r .len)) (says-eq (said .width) (r .width))) (says-eq (said .height) (r .height))) (says-eq (said .res) (r .res)))
+    (says-eq (said .components) (recordSaid r .components)))
+    (λ k. ap₂ Ends (k .0 .0 .0 .0) (λ i. record { width = k .0 .0 .0 .1 i; height = k .0 .0 .1 i; res = k .0 .1 i; components = k .1 i }))
     (λ e.
-    let n-is : n ≡ r .len = cc in
-    let said-is : said ≡ recordSaid r = cc in
-    (((n-is, ap (λ (x : Said). x .width) said-is), ap (λ (x : Said). x .height) said-is), ap (λ (x : Said). x .res) said-is))
+    let k = ends-said n (r .len) said (recordSaid r) e in
+    ((((k .0, ap (λ (x : Said). x .width) (k .1)), ap (λ (x : Said). x .height) (k .1)), ap (λ (x : Said). x .res) (k .1)), ap (λ (x : Said). x .components) (k .1)))
 says-ends (Refused f) r = says-as says-false (λ k. absurd k) (λ e. clash cc)
 
 module _ (d : List ℕ) (o : Octets d) (r : Record) (h : r .start + r .len ≤ length d) where

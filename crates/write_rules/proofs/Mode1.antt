@@ -31,14 +31,14 @@ use Rattle.write_rules.proofs.Passed.{coder-nonzero}
 use Rattle.write_rules.proofs.Cut.{Upward, top, up, Lot, second-of}
 use Rattle.write_rules.proofs.Ready.{Sized, Under, Ready}
 use Rattle.write_rules.proofs.Placed.{cons-same, uncoded-is, Contents, contents-of, contents-coded, contents-empty, placedAt, bare-placed, data-placed}
-use Rattle.write_rules.proofs.Mode1Records.{Zeros, back-bit, mask-bit, fore-bit, type-by, type-small, imageIs, image-made, image-record, mask-record}
+use Rattle.write_rules.proofs.Mode1Records.{Spares, back-bit, mask-bit, fore-bit, type-by, type-small, imageIs, image-made, image-record, mask-record}
 
 -- ---- a sheet's stripe without a layer above 3 has three records
 
 pub record Three (hd : Head) (k left : ℕ) (a b c : Record) : Type 0 where
   pub stripes : (a .stripe ≡ k) × (b .stripe ≡ k) × (c .stripe ≡ k)
   pub layers : (a .layer ≡ 1) × (b .layer ≡ 2) × (c .layer ≡ 3)
-  pub zeros : Zeros a × Zeros b × Zeros c
+  pub spares : Spares a × Spares b × Spares c
   pub contents : Contents a × Contents b × Contents c
   pub backRes : Uncoded a → a .res ≡ hd .main
   pub foreRes : Uncoded c → c .res ≡ hd .main
@@ -77,7 +77,7 @@ module _ (hd : Head) (rs : List Record) (u : Under One hd rs) (k left : ℕ) whe
       record {
         stripes = s;
         layers = l;
-        zeros = (v .zeros a ma, v .zeros b mb, v .zeros c mc);
+        spares = ((v .grey a ma, v .zeros a ma), (v .grey b mb, v .zeros b mb), (v .grey c mc, v .zeros c mc));
         contents = (contents-of rs v a ma, contents-of rs v b mb, contents-of rs v c mc);
         backRes = λ z. v .plain a b ma mb ab z ∙ main;
         foreRes = λ z. v .plain c b mc mb cb z ∙ main;
@@ -170,11 +170,11 @@ module _ (d : List ℕ) (hd : Head) (k left at : ℕ) (a b c : Record) (t : Thre
   made =
       let s = t .stripes in
       let l = t .layers in
-      let e1 = image-record hd k 1 (at + stripeBody + length (layerOctets d b)) d a (s .0) (l .0) refl (t .zeros .0) (t .contents .0) (t .backRes) na in
+      let e1 = image-record hd k 1 (at + stripeBody + length (layerOctets d b)) d a (s .0) (l .0) refl (t .spares .0) (t .contents .0) (t .backRes) na in
       let e2 =
       ap (λ (y : Bool). maskRecord hd k (b .height) (cond y (hd .mask) 0) (cond y (at + stripeBody) 0) (b .len)) maskIs
-      ∙ mask-record hd k (at + stripeBody) b (coded b) refl (s .1) (l .1) (t .zeros .1) (t .contents .1) (t .corner) (t .base) (t .width) (t .main) mb in
-      let e3 = image-record hd k 3 (at + stripeBody + length (layerOctets d b) + length (layerOctets d a)) d c (s .2) (l .2) refl (t .zeros .2) (t .contents .2) (t .foreRes) nc in
+      ∙ mask-record hd k (at + stripeBody) b (coded b) refl (s .1) (l .1) (t .spares .1) (t .contents .1) (t .corner) (t .base) (t .width) (t .main) mb in
+      let e3 = image-record hd k 3 (at + stripeBody + length (layerOctets d b) + length (layerOctets d a)) d c (s .2) (l .2) refl (t .spares .2) (t .contents .2) (t .foreRes) nc in
       cons-same e1 (cons-same e2 (cons-same e3 refl))
 
   lands : Stripe hd k left at (rest1 d (a ∷ b ∷ c ∷ [])) (heights (a ∷ b ∷ c ∷ []))

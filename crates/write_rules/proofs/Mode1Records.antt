@@ -3,17 +3,18 @@
 use Prim.Native.Nat.{ℕ, _%_, _<_}
 use native.Mathlib.Omega.{arith}
 use mathlib.Core.Path.{_≡_, refl, sym, subst}
-use mathlib.Core.Logic.{inl, inr, ⊎-elim}
+use mathlib.Core.Logic.{_⊎_, inl, inr, ⊎-elim, ⊎-map}
 use mathlib.Core.Bool.{Bool, true, false, cond, false≢true}
 use mathlib.Core.List.{List}
 use lib.ListN.{length}
 use Rattle.sheet_rules.specs.declared.Record.{Record}
 use Rattle.laws.specs.Tests.{only}
 use Rattle.sheet_rules.specs.Judge.{coded}
-use Rattle.sheet_rules.specs.Sentences.{Coded, Uncoded, CoderOf}
+use Rattle.sheet_rules.specs.Sentences.{Coded, Uncoded, Grey, CoderOf}
 use Rattle.sheet_rules.proofs.New.{BaseFacts, ChoiceFacts, says-coded}
 use Rattle.jpeg_rules.specs.Said.{recordSaid}
 use Rattle.jpeg_rules.specs.Grammar.{Layer}
+use Rattle.jpeg_rules.proofs.Grey.{octet-again}
 use Rattle.start_rules.specs.declared.Head.{Head}
 use Rattle.mode1_rules.specs.declared.LayerData.{LayerData}
 use Rattle.mode1_rules.specs.declared.LayerData.the-variants.{There, Absent}
@@ -24,8 +25,18 @@ use Rattle.write_rules.specs.Mode1.{typeBy, colourBy}
 use Rattle.write_rules.specs.Form.{startAt}
 use Rattle.write_rules.proofs.Placed.{uncoded-is, Contents, contents-coded, contents-uncoded, contents-empty, placedAt, no-data}
 
-abbrev pub Zeros : Record → Type 0
-Zeros r = (r .octet17 ≡ 0) × (r .octets26 ≡ 0)
+-- octet 17, and octets 26 and 27
+abbrev pub Spares : Record → Type 0
+Spares r = ((r .octet17 ≡ 0) ⊎ Grey r) × (r .octets26 ≡ 0)
+
+-- only a coded image layer is grey
+spare-uncoded : (r : Record) → (r .octet17 ≡ 0) ⊎ Grey r → Uncoded r → r .octet17 ≡ 0
+spare-uncoded r (inl e) u = e
+spare-uncoded r (inr g) u = absurd (g .1 u)
+
+spare-mask : (r : Record) → (r .octet17 ≡ 0) ⊎ Grey r → r .layer ≡ 2 → r .octet17 ≡ 0
+spare-mask r (inl e) l = e
+spare-mask r (inr g) l = let odd = g .2 in absurd (omega arith)
 
 -- ---- the type names the layers that are coded
 
@@ -92,7 +103,7 @@ image-made main at d r y = go (coded r) refl
     go true e = there (y (says-coded r .told e))
     go false e = subst (λ (l : List ℕ). Image main at false l Absent) (sym (no-data d r e)) absent
 
-pub image-record : (hd : Head) (k l at : ℕ) (d : List ℕ) (r : Record) → r .stripe ≡ k → r .layer ≡ l → l % 2 ≡ 1 → Zeros r → Contents r → (Uncoded r → r .res ≡ hd .main)
+pub image-record : (hd : Head) (k l at : ℕ) (d : List ℕ) (r : Record) → r .stripe ≡ k → r .layer ≡ l → l % 2 ≡ 1 → Spares r → Contents r → (Uncoded r → r .res ≡ hd .main)
     → length (layerOctets d r) ≡ r .len → imageRecord hd k l (colourBy r) (r .x) (r .y) (imageIs (coded r) r (layerOctets d r) at) ≡ placedAt r at
 unfolding imageRecord imageIs
 image-record hd k l at d r es el odd z c m n = go (coded r) refl
@@ -103,17 +114,18 @@ image-record hd k l at d r es el odd z c m n = go (coded r) refl
 
     go : (b : Bool) → coded r ≡ b → imageRecord hd k l (colourBy r) (r .x) (r .y) (imageIs b r (layerOctets d r) at) ≡ startAt r (only b at)
     go true e =
-        record-by _ _ (sym es) (sym el) (sym (one (contents-coded r c e .coder))) refl refl refl refl refl refl refl refl (sym (z .0)) refl n (sym (z .1))
+        record-by _ _ (sym es) (sym el) (sym (one (contents-coded r c e .coder))) refl refl refl refl refl refl refl refl
+        (octet-again r (⊎-map (λ (e : r .octet17 ≡ 0). e) (λ (g : Grey r). g .0) (z .0))) refl n (sym (z .1))
     go false e =
         let f = contents-empty r c (λ (w : r .layer ≡ 2). omega arith) e in
         let u = uncoded-is r e in
-        record-by _ _ (sym es) (sym el) (sym (contents-uncoded r c e .coder)) (sym (f .x)) (sym (f .y)) (sym (f .width)) (sym (f .height)) (sym (m u)) refl refl refl (sym (z .0)) refl (sym u) (sym (z .1))
+        record-by _ _ (sym es) (sym el) (sym (contents-uncoded r c e .coder)) (sym (f .x)) (sym (f .y)) (sym (f .width)) (sym (f .height)) (sym (m u)) refl refl refl (sym (spare-uncoded r (z .0) u)) refl (sym u) (sym (z .1))
 
-pub mask-record : (hd : Head) (k at : ℕ) (r : Record) (b : Bool) → coded r ≡ b → r .stripe ≡ k → r .layer ≡ 2 → Zeros r → Contents r → (r .x ≡ 0) × (r .y ≡ 0) → BaseFacts r
+pub mask-record : (hd : Head) (k at : ℕ) (r : Record) (b : Bool) → coded r ≡ b → r .stripe ≡ k → r .layer ≡ 2 → Spares r → Contents r → (r .x ≡ 0) × (r .y ≡ 0) → BaseFacts r
     → r .width ≡ hd .width → r .res ≡ hd .main → (Coded r → hd .mask ≡ r .coder)
     → maskRecord hd k (r .height) (cond b (hd .mask) 0) (cond b at 0) (r .len) ≡ startAt r (only b at)
 unfolding maskRecord
 mask-record hd k at r true e es el z c o f w m h =
-    record-by _ _ (sym es) (sym el) (h (says-coded r .told e)) (sym (o .0)) (sym (o .1)) (sym w) refl (sym m) (sym (f .0 .0)) (sym (f .0 .1)) (sym (f .1)) (sym (z .0)) refl refl (sym (z .1))
+    record-by _ _ (sym es) (sym el) (h (says-coded r .told e)) (sym (o .0)) (sym (o .1)) (sym w) refl (sym m) (sym (f .0 .0)) (sym (f .0 .1)) (sym (f .1)) (sym (spare-mask r (z .0) el)) refl refl (sym (z .1))
 mask-record hd k at r false e es el z c o f w m h =
-    record-by _ _ (sym es) (sym el) (sym (contents-uncoded r c e .coder)) (sym (o .0)) (sym (o .1)) (sym w) refl (sym m) (sym (f .0 .0)) (sym (f .0 .1)) (sym (f .1)) (sym (z .0)) refl refl (sym (z .1))
+    record-by _ _ (sym es) (sym el) (sym (contents-uncoded r c e .coder)) (sym (o .0)) (sym (o .1)) (sym w) refl (sym m) (sym (f .0 .0)) (sym (f .0 .1)) (sym (f .1)) (sym (spare-mask r (z .0) el)) refl refl (sym (z .1))

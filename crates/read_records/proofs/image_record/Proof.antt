@@ -1,6 +1,5 @@
 use Rattle.read_records.proofs.Laws.{image-laws}
 use borrow.Author.Needs.{needs}
-use Rattle.mode1_rules.specs.Kinds.{imageRecord}
 use Rattle.read_records.proofs.image_record.Statement.{statement}
 use Rattle.read_records.proofs.image_record.Tie as tie
 
@@ -13,6 +12,9 @@ narrow-requires c κs = search image-laws
 narrow-requires-2 : tie.Need-narrow-requires-2
 narrow-requires-2 c κs = search image-laws
 
+grey-octet-requires : tie.Need-grey-octet-requires
+grey-octet-requires c κs = search needs
+
 enum-told : tie.Need-enum-told
 enum-told c = search needs
 
@@ -20,7 +22,6 @@ absent-record-requires : tie.Need-absent-record-requires
 absent-record-requires c κs = search needs
 
 returns : tie.Need-returns
-unfolding imageRecord
 returns c = search image-laws
 
 returns-2 : tie.Need-returns-2
@@ -33,6 +34,7 @@ image-record-spec =
     enum-known-c
     narrow-requires
     narrow-requires-2
+    grey-octet-requires
     enum-told
     absent-record-requires
     returns

@@ -3,39 +3,30 @@ use borrow.Author.Needs.{needs}
 use Rattle.write_agreement.proofs.data_agrees.Statement.{statement}
 use Rattle.write_agreement.proofs.data_agrees.Tie as tie
 
--- src/lib.rt:30:16
 cast-from : tie.Need-cast-from
 cast-from c = search needs
 
--- src/lib.rt:31:21
 cast-to : tie.Need-cast-to
 cast-to c = search needs
 
--- src/lib.rt:31:14
 add-to : tie.Need-add-to
 add-to c = search needs
 
--- src/lib.rt:32:30
 sub-walk-layer : tie.Need-sub-walk-layer
 sub-walk-layer c = search needs
 
--- src/lib.rt:32:30
 part-walk-layer-start : tie.Need-part-walk-layer-start
 part-walk-layer-start c = search needs
 
--- src/lib.rt:32:30
 part-walk-layer-end : tie.Need-part-walk-layer-end
 part-walk-layer-end c = search needs
 
--- src/lib.rt:32:13
 walk-layer-requires : tie.Need-walk-layer-requires
 walk-layer-requires c κs = search needs
 
--- src/lib.rt:32:5
 ends-as-requires : tie.Need-ends-as-requires
 ends-as-requires c κs = search needs
 
--- src/lib.rt:26:1
 returns : tie.Need-returns
 returns c = search agreeing
 
