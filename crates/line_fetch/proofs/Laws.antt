@@ -17,7 +17,7 @@ use Rattle.pixel_rules.specs.declared.Sample.the-variants.{Known, Unknown}
 use Rattle.pixel_rules.specs.declared.Mask.{Mask}
 use Rattle.pixel_rules.specs.declared.Mask.the-variants.{Hidden}
 use Rattle.pixel_rules.specs.Place.{scale}
-use Rattle.pixel_rules.specs.Samples.{bitOf}
+use Rattle.pixel_rules.specs.Samples.{bitOf, greyOf, sampleColour}
 use Rattle.sheet_rules.specs.Record.{colourAt}
 use Rattle.line_fetch.specs.declared.Row.{Row}
 use Rattle.line_fetch.specs.Rows.{rowSize, rowAt, rowMask, rowImage, MaskFits, ImageFits}
@@ -74,15 +74,24 @@ module _ (s d : List ℕ) (r : Row) (x : MainPos) where
   unfolding rowImage
   image-unread a b e = simp (le-leb (r .from) (x .0) a, lt-ltb (x .0) (r .to) b, eq-eqb (r .read) 0 e)
 
-  pub image-read : (c : Sample) (p : SamplePos) → r .from ≤ x .0 → x .0 < r .to → r .read ≢ 0 → p ≡ scale (r .ratio) (r .from) x
-      → c ≡ Known (colourAt d (r .at + p .0 * 3)) → c ≡ rowImage s d r x
-  unfolding rowImage
-  image-read c p a b n e f = simp (le-leb (r .from) (x .0) a, lt-ltb (x .0) (r .to) b, ne-eqb (r .read) 0 n, f, e)
+  pub image-grey : (c : Sample) (p : SamplePos) → r .from ≤ x .0 → x .0 < r .to → r .read ≢ 0 → r .read ≡ 1 → p ≡ scale (r .ratio) (r .from) x
+      → c ≡ Known (greyOf (getD d (r .at + p .0) 0)) → c ≡ rowImage s d r x
+  unfolding rowImage sampleColour
+  image-grey c p a b n o e f = simp (le-leb (r .from) (x .0) a, lt-ltb (x .0) (r .to) b, ne-eqb (r .read) 0 n, eq-eqb (r .read) 1 o, f, e)
 
-  pub image-there : (p : SamplePos) → ImageFits s d r → r .from ≤ x .0 → x .0 < r .to → r .read ≢ 0 → p ≡ scale (r .ratio) (r .from) x
+  pub image-read : (c : Sample) (p : SamplePos) → r .from ≤ x .0 → x .0 < r .to → r .read ≢ 0 → r .read ≢ 1 → p ≡ scale (r .ratio) (r .from) x
+      → c ≡ Known (colourAt d (r .at + p .0 * 3)) → c ≡ rowImage s d r x
+  unfolding rowImage sampleColour
+  image-read c p a b n o e f = simp (le-leb (r .from) (x .0) a, lt-ltb (x .0) (r .to) b, ne-eqb (r .read) 0 n, ne-eqb (r .read) 1 o, f, e)
+
+  pub grey-there : (p : SamplePos) → ImageFits s d r → r .from ≤ x .0 → x .0 < r .to → r .read ≡ 1 → p ≡ scale (r .ratio) (r .from) x
+      → r .at + p .0 < length d
+  grey-there p g a b n e = rw e (g .grey x a b n)
+
+  pub image-there : (p : SamplePos) → ImageFits s d r → r .from ≤ x .0 → x .0 < r .to → r .read ≢ 0 → r .read ≢ 1 → p ≡ scale (r .ratio) (r .from) x
       → r .at + p .0 * 3 + 3 ≤ length d
-  image-there p g a b n e = rw e (g .there x a b n)
+  image-there p g a b n o e = rw e (g .there x a b n o)
 
 pub ruleset rows = (needs, row-read)
 
-pub ruleset fetching = (needs, mask-before, mask-after, mask-unread, mask-read, mask-there, image-before, image-after, image-unread, image-read, image-there)
+pub ruleset fetching = (needs, mask-before, mask-after, mask-unread, mask-read, mask-there, image-before, image-after, image-unread, image-grey, image-read, grey-there, image-there)

@@ -13,8 +13,9 @@ pub const ROW_SIZE: usize = 6;
 // The numbers of the rows of 15 layers, as many as a stripe has at most.
 pub const ROWS_SIZE: usize = 15 * ROW_SIZE;
 
-// A layer in one line of the picture, worked out once a line: its main pixels `from` up to `to`, `ratio` of them a sample; whether it was read (0: not),
-// and where the line's samples then start; and what it gives elsewhere: a mask its value, an image layer the place of its base colour in the sheet.
+// A layer in one line of the picture, worked out once a line: its main pixels `from` up to `to`, `ratio` of them a sample; the octets a sample if it was
+// read (0: it was not), and where the line's samples then start; and what it gives elsewhere: a mask its value, an image layer the place of its base
+// colour in the sheet.
 pub struct Row {
     pub from: usize,
     pub to: usize,
@@ -69,5 +70,9 @@ pub fn image_at(s: &[u8], d: &[u8], r: Row, x: MainPos) -> Sample
     if r.read == 0 {
         return Sample::Unknown;
     }
-    line_sample::sample_at(d, r.at, line_sample::scale_pos(r.ratio, r.from, x))
+    let p = line_sample::scale_pos(r.ratio, r.from, x);
+    if r.read == 1 {
+        return line_sample::grey_at(d, r.at, p);
+    }
+    line_sample::sample_at(d, r.at, p)
 }

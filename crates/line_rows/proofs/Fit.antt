@@ -1,19 +1,19 @@
 -- The rows of a scene that is shown: what they name is there, and the pixel decided from them is the picture's.
 -- Assumes nothing.
 use Prim.Native.Nat.{ℕ, zero, suc, _+_, _-_, _*_, _/_, _%_, _≤_, _<_}
+use native.Mathlib.Nat.{add-mul}
 use native.Mathlib.Omega.{arith}
 use mathlib.Core.Path.{_≡_, refl, sym, ap, ap₂, subst, _∙_}
-use mathlib.Core.Bool.{Bool, true, _&&_, cond}
+use mathlib.Core.Bool.{Bool, true, false, _&&_, cond}
 use mathlib.Core.List.{List}
 use lib.ListN.{length}
-use borrow.Author.Tests.{eq-eqb, ne-eqb}
-use Rattle.laws.proofs.Cases.{cond-with}
+use Rattle.laws.proofs.Cases.{cond-with, clash}
 use Rattle.laws.proofs.Says.{says-and, says-true}
 use Rattle.octets.specs.Octets.{putAt}
 use Rattle.octets.proofs.Laws.{put-length}
 use Rattle.sheet_rules.specs.StripeTable.{layerRecord}
 use Rattle.sheet_rules.specs.declared.Record.{Record}
-use Rattle.sheet_rules.specs.Record.{recordSize}
+use Rattle.sheet_rules.specs.Record.{recordSize, isGrey}
 use Rattle.sheet_rules.specs.Judge.{coded}
 use Rattle.pixel_rules.specs.declared.MainPos.{MainPos}
 use Rattle.pixel_rules.specs.declared.Start.{Start}
@@ -22,9 +22,9 @@ use Rattle.pixel_rules.specs.Place.{ratio, scale, covers, inside}
 use Rattle.pixel_rules.specs.Planes.{PlaneList, planeStart}
 use Rattle.pixel_rules.specs.Samples.{Scene, recordOf, mainOf, indexOf, maskAt, imageAt, depth, pairsOf}
 use Rattle.pixel_rules.specs.Decide.{pairStep, decide, stackAt, pixelAt}
-use Rattle.pixel_rules.proofs.Division.{says-covers, says-inside}
+use Rattle.pixel_rules.proofs.Division.{says-covers, says-inside, depth-mask, depth-image}
 use Rattle.picture_rules.proofs.Scenes.{Stage, stage-layers, stage-placed, scene-ratio-some}
-use Rattle.picture_rules.proofs.Within.{mask-there, image-there}
+use Rattle.picture_rules.proofs.Within.{sample-there}
 use Rattle.line_fetch.specs.declared.Row.{Row}
 use Rattle.line_fetch.specs.Rows.{rowSize, rowAt, rowMask, rowImage, MaskFits, ImageFits}
 use Rattle.line_pixel.specs.Rows.{rowStack, RowsFit}
@@ -35,10 +35,10 @@ use Rattle.line_rows.proofs.Same.{row-among, mask-same, image-same, oth
 -- ---- one row: what it names is there, if the samples of a start are
 
 module _ (r : Record) (k : ℕ) (y : MainPos) (p : Start) (other : ℕ) (turns : 0 < k) where
-  -- the samples of the layer in this line are in the buffer, n octets each
-  abbrev There : List ℕ → ℕ → Type 0
-  There d n = (a : ℕ) → p ≡ From a → (x : MainPos) → covers (r .x) (r .width) k x ≡ true → covers (r .y) (r .height) k y ≡ true
-      → a + (scale k (r .y) y .0 * r .width + scale k (r .x) x .0) * n + n ≤ length d
+  -- the samples of the layer in this line are in the buffer
+  abbrev There : List ℕ → Type 0
+  There d = (a : ℕ) → p ≡ From a → (x : MainPos) → covers (r .x) (r .width) k x ≡ true → covers (r .y) (r .height) k y ≡ true
+      → a + (scale k (r .y) y .0 * r .width + scale k (r .x) x .0) * depth r + depth r ≤ length d
 
   crossed : coded r && covers (r .y) (r .height) k y ≡ true → covers (r .y) (r .height) k y ≡ true
   crossed t = says-and (says-true (coded r)) (says-true (covers (r .y) (r .height) k y)) .told t .1
@@ -46,58 +46,56 @@ module _ (r : Record) (k : ℕ) (y : MainPos) (p : Start) (other : ℕ) (turns :
   over : (x : MainPos) → r .x ≤ x .0 → x .0 < r .x + r .width * k → covers (r .x) (r .width) k x ≡ true
   over x a b = says-covers (r .x) (r .width) k x .shown (a, b)
 
-  mask-in : (d : List ℕ) → depth (r .layer) ≡ 1 → There d 1 → covers (r .y) (r .height) k y ≡ true → (q : Start) → p ≡ q → MaskFits d (rowIn r k y q other)
+  -- so many octets a sample
+  each-there : (d : List ℕ) (n : ℕ) → depth r ≡ n → There d → covers (r .y) (r .height) k y ≡ true → (a : ℕ) → p ≡ From a → (x : MainPos) → covers (r .x) (r .width) k x ≡ true
+      → a + scale k (r .y) y .0 * r .width * depth r + scale k (r .x) x .0 * n + n ≤ length d
+  each-there d n e f t a z x o =
+      let g = subst (λ (m : ℕ). a + (scale k (r .y) y .0 * r .width + scale k (r .x) x .0) * m + m ≤ length d) e (f a z x o t) in
+      let q = add-mul (scale k (r .y) y .0 * r .width) (scale k (r .x) x .0) n in
+      let h : scale k (r .y) y .0 * r .width * depth r ≡ scale k (r .y) y .0 * r .width * n = ap (λ (m : ℕ). scale k (r .y) y .0 * r .width * m) e in
+      omega arith
+
+  mask-in : (d : List ℕ) → depth r ≡ 1 → There d → covers (r .y) (r .height) k y ≡ true → (q : Start) → p ≡ q → MaskFits d (rowIn r k y q other)
   unfolding rowIn
   mask-in d e f t Unread z = record { turns = turns; there = λ x a b n. absurd (n refl) }
-  mask-in d e f t (From i) z =
-      record {
-        turns = turns;
-        there = λ x a b n.
-            let h = f i z x (over x a b) t in
-            let g : i + scale k (r .y) y .0 * r .width * depth (r .layer) + scale k (r .x) x .0 ≡ i + scale k (r .y) y .0 * r .width * 1 + scale k (r .x) x .0 =
-            ap (λ (m : ℕ). i + scale k (r .y) y .0 * r .width * m + scale k (r .x) x .0) e in
-            omega arith;
-      }
+  mask-in d e f t (From i) z = record { turns = turns; there = λ x a b n. let h = each-there d 1 e f t i z x (over x a b) in omega arith }
 
-  pub mask-fits : (d : List ℕ) → depth (r .layer) ≡ 1 → There d 1 → MaskFits d (rowBy r k y p other)
+  pub mask-fits : (d : List ℕ) → depth r ≡ 1 → There d → MaskFits d (rowBy r k y p other)
   unfolding rowBy
   mask-fits d e f =
       cond-with (MaskFits d) (coded r && covers (r .y) (r .height) k y) (λ t. mask-in d e f (crossed t) p refl)
       (λ t. record { turns = omega arith; there = λ x a b n. absurd (n refl) })
 
-  image-in : (s d : List ℕ) → other + 3 ≤ length s → depth (r .layer) ≡ 3 → There d 3 → covers (r .y) (r .height) k y ≡ true → (q : Start) → p ≡ q
+  -- a grey layer has one octet a sample, any other three
+  image-in : (s d : List ℕ) → other + 3 ≤ length s → (g : Bool) → depth r ≡ cond g 1 3 → There d → covers (r .y) (r .height) k y ≡ true → (q : Start) → p ≡ q
       → ImageFits s d (rowIn r k y q other)
   unfolding rowIn
-  image-in s d o e f t Unread z = record { turns = turns; there = λ x a b n. absurd (n refl); base = o }
-  image-in s d o e f t (From i) z =
+  image-in s d o g e f t Unread z = record { turns = turns; grey = λ x a b n. clash n; there = λ x a b n m. absurd (n refl); base = o }
+  image-in s d o true e f t (From i) z =
+      record { turns = turns; grey = λ x a b n. let h = each-there d 1 e f t i z x (over x a b) in omega arith; there = λ x a b n m. absurd (m e); base = o }
+  image-in s d o false e f t (From i) z =
       record {
         turns = turns;
-        there = λ x a b n.
-            let h = f i z x (over x a b) t in
-            let g : i + scale k (r .y) y .0 * r .width * depth (r .layer) + scale k (r .x) x .0 * 3 ≡ i + scale k (r .y) y .0 * r .width * 3 + scale k (r .x) x .0 * 3 =
-            ap (λ (m : ℕ). i + scale k (r .y) y .0 * r .width * m + scale k (r .x) x .0 * 3) e in
-            omega arith;
+        grey = λ x a b n. let w : _≡_ {A = ℕ} 3 1 = sym e ∙ n in absurd (omega arith);
+        there = λ x a b n m. let h = each-there d 3 e f t i z x (over x a b) in omega arith;
         base = o;
       }
 
-  pub image-fits : (s d : List ℕ) → other + 3 ≤ length s → depth (r .layer) ≡ 3 → There d 3 → ImageFits s d (rowBy r k y p other)
+  pub image-fits : (s d : List ℕ) → other + 3 ≤ length s → (g : Bool) → depth r ≡ cond g 1 3 → There d → ImageFits s d (rowBy r k y p other)
   unfolding rowBy
-  image-fits s d o e f =
-      cond-with (ImageFits s d) (coded r && covers (r .y) (r .height) k y) (λ t. image-in s d o e f (crossed t) p refl)
-      (λ t. record { turns = omega arith; there = λ x a b n. absurd (n refl); base = o })
+  image-fits s d o g e f =
+      cond-with (ImageFits s d) (coded r && covers (r .y) (r .height) k y) (λ t. image-in s d o g e f (crossed t) p refl)
+      (λ t. record { turns = omega arith; grey = λ x a b n. clash n; there = λ x a b n m. absurd (n refl); base = o })
 
 -- ---- the rows of a scene that is shown
 
-depth-even : (l : ℕ) → l % 2 ≡ 0 → depth l ≡ 1
-depth-even l e = ap (λ (b : Bool). cond b 1 3) (eq-eqb (l % 2) 0 e)
-
-depth-odd : (l : ℕ) → l % 2 ≡ 1 → depth l ≡ 3
-depth-odd l e = ap (λ (b : Bool). cond b 1 3) (ne-eqb (l % 2) 0 (λ z. omega arith))
-
 module _ (v : Scene) (pl : PlaneList) (k n : ℕ) (y : MainPos) (g : Stage (v .sheet) pl (v .samples) k n v) (whole : v .extent .first + v .extent .layers ≤ length (v .sheet) / recordSize) where
   module _ (l : ℕ) (a : 1 ≤ l) (b : l ≤ v .extent .layers) where
-    depth-here : (m : ℕ) → depth l ≡ m → depth (recordOf v l .layer) ≡ m
-    depth-here m e = ap depth (stage-placed g l a b .layer) ∙ e
+    mask-depth : l % 2 ≡ 0 → depth (recordOf v l) ≡ 1
+    mask-depth e = depth-mask (recordOf v l) (ap (λ (n : ℕ). n % 2) (stage-placed g l a b .layer) ∙ e)
+
+    image-depth : l % 2 ≡ 1 → depth (recordOf v l) ≡ cond (isGrey (recordOf v l)) 1 3
+    image-depth e = depth-image (recordOf v l) (ap (λ (n : ℕ). n % 2) (stage-placed g l a b .layer) ∙ e)
 
     within : (x : MainPos) → covers (recordOf v l .x) (recordOf v l .width) (ratio (mainOf v) (recordOf v l)) x ≡ true
         → covers (recordOf v l .y) (recordOf v l .height) (ratio (mainOf v) (recordOf v l)) y ≡ true → inside (mainOf v) (recordOf v l) x y ≡ true
@@ -107,8 +105,7 @@ module _ (v : Scene) (pl : PlaneList) (k n : ℕ) (y : MainPos) (g : Stage (v .s
     unfolding rowOf layerRecord indexOf
     scene-mask e =
         mask-fits (recordOf v l) (ratio (mainOf v) (recordOf v l)) y (planeStart (v .planes) l) (otherOf (coded (recordOf v 3)) (recordOf v l) (v .extent .first + (l - 1)) l)
-        (scene-ratio-some g l a b) (v .samples) (depth-here 1 (depth-even l e))
-        (λ i z x p q. let h = mask-there g l i z x y (within x p q) e in omega arith)
+        (scene-ratio-some g l a b) (v .samples) (mask-depth e) (λ i z x p q. sample-there g l i z x y (within x p q))
 
     pub scene-image : l % 2 ≡ 1 → ImageFits (v .sheet) (v .samples) (rowOf (v .sheet) (v .extent) (v .planes) y l)
     unfolding rowOf layerRecord indexOf
@@ -116,8 +113,7 @@ module _ (v : Scene) (pl : PlaneList) (k n : ℕ) (y : MainPos) (g : Stage (v .s
         image-fits (recordOf v l) (ratio (mainOf v) (recordOf v l)) y (planeStart (v .planes) l) (otherOf (coded (recordOf v 3)) (recordOf v l) (v .extent .first + (l - 1)) l)
         (scene-ratio-some g l a b) (v .sheet) (v .samples)
         (let o = other-image (coded (recordOf v 3)) (recordOf v l) (v .extent .first + (l - 1)) l e in omega arith)
-        (depth-here 3 (depth-odd l e))
-        (λ i z x p q. let h = image-there g l i z x y (within x p q) e in omega arith)
+        (isGrey (recordOf v l)) (image-depth e) (λ i z x p q. sample-there g l i z x y (within x p q))
 
   -- N is odd: the pairs and layer 1
   count : v .extent .layers ≡ pairsOf v * 2 + 1
@@ -159,14 +155,14 @@ module _ (v : Scene) (pl : PlaneList) (k n : ℕ) (y : MainPos) (g : Stage (v .s
           let c = count in
           let odd : (j * 2 + 1) % 2 ≡ 1 = omega arith in
           ap (λ (r : Row). rowImage (v .sheet) (v .samples) r x) (here (j * 2 + 1) (omega arith) (omega arith))
-          ∙ image-same v x y (j * 2 + 1) odd (depth-here (j * 2 + 1) (omega arith) (omega arith) 3 (depth-odd (j * 2 + 1) odd))
+          ∙ image-same v x y (j * 2 + 1) odd (image-depth (j * 2 + 1) (omega arith) (omega arith) odd)
 
       mask-is : (j : ℕ) → 1 ≤ j → j ≤ pairsOf v → rowMask (v .samples) (rowAt rows (j * 2)) x ≡ maskAt v (j * 2) x y
       mask-is j g h =
           let c = count in
           let even : j * 2 % 2 ≡ 0 = omega arith in
           ap (λ (r : Row). rowMask (v .samples) r x) (here (j * 2) (omega arith) (omega arith))
-          ∙ mask-same v x y (j * 2) even (depth-here (j * 2) (omega arith) (omega arith) 1 (depth-even (j * 2) even))
+          ∙ mask-same v x y (j * 2) even (mask-depth (j * 2) (omega arith) (omega arith) even)
 
       decide-is : (j : ℕ) → j ≤ pairsOf v → decide (rowStack (v .sheet) (v .samples) rows x) j ≡ decide (stackAt v x y) j
       unfolding decide

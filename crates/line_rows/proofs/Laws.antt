@@ -48,8 +48,8 @@ covers-made o n k to y e = rw e
 
 -- ---- the start of a row of samples
 
-pub start-made : (a width l down w n : ℕ) → w ≡ width → n ≡ down * w * depth l → a + n ≡ a + down * width * depth l
-start-made a width l down w n ew en = ap (λ (i : ℕ). a + i) (en ∙ ap (λ (j : ℕ). down * j * depth l) ew)
+pub start-made : (a width each down w n : ℕ) → w ≡ width → n ≡ down * w * each → a + n ≡ a + down * width * each
+start-made a width each down w n ew en = ap (λ (i : ℕ). a + i) (en ∙ ap (λ (j : ℕ). down * j * each) ew)
 
 -- ---- a layer that the line crosses
 
@@ -59,11 +59,11 @@ module _ (r : Record) (k : ℕ) (y : MainPos) where
   unfolding rowIn
   in-unread other p from w to e f g h = rw (e, h, f, g)
 
-  pub in-read : (other : ℕ) (p : Start) (a from w to o at : ℕ) (q : SamplePos) → p ≡ From a → from ≡ r .x → w ≡ r .width → to ≡ from + w * k → o ≡ r .y → q ≡ scale k o y
-      → at ≡ a + q .0 * r .width * depth (r .layer)
-      → record { from = from; to = to; ratio = k; read = 1; at = at; other = other } ≡ rowIn r k y p other
+  pub in-read : (other : ℕ) (p : Start) (a from w to each o at : ℕ) (q : SamplePos) → p ≡ From a → from ≡ r .x → w ≡ r .width → to ≡ from + w * k → (each ≡ depth r) × (each ≤ 3)
+      → o ≡ r .y → q ≡ scale k o y → at ≡ a + q .0 * r .width * each
+      → record { from = from; to = to; ratio = k; read = each; at = at; other = other } ≡ rowIn r k y p other
   unfolding rowIn
-  in-read other p a from w to o at q e f g h eo eq ea = rw (e, h, f, g, ea, eq, eo)
+  in-read other p a from w to each o at q e f g h en eo eq ea = rw (e, h, f, g, ea, eq, eo, en .0)
 
   pub in-above : (o : ℕ) → Covered r k y → o ≡ r .y → o ≤ y .0
   in-above o c e = subst (λ (i : ℕ). i ≤ y .0) (sym e) (says-covers (r .y) (r .height) k y .told (c .within) .0)

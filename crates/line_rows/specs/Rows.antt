@@ -37,7 +37,7 @@ unfoldable pub rowIn : Record → ℕ → MainPos → Start → ℕ → Row
 rowIn r q y Unread other =
     record { from = r .x; to = r .x + r .width * q; ratio = q; read = 0; at = 0; other = other }
 rowIn r q y (From a) other =
-    record { from = r .x; to = r .x + r .width * q; ratio = q; read = 1; at = a + scale q (r .y) y .0 * r .width * depth (r .layer); other = other }
+    record { from = r .x; to = r .x + r .width * q; ratio = q; read = depth r; at = a + scale q (r .y) y .0 * r .width * depth r; other = other }
 
 unfoldable pub rowBy : Record → ℕ → MainPos → Start → ℕ → Row
 unfolding rowIn

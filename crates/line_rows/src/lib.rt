@@ -4,7 +4,6 @@ ghost use Prim.Native.Nat.{_+_, _-_, _*_, _/_, _<_, _≤_};
 ghost use lib.ListN.{length};
 ghost use Rattle.octets.specs.Octets.{putAt};
 ghost use Rattle.pixel_rules.specs.Place.{covers};
-ghost use Rattle.pixel_rules.specs.Samples.{depth};
 ghost use Rattle.line_planes.specs.Listing.{entriesOf};
 ghost use Rattle.line_fetch.specs.Rows.{rowSize, numbersOf};
 ghost use Rattle.line_rows.specs.Rows.{rowIn, rowOut, rowBy, otherOf, rowOf, rowsOf, Covered, Layer, Standing};
@@ -35,13 +34,13 @@ pub fn line_covers(o: usize, n: usize, ratio: usize, y: MainPos) -> bool
     (o <= y.0) & (y.0 < to)
 }
 
-// Where the samples of a row start, so many rows down.
-pub fn row_start(a: u32, width: u16, layer: u8, down: SamplePos) -> usize
-    requires { ⌜ down .0 < 65536 ⌝ }
-    ensures { λ r. ⌜ r ≡ a + down .0 * width * depth layer ⌝ }
+// Where the samples of a row start, so many rows down, of so many octets each.
+pub fn row_start(a: u32, width: u16, each: usize, down: SamplePos) -> usize
+    requires { ⌜ (down .0 < 65536) × (each ≤ 3) ⌝ }
+    ensures { λ r. ⌜ r ≡ a + down .0 * width * each ⌝ }
 {
     let n = down.0 * octets_get::wide16(width);
-    a as usize + line_sample::sample_octets(n, layer)
+    a as usize + line_sample::sample_octets(n, each)
 }
 
 // A layer that the line crosses.
@@ -60,19 +59,18 @@ pub fn row_in(r: Record, ratio: usize, y: MainPos, p: Start, other: usize) -> Ro
             at: 0,
             other: other,
         },
-        Start::From(a) => Row {
-            from: from,
-            to: to,
-            ratio: ratio,
-            read: 1,
-            at: row_start(
-                a,
-                r.width,
-                r.layer,
-                line_sample::scale_pos(ratio, octets_get::wide16(r.y), y),
-            ),
-            other: other,
-        },
+        Start::From(a) => {
+            let each = line_sample::depth_of(r);
+            let down = line_sample::scale_pos(ratio, octets_get::wide16(r.y), y);
+            Row {
+                from: from,
+                to: to,
+                ratio: ratio,
+                read: each,
+                at: row_start(a, r.width, each, down),
+                other: other,
+            }
+        }
     }
 }
 

@@ -3,8 +3,9 @@
 use Prim.Native.Nat.{ℕ, _-_, _*_, _/_, _%_, _≤_, _<_}
 use native.Mathlib.Nat.{mul-le-mul}
 use native.Mathlib.Omega.{arith}
-use mathlib.Core.Path.{_≡_, refl, sym, ap, _∙_}
-use mathlib.Core.Bool.{cond}
+use mathlib.Core.Path.{_≡_, refl, sym, ap}
+use mathlib.Core.Bool.{true, false, _||_, cond}
+use lib.Dec.{eqb}
 use mathlib.Core.Logic.{_≢_}
 use borrow.Author.Tests.{eq-eqb, ne-eqb}
 use borrow.Author.Needs.{needs}
@@ -12,6 +13,8 @@ use Rattle.pixel_rules.specs.declared.MainPos.{MainPos}
 use Rattle.pixel_rules.specs.declared.Mask.the-variants.{Zero, One}
 use Rattle.pixel_rules.specs.Place.{scale}
 use Rattle.pixel_rules.specs.Samples.{bitOf, depth}
+use Rattle.sheet_rules.specs.declared.Record.{Record}
+use Rattle.sheet_rules.specs.Record.{isGrey}
 
 -- ---- the scaling step: division by a constant, and by k itself
 
@@ -44,14 +47,17 @@ pub ruleset bits = (needs, bit-zero, bit-one)
 
 -- ---- the octets of samples
 
-module _ (n l : ℕ) (h : n < 4294967296) where
-  pub octets-mask : l % 2 ≡ 0 → (n ≡ n * depth l) × (n < 12884901888)
-  octets-mask e =
-      let d : depth l ≡ 1 = ap (λ t. cond t 1 3) (eq-eqb (l % 2) 0 e) in
-      (let z : n ≡ n * 1 = omega arith in z ∙ ap (λ (k : ℕ). n * k) (sym d), omega arith)
+module _ (r : Record) where
+  pub depth-one : eqb (r .layer % 2) 0 || isGrey r ≡ true → (1 ≡ depth r) × (1 ≤ 3)
+  depth-one e = (sym (ap (λ t. cond t 1 3) e), omega arith)
 
-  pub octets-image : l % 2 ≢ 0 → (n * 3 ≡ n * depth l) × (n * 3 < 12884901888)
-  octets-image e = let d : depth l ≡ 3 = ap (λ t. cond t 1 3) (ne-eqb (l % 2) 0 e) in (ap (λ (k : ℕ). n * k) (sym d), omega arith)
+  pub depth-three : eqb (r .layer % 2) 0 || isGrey r ≡ false → (3 ≡ depth r) × (3 ≤ 3)
+  depth-three e = (sym (ap (λ t. cond t 1 3) e), omega arith)
+
+pub ruleset depths = (needs, depth-one, depth-three)
+
+pub octets-small : (n each : ℕ) → (n < 4294967296) × (each ≤ 3) → n * each < 12884901888
+octets-small n each h = let p = h .0 in let q : n ≤ n = omega arith in let m : n * each ≤ n * 3 = mul-le-mul q (h .1) in omega arith
 
 pub product-small : (w h : ℕ) → w < 65536 → h < 65536 → w * h < 4294967296
 product-small w h a b = let p : w ≤ 65535 = omega arith in let q : h ≤ 65535 = omega arith in let m : w * h ≤ 65535 * 65535 = mul-le-mul p q in omega arith

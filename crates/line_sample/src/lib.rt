@@ -4,13 +4,14 @@ ghost use Prim.Native.Nat.{_+_, _*_, _<_, _≤_};
 ghost use lib.ListN.{length, getD};
 ghost use Rattle.pixel_rules.specs.declared.Sample.the-variants.{Known};
 ghost use Rattle.pixel_rules.specs.Place.{scale};
-ghost use Rattle.pixel_rules.specs.Samples.{bitOf, depth};
+ghost use Rattle.pixel_rules.specs.Samples.{bitOf, greyOf, depth};
 ghost use Rattle.sheet_rules.specs.Record.{colourAt};
 use pixel_rules::MainPos;
 use pixel_rules::Mask;
 use pixel_rules::Sample;
 use pixel_rules::SamplePos;
 use sheet_rules::Colour;
+use sheet_rules::Record;
 
 // The one step from a main place to a sample's. It divides by constants: a division by the ratio would cost more than all else of a pixel.
 pub fn scale_pos(ratio: usize, o: usize, p: MainPos) -> SamplePos
@@ -74,10 +75,34 @@ pub fn sample_at(d: &[u8], at: usize, p: SamplePos) -> Sample
     Sample::Known(colour_at(d, i))
 }
 
-// The octets of n samples of a layer. In 64 bits, since width times height times three passes 32.
-pub fn sample_octets(n: usize, layer: u8) -> usize
-    requires { ⌜ n < 4294967296 ⌝ }
-    ensures { λ r. ⌜ (r ≡ n * depth layer) × (r < 12884901888) ⌝ }
+// The sample of a grey layer: one octet, lightness alone.
+pub fn grey_at(d: &[u8], at: usize, p: SamplePos) -> Sample
+    requires { ⌜ at + p .0 < length (now d) ⌝ }
+    ensures { λ r. ⌜ r ≡ Known (greyOf (getD (now (d .entry)) (at + p .0) 0)) ⌝ }
 {
-    if layer % 2 == 0 { n } else { n * 3 }
+    let i = at + p.0;
+    Sample::Known(Colour {
+        c0: d[i],
+        c1: 128,
+        c2: 96,
+    })
+}
+
+// The octets of a sample of a layer.
+pub fn depth_of(r: Record) -> usize
+    ensures { λ n. ⌜ (n ≡ depth r) × (n ≤ 3) ⌝ }
+{
+    if (r.layer % 2 == 0) | (r.octet17 == 1) {
+        1
+    } else {
+        3
+    }
+}
+
+// The octets of n samples of so many octets each. In 64 bits, since width times height times three passes 32.
+pub fn sample_octets(n: usize, each: usize) -> usize
+    requires { ⌜ (n < 4294967296) × (each ≤ 3) ⌝ }
+    ensures { λ r. ⌜ (r ≡ n * each) × (r < 12884901888) ⌝ }
+{
+    n * each
 }

@@ -38,8 +38,10 @@ use Rattle.sheet_table.proofs.Found.{sheet-good, found-whole, fault-small}
 
 -- ---- the span of a plane
 
-pub span-made : (width height l w h n : ℕ) → w ≡ width → h ≡ height → (n ≡ w * h * depth l) × (n < 12884901888) → (n ≡ width * height * depth l) × (n < 12884901888)
-span-made width height l w h n ew eh e = (e .0 ∙ ap₂ (λ (i j : ℕ). i * j * depth l) ew eh, e .1)
+pub span-made : (r : Record) (w h each n : ℕ) → w ≡ r .width → h ≡ r .height → (each ≡ depth r) × (each ≤ 3) → (n ≡ w * h * each) × (n < 12884901888)
+    → (n ≡ planeSpan r) × (n < 12884901888)
+unfolding planeSpan
+span-made r w h each n ew eh ed e = (e .0 ∙ ap₂ (λ (i j : ℕ). i * j * each) ew eh ∙ ap (λ (k : ℕ). r .width * r .height * k) (ed .0), e .1)
 
 -- ---- an entry
 
@@ -47,8 +49,7 @@ module _ (p : Plane) (r : Record) (room : ℕ) where
   pub within-uncoded : r .len ≡ 0 → false ≡ coded r && leb (p .start + planeSpan r) room
   within-uncoded e = simp (eq-eqb (r .len) 0 e)
 
-  pub within-coded : (n : ℕ) → r .len ≢ 0 → n ≡ r .width * r .height * depth (r .layer) → leb (p .start + n) room ≡ coded r && leb (p .start + planeSpan r) room
-  unfolding planeSpan
+  pub within-coded : (n : ℕ) → r .len ≢ 0 → n ≡ planeSpan r → leb (p .start + n) room ≡ coded r && leb (p .start + planeSpan r) room
   within-coded n d e = simp (ne-eqb (r .len) 0 d, e)
 
 module _ (s : List ℕ) (extent : Extent) (d : List ℕ) (last : ℕ) (p : Plane) where

@@ -1,10 +1,10 @@
 // The verdict on a line: the sheet, the stripe and line, the plane list. It writes nothing.
 ghost use mathlib.Core.Path.{_≡_};
 ghost use mathlib.Core.Bool.{_&&_};
-ghost use Prim.Native.Nat.{_*_, _+_, _<_};
+ghost use Prim.Native.Nat.{_+_, _<_};
 ghost use lib.Dec.{leb};
 ghost use Rattle.sheet_rules.specs.Judge.{coded};
-ghost use Rattle.pixel_rules.specs.Samples.{depth, planeSpan};
+ghost use Rattle.pixel_rules.specs.Samples.{planeSpan};
 ghost use Rattle.picture_rules.specs.Line.{planeOk, planesJudged, rulingOf};
 ghost use Rattle.line_planes.specs.Listing.{entriesOf};
 ghost use Rattle.line_verdict.specs.Ruled.{bareScene, listFrom, lineRuling, ruledOf};
@@ -25,11 +25,11 @@ pub enum Ruled {
 }
 
 // The octets of all samples of a layer.
-pub fn plane_span(width: u16, height: u16, layer: u8) -> usize
-    ensures { λ n. ⌜ (n ≡ width * height * depth layer) × (n < 12884901888) ⌝ }
+pub fn plane_span(r: Record) -> usize
+    ensures { λ n. ⌜ (n ≡ planeSpan r) × (n < 12884901888) ⌝ }
 {
-    let n = octets_get::wide16(width) * octets_get::wide16(height);
-    line_sample::sample_octets(n, layer)
+    let n = octets_get::wide16(r.width) * octets_get::wide16(r.height);
+    line_sample::sample_octets(n, line_sample::depth_of(r))
 }
 
 // The layer is coded, and its samples lie in a buffer of so many octets.
@@ -39,7 +39,7 @@ pub fn plane_within(p: Plane, r: Record, room: usize) -> bool
     if r.len == 0 {
         return false;
     }
-    let span = plane_span(r.width, r.height, r.layer);
+    let span = plane_span(r);
     p.start as usize + span <= room
 }
 

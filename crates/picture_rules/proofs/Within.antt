@@ -1,4 +1,4 @@
--- The samples that a scene reads lie within the sample buffer; and a sample's number taken row by row.
+-- The samples that a scene reads lie within the sample buffer.
 -- Assumes nothing.
 use Prim.Native.Nat.{ℕ, suc, _+_, _*_, _%_, _≤_, _<_}
 use native.Mathlib.Nat.{add-assoc, add-mul}
@@ -17,25 +17,13 @@ use Rattle.picture_rules.specs.declared.ListVerdict.the-variants.{Fine}
 use Rattle.pixel_rules.specs.declared.Start.the-variants.{From}
 use Rattle.pixel_rules.specs.Place.{inside, alongOf, downOf}
 use Rattle.pixel_rules.specs.Planes.{PlaneList, planeStart}
-use Rattle.pixel_rules.specs.Samples.{Scene, recordOf, mainOf, indexOf, planeSpan}
+use Rattle.pixel_rules.specs.Samples.{Scene, recordOf, mainOf, indexOf, depth, planeSpan}
 use Rattle.picture_rules.specs.Line.{planesJudged}
 use Rattle.picture_rules.specs.Sentences.{plane, layerBefore, AllFine}
-use Rattle.pixel_rules.proofs.Division.{mask-within, image-within}
+use Rattle.pixel_rules.proofs.Division.{sample-within}
 use Rattle.picture_rules.proofs.Scenes.{Stage, stage-placed}
 use Rattle.picture_rules.proofs.Ruled.{planes-answers}
 use Rattle.pixel_rules.proofs.Starts.{start-among}
-
--- ---- a sample's number, row by row: the row's first, and how far along
-
-pub mask-row : (main : ℕ) (r : Record) (x y : MainPos) (a : ℕ) → a + indexOf main r x y ≡ a + downOf main r y .0 * r .width + alongOf main r x .0
-unfolding indexOf
-mask-row main r x y a = sym (add-assoc a (downOf main r y .0 * r .width) (alongOf main r x .0))
-
-pub image-row : (main : ℕ) (r : Record) (x y : MainPos) (a : ℕ) → a + indexOf main r x y * 3 ≡ a + downOf main r y .0 * r .width * 3 + alongOf main r x .0 * 3
-unfolding indexOf
-image-row main r x y a =
-    ap (λ (n : ℕ). a + n) (add-mul (downOf main r y .0 * r .width) (alongOf main r x .0) 3)
-    ∙ sym (add-assoc a (downOf main r y .0 * r .width * 3) (alongOf main r x .0 * 3))
 
 -- ---- what a start that is found says of its layer
 
@@ -80,18 +68,8 @@ module _ {s : List ℕ} {pl : PlaneList} {d : List ℕ} {k y : ℕ} {v : Scene} 
     stage-read : Read v l a
     stage-read = start-read v pl stage-fine l a (ap (λ (ps : List Plane). planeStart ps l) (sym (g .planes)) ∙ e)
 
-    pub mask-there : l % 2 ≡ 0 → a + indexOf (mainOf v) (recordOf v l) x z < length (v .samples)
-    mask-there even =
-        let r = stage-read in
-        let p = stage-placed g l (r .least) (r .most) .layer in
-        let i = mask-within (mainOf v) (recordOf v l) x z (ap (λ (n : ℕ). n % 2) p ∙ even) o in
-        let w = r .room in
-        omega arith
-
-    pub image-there : l % 2 ≡ 1 → a + indexOf (mainOf v) (recordOf v l) x z * 3 + 3 ≤ length (v .samples)
-    image-there odd =
-        let r = stage-read in
-        let p = stage-placed g l (r .least) (r .most) .layer in
-        let i = image-within (mainOf v) (recordOf v l) x z (ap (λ (n : ℕ). n % 2) p ∙ odd) o in
-        let w = r .room in
+    pub sample-there : a + indexOf (mainOf v) (recordOf v l) x z * depth (recordOf v l) + depth (recordOf v l) ≤ length (v .samples)
+    sample-there =
+        let i = sample-within (mainOf v) (recordOf v l) x z o in
+        let w = stage-read .room in
         omega arith

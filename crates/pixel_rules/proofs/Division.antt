@@ -3,12 +3,14 @@
 use Prim.Native.Nat.{ℕ, _+_, _-_, _*_, _/_, _%_, _≤_, _<_}
 use native.Mathlib.Nat.{div-lt-iff-lt-mul, div-one, div-eq-of-lt-le, mul-le-mul-right, add-mul, one-mul, mul-comm, mul-zero}
 use native.Mathlib.Omega.{arith}
-use mathlib.Core.Path.{_≡_, ap, _∙_}
+use mathlib.Core.Path.{_≡_, refl, ap, _∙_}
 use mathlib.Core.Logic.{⊎-elim}
-use mathlib.Core.Bool.{Bool, true, cond}
+use mathlib.Core.Bool.{Bool, true, false, cond, or-true}
+use lib.Dec.{eqb}
 use borrow.Author.Tests.{eq-eqb, ne-eqb}
 use Rattle.laws.proofs.Says.{Says, says-le, says-lt, says-and, says-eq, says-else}
 use Rattle.sheet_rules.specs.declared.Record.{Record}
+use Rattle.sheet_rules.specs.Record.{isGrey}
 use Rattle.pixel_rules.specs.declared.MainPos.{MainPos}
 use Rattle.pixel_rules.specs.declared.SamplePos.{SamplePos}
 use Rattle.pixel_rules.specs.Place.{ratio, scale, covers, inside, alongOf, downOf}
@@ -82,17 +84,38 @@ index-within main r x y e =
 
 -- ---- in a layer's octets
 
-pub span-mask : (r : Record) → r .layer % 2 ≡ 0 → planeSpan r ≡ r .width * r .height
+module _ (r : Record) where
+  pub depth-mask : r .layer % 2 ≡ 0 → depth r ≡ 1
+  depth-mask e = simp (eq-eqb (r .layer % 2) 0 e) refl
+
+  pub depth-grey : isGrey r ≡ true → depth r ≡ 1
+  depth-grey e = simp (e, or-true (eqb (r .layer % 2) 0)) refl
+
+  pub depth-image : r .layer % 2 ≡ 1 → depth r ≡ cond (isGrey r) 1 3
+  depth-image e = simp (ne-eqb (r .layer % 2) 0 (λ z. omega arith)) refl
+
+  pub depth-colour : r .layer % 2 ≡ 1 → isGrey r ≡ false → depth r ≡ 3
+  depth-colour e g = depth-image e ∙ ap (λ (b : Bool). cond b 1 3) g
+
+  -- all samples of a layer: one octet each in a mask and in a grey layer, three in any other
+  pub span-mask : r .layer % 2 ≡ 0 → planeSpan r ≡ r .width * r .height
+  unfolding planeSpan
+  span-mask e = ap (λ (n : ℕ). r .width * r .height * n) (depth-mask e) ∙ omega arith
+
+  pub span-grey : isGrey r ≡ true → planeSpan r ≡ r .width * r .height
+  unfolding planeSpan
+  span-grey e = ap (λ (n : ℕ). r .width * r .height * n) (depth-grey e) ∙ omega arith
+
+  pub span-colour : r .layer % 2 ≡ 1 → isGrey r ≡ false → planeSpan r ≡ r .width * r .height * 3
+  unfolding planeSpan
+  span-colour e g = ap (λ (n : ℕ). r .width * r .height * n) (depth-colour e g)
+
+-- the octets of a sample lie within the layer's
+pub sample-within : (main : ℕ) (r : Record) (x y : MainPos) → inside main r x y ≡ true → indexOf main r x y * depth r + depth r ≤ planeSpan r
 unfolding planeSpan
-span-mask r e = let d : depth (r .layer) ≡ 1 = ap (λ (b : Bool). cond b 1 3) (eq-eqb (r .layer % 2) 0 e) in ap (λ (n : ℕ). r .width * r .height * n) d ∙ omega arith
-
-pub span-image : (r : Record) → r .layer % 2 ≡ 1 → planeSpan r ≡ r .width * r .height * 3
-unfolding planeSpan
-span-image r e = let d : depth (r .layer) ≡ 3 = ap (λ (b : Bool). cond b 1 3) (ne-eqb (r .layer % 2) 0 (λ z. omega arith)) in ap (λ (n : ℕ). r .width * r .height * n) d
-
--- a mask's octet, and an image layer's three, lie within the layer's octets
-pub mask-within : (main : ℕ) (r : Record) (x y : MainPos) → r .layer % 2 ≡ 0 → inside main r x y ≡ true → indexOf main r x y < planeSpan r
-mask-within main r x y l e = let a = index-within main r x y e in let s = span-mask r l in omega arith
-
-pub image-within : (main : ℕ) (r : Record) (x y : MainPos) → r .layer % 2 ≡ 1 → inside main r x y ≡ true → indexOf main r x y * 3 + 3 ≤ planeSpan r
-image-within main r x y l e = let a = index-within main r x y e in let s = span-image r l in omega arith
+sample-within main r x y e =
+    let a = index-within main r x y e in
+    let m : (indexOf main r x y + 1) * depth r ≤ r .width * r .height * depth r = mul-le-mul-right (depth r) (omega arith) in
+    let b = add-mul (indexOf main r x y) 1 (depth r) in
+    let c = one-mul (depth r) in
+    omega arith

@@ -17,8 +17,8 @@ use Rattle.pixel_rules.specs.declared.Mask.the-variants.{Zero, One, Hidd
 use Rattle.pixel_rules.specs.Place.{inside}
 use Rattle.pixel_rules.specs.declared.Start.the-variants.{From, Unread}
 use Rattle.pixel_rules.specs.Planes.{planeStart}
-use Rattle.pixel_rules.specs.Samples.{Scene, recordOf, mainOf, indexOf, bitOf, baseOf, virtual, maskRead, imageRead, maskAt, imageAt}
-use Rattle.sheet_rules.specs.Record.{colourAt}
+use Rattle.pixel_rules.specs.Samples.{Scene, recordOf, mainOf, indexOf, bitOf, baseOf, virtual, sampleColour, maskRead, imageRead, maskAt, imageAt}
+use Rattle.sheet_rules.specs.Record.{colourAt, isGrey}
 
 pub coded-true : (r : Record) → Coded r → coded r ≡ true
 coded-true r h = simp (ne-eqb (r .len) 0 h)
@@ -60,9 +60,16 @@ module _ (v : Scene) (l : ℕ) (x y : MainPos) where
   -- ---- inside it is what was read at its sample, and not known where the layer is unread
 
   module _ (h : Coded (recordOf v l)) (o : inside (mainOf v) (recordOf v l) x y ≡ true) where
-    pub image-read-at : (a : ℕ) → planeStart (v .planes) l ≡ From a → imageAt v l x y ≡ Known (colourAt (v .samples) (a + indexOf (mainOf v) (recordOf v l) x y * 3))
-    unfolding imageAt imageRead
-    image-read-at a e = simp (coded-true (recordOf v l) h, o, e)
+    pub image-read-at : (a : ℕ) → planeStart (v .planes) l ≡ From a → isGrey (recordOf v l) ≡ false
+        → imageAt v l x y ≡ Known (colourAt (v .samples) (a + indexOf (mainOf v) (recordOf v l) x y * 3))
+    unfolding imageAt imageRead sampleColour
+    image-read-at a e g = simp (coded-true (recordOf v l) h, o, e, g)
+
+    -- a grey layer's octet is lightness, and its colour is written out here once more
+    pub grey-read-at : (a : ℕ) → planeStart (v .planes) l ≡ From a → isGrey (recordOf v l) ≡ true
+        → imageAt v l x y ≡ Known (record { c0 = getD (v .samples) (a + indexOf (mainOf v) (recordOf v l) x y) 0; c1 = 128; c2 = 96 })
+    unfolding imageAt imageRead sampleColour
+    grey-read-at a e g = simp (coded-true (recordOf v l) h, o, e, g) refl
 
     pub image-unread : planeStart (v .planes) l ≡ Unread → imageAt v l x y ≡ Unknown
     unfolding imageAt imageRead

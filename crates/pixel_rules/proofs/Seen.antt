@@ -11,14 +11,16 @@ use borrow.Author.Tests.{eq-eqb, ne-eqb}
 use Rattle.laws.proofs.Cases.{clash}
 use Rattle.pixel_rules.specs.declared.MainPos.{MainPos}
 use Rattle.sheet_rules.specs.declared.Colour.{Colour}
+use Rattle.sheet_rules.specs.declared.Record.{Record}
+use Rattle.sheet_rules.specs.Record.{isGrey}
 use Rattle.pixel_rules.specs.declared.Sample.{Sample}
 use Rattle.pixel_rules.specs.declared.Sample.the-variants.{Known, Unknown}
 use Rattle.pixel_rules.specs.declared.Mask.{Mask}
 use Rattle.pixel_rules.specs.declared.Mask.the-variants.{Zero, One, Hidden}
 use Rattle.pixel_rules.specs.Place.{alongOf, downOf}
-use Rattle.pixel_rules.specs.Samples.{Scene, recordOf, mainOf, maskAt, imageAt, pairsOf}
+use Rattle.pixel_rules.specs.Samples.{Scene, recordOf, mainOf, greyOf, maskAt, imageAt, pairsOf}
 use Rattle.pixel_rules.specs.Decide.{sameColour, agree, pairStep, Stack, decide, pixelAt}
-use Rattle.pixel_rules.specs.Content.{Content, IsColour, Within, maskWith, imageWith, colourFrom, colourUnder, SeenAs}
+use Rattle.pixel_rules.specs.Content.{Content, CanHold, shade, three, Within, maskWith, imageWith, colourFrom, colourUnder, SeenAs}
 use Rattle.pixel_rules.proofs.Rule.{same-true, same-false}
 
 -- every content whose colours are of this kind gives the colour
@@ -229,32 +231,38 @@ module _ (Can : ℕ → Colour → Type 0) (x y : ℕ → Colour) (can-x : (l : 
         go (Known d) e t = absurd (t .apart (known-in d e (t .one) (t .one-can) ∙ sym (known-in d e (t .other) (t .other-can))))
         go Unknown e t = e
 
--- ---- the theorem: contents of any three octets
+-- ---- the theorem: contents that the records allow
 
-abbrev anyOf : ℕ → Colour → Type 0
-anyOf l c = IsColour c
+-- the two colours that every layer can hold
+module _ (r : Record) where
+  two-held : (n : ℕ) → n < 256 → CanHold r (greyOf n)
+  two-held n h = go (isGrey r) refl
+    where
+      go : (b : Bool) → isGrey r ≡ b → CanHold r (greyOf n)
+      go true e = shade e h
+      go false e = three {c = greyOf n} e (record { c0 = h; c1 = lit< tt; c2 = lit< tt })
 
-abbrev grey : ℕ → Colour
-grey n = record { c0 = n; c1 = 128; c2 = 96 }
-
-grey-apart : grey 0 ≡ grey 1 → ⊥
-grey-apart e = clash (ap (λ (c : Colour). c .c0) e)
+two-apart : greyOf 0 ≡ greyOf 255 → ⊥
+two-apart e = let z : _≡_ {A = ℕ} 0 255 = ap (λ (c : Colour). c .c0) e in omega arith
 
 module _ (v : Scene) (x y : MainPos) where
+  abbrev held : ℕ → Colour → Type 0
+  held l c = CanHold (recordOf v l) c
+
+  dark : (l : ℕ) → held l (greyOf 0)
+  dark l = two-held (recordOf v l) 0 (lit< tt)
+
+  light : (l : ℕ) → held l (greyOf 255)
+  light l = two-held (recordOf v l) 255 (lit< tt)
+
   -- known in colour c exactly if every possible content gives c
   pub seen-known-as : (c : Colour) → pixelAt v x y ≡ Known c ↔ SeenAs v x y c
-  seen-known-as c =
-      seen-in anyOf (λ l. grey 0) (λ l. grey 1) (λ l. record { c0 = lit< tt; c1 = lit< tt; c2 = lit< tt }) (λ l. record { c0 = lit< tt; c1 = lit< tt; c2 = lit< tt })
-      (λ l. grey-apart) v x y c
+  seen-known-as c = seen-in held (λ l. greyOf 0) (λ l. greyOf 255) dark light (λ l. two-apart) v x y c
 
   -- unknown exactly if every possible content gives no one colour
   pub unseen-unknown : pixelAt v x y ≡ Unknown ↔ ((c : Colour) → SeenAs v x y c → ⊥)
-  unseen-unknown =
-      unseen-in anyOf (λ l. grey 0) (λ l. grey 1) (λ l. record { c0 = lit< tt; c1 = lit< tt; c2 = lit< tt }) (λ l. record { c0 = lit< tt; c1 = lit< tt; c2 = lit< tt })
-      (λ l. grey-apart) v x y
+  unseen-unknown = unseen-in held (λ l. greyOf 0) (λ l. greyOf 255) dark light (λ l. two-apart) v x y
 
   -- and exactly if two possible contents give different colours
-  pub differ-unknown : pixelAt v x y ≡ Unknown ↔ DifferIn anyOf v x y
-  differ-unknown =
-      differ-in anyOf (λ l. grey 0) (λ l. grey 1) (λ l. record { c0 = lit< tt; c1 = lit< tt; c2 = lit< tt }) (λ l. record { c0 = lit< tt; c1 = lit< tt; c2 = lit< tt })
-      (λ l. grey-apart) v x y
+  pub differ-unknown : pixelAt v x y ≡ Unknown ↔ DifferIn held v x y
+  differ-unknown = differ-in held (λ l. greyOf 0) (λ l. greyOf 255) dark light (λ l. two-apart) v x y

@@ -5,20 +5,22 @@
 --   mainOf v        the main resolution, that of layer 2
 --   widthOf v       the page's width, that of layer 2
 --   pairsOf v       the pairs of a stripe of N layers
---   depth l         octets a sample: one in a mask, three in an image layer
+--   depth r         octets a sample: one in a mask and in a grey layer, three in any other image layer
 --   planeSpan r     octets of all samples of a layer
 --   indexOf         a sample's number in its layer, row by row
+--   greyOf v        the colour of a grey layer's octet
+--   sampleColour    the colour of sample i of those from a place on, grey or not
 --   bitOf           a mask octet's value: 0 is 0, all else 1
 --   virtual v l     what an uncoded mask gives
 --   maskAt          the sample of a mask at a place; imageAt: of an image layer
 use Prim.Native.Nat.{ℕ, _+_, _*_, _/_, _%_}
-use mathlib.Core.Bool.{_&&_, cond}
+use mathlib.Core.Bool.{Bool, _&&_, _||_, cond}
 use mathlib.Core.List.{List}
 use lib.ListN.{getD}
 use lib.Dec.{eqb}
 use Rattle.sheet_rules.specs.declared.Record.{Record}
 use Rattle.sheet_rules.specs.declared.Extent.{Extent}
-use Rattle.sheet_rules.specs.Record.{colourAt}
+use Rattle.sheet_rules.specs.Record.{colourAt, isGrey}
 use Rattle.sheet_rules.specs.StripeTable.{layerRecord, mainRes}
 use Rattle.sheet_rules.specs.Judge.{coded}
 use Rattle.pixel_rules.specs.declared.MainPos.{MainPos}
@@ -52,11 +54,11 @@ widthOf v = recordOf v 2 .width
 abbrev pub pairsOf : Scene → ℕ
 pairsOf v = v .extent .layers / 2
 
-abbrev pub depth : ℕ → ℕ
-depth l = cond (eqb (l % 2) 0) 1 3
+abbrev pub depth : Record → ℕ
+depth r = cond (eqb (r .layer % 2) 0 || isGrey r) 1 3
 
 unfoldable pub planeSpan : Record → ℕ
-planeSpan r = r .width * r .height * depth (r .layer)
+planeSpan r = r .width * r .height * depth r
 
 -- row by row
 unfoldable pub indexOf : ℕ → Record → MainPos → MainPos → ℕ
@@ -72,15 +74,23 @@ baseOf r = record { c0 = r .base0; c1 = r .base1; c2 = r .base2 }
 unfoldable pub virtual : Scene → ℕ → Mask
 virtual v l = cond (eqb l 2 && coded (recordOf v 3)) One Zero
 
--- one octet a sample in a mask, three in an image layer
+-- lightness alone: 128 and 96 are the codes of a and b where there is no colour (01, "Colour of a pixel")
+abbrev pub greyOf : ℕ → Colour
+greyOf v = record { c0 = v; c1 = 128; c2 = 96 }
+
+-- one octet in a grey layer, three in any other
+unfoldable pub sampleColour : Bool → List ℕ → ℕ → ℕ → Colour
+sampleColour grey d a i = cond grey (greyOf (getD d (a + i) 0)) (colourAt d (a + i * 3))
+
 unfoldable pub maskRead : List ℕ → Start → ℕ → Mask
 unfolding bitOf
 maskRead d (From a) i = bitOf (getD d (a + i) 0)
 maskRead d Unread i = Hidden
 
-unfoldable pub imageRead : List ℕ → Start → ℕ → Sample
-imageRead d (From a) i = Known (colourAt d (a + i * 3))
-imageRead d Unread i = Unknown
+unfoldable pub imageRead : List ℕ → Bool → Start → ℕ → Sample
+unfolding sampleColour
+imageRead d grey (From a) i = Known (sampleColour grey d a i)
+imageRead d grey Unread i = Unknown
 
 unfoldable pub maskAt : Scene → ℕ → MainPos → MainPos → Mask
 unfolding virtual maskRead planeStart inside indexOf
@@ -95,5 +105,5 @@ unfoldable pub imageAt : Scene → ℕ → MainPos → MainPos → Sample
 unfolding imageRead planeStart inside indexOf
 imageAt v l x y =
     cond (coded (recordOf v l) && inside (mainOf v) (recordOf v l) x y)
-    (imageRead (v .samples) (planeStart (v .planes) l) (indexOf (mainOf v) (recordOf v l) x y))
+    (imageRead (v .samples) (isGrey (recordOf v l)) (planeStart (v .planes) l) (indexOf (mainOf v) (recordOf v l) x y))
     (Known (baseOf (recordOf v l)))

@@ -1,15 +1,16 @@
-use Rattle.line_fetch.proofs.Laws.{fetching}
+use Rattle.line_fetch.proofs.Laws.{grey-there, fetching}
+use borrow.Author.Needs.{needs}
 use Rattle.line_fetch.proofs.image_at.Statement.{statement}
 use Rattle.line_fetch.proofs.image_at.Tie as tie
 
 colour-at-requires : tie.Need-colour-at-requires
-colour-at-requires c κs = search fetching
+colour-at-requires c κs = search needs
 
 returns : tie.Need-returns
 returns c = search fetching
 
 colour-at-requires-2 : tie.Need-colour-at-requires-2
-colour-at-requires-2 c κs = search fetching
+colour-at-requires-2 c κs = search needs
 
 returns-2 : tie.Need-returns-2
 returns-2 c = search fetching
@@ -18,13 +19,19 @@ returns-3 : tie.Need-returns-3
 returns-3 c = search fetching
 
 scale-pos-requires : tie.Need-scale-pos-requires
-scale-pos-requires c κs = search fetching
+scale-pos-requires c κs = search needs
+
+grey-at-requires : tie.Need-grey-at-requires
+grey-at-requires c κs = search grey-there
+
+returns-4 : tie.Need-returns-4
+returns-4 c = search fetching
 
 sample-at-requires : tie.Need-sample-at-requires
 sample-at-requires c κs = search fetching
 
-returns-4 : tie.Need-returns-4
-returns-4 c = search fetching
+returns-5 : tie.Need-returns-5
+returns-5 c = search fetching
 
 pub image-at-spec : {M : Type 1} → statement M
 image-at-spec =
@@ -36,5 +43,7 @@ image-at-spec =
     returns-2
     returns-3
     scale-pos-requires
+    grey-at-requires
+    returns-4
     sample-at-requires
-    returns-4)
+    returns-5)

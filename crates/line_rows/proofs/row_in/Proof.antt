@@ -1,24 +1,28 @@
 use Rattle.line_rows.proofs.Laws.{crossing}
+use borrow.Author.Needs.{needs}
 use Rattle.line_rows.proofs.row_in.Statement.{statement}
 use Rattle.line_rows.proofs.row_in.Tie as tie
 
 wide16-requires : tie.Need-wide16-requires
-wide16-requires c κs = search crossing
+wide16-requires c κs = search needs
 
 wide16-requires-2 : tie.Need-wide16-requires-2
-wide16-requires-2 c κs = search crossing
+wide16-requires-2 c κs = search needs
 
 area-end-requires : tie.Need-area-end-requires
-area-end-requires c κs = search crossing
+area-end-requires c κs = search needs
 
 enum-told : tie.Need-enum-told
-enum-told c = search crossing
+enum-told c = search needs
 
 enum-known-p : tie.Need-enum-known-p
-enum-known-p c = search crossing
+enum-known-p c = search needs
+
+depth-of-requires : tie.Need-depth-of-requires
+depth-of-requires c κs = search needs
 
 wide16-requires-3 : tie.Need-wide16-requires-3
-wide16-requires-3 c κs = search crossing
+wide16-requires-3 c κs = search needs
 
 scale-pos-requires : tie.Need-scale-pos-requires
 scale-pos-requires c κs = search crossing
@@ -41,6 +45,7 @@ row-in-spec =
     area-end-requires
     enum-told
     enum-known-p
+    depth-of-requires
     wide16-requires-3
     scale-pos-requires
     row-start-requires

@@ -8,7 +8,7 @@ wide16-requires : tie.Need-wide16-requires
 wide16-requires c κs = search areas
 
 mul-n : tie.Need-mul-n
-mul-n c = record { fits = omega (arith, product-small _ _ (c .before .before .pre) (c .before .wide16 .ensures .1)) }
+mul-n c = record { fits = omega (arith, product-small _ _ (c .before .before .pre .0) (c .before .wide16 .ensures .1)) }
 
 sample-octets-requires : tie.Need-sample-octets-requires
 sample-octets-requires c κs = search areas

@@ -1,16 +1,14 @@
-use borrow.Author.Needs.{needs}
-use Rattle.line_sample.proofs.Laws.{octets-mask, octets-image}
+use native.Mathlib.Omega.{arith}
+use mathlib.Core.Path.{refl}
+use Rattle.line_sample.proofs.Laws.{octets-small}
 use Rattle.line_sample.proofs.sample_octets.Statement.{statement}
 use Rattle.line_sample.proofs.sample_octets.Tie as tie
 
 mul-result : tie.Need-mul-result
-mul-result c = search needs
+mul-result c = record { fits = omega (arith, octets-small _ _ (c .pre)) }
 
 returns : tie.Need-returns
-returns c = octets-mask _ _ (c .before .pre) (c .if1 .taken)
-
-returns-2 : tie.Need-returns-2
-returns-2 c = octets-image _ _ (c .before .pre) (c .if1 .left)
+returns c = (refl, octets-small _ _ (c .pre))
 
 pub sample-octets-spec : {M : Type 1} → statement M
-sample-octets-spec = tie.close (tie.spec mul-result returns returns-2)
+sample-octets-spec = tie.close (tie.spec mul-result returns)

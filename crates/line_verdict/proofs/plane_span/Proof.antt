@@ -14,12 +14,15 @@ wide16-requires-2 c κs = search needs
 mul-n : tie.Need-mul-n
 mul-n c = record { fits = omega (arith, product-small _ _ (c .before .wide16 .ensures .1) (c .wide162 .ensures .1)) }
 
+depth-of-requires : tie.Need-depth-of-requires
+depth-of-requires c κs = search needs
+
 sample-octets-requires : tie.Need-sample-octets-requires
-sample-octets-requires c κs = product-small _ _ (c .before .wide16 .ensures .1) (c .wide162 .ensures .1)
+sample-octets-requires c κs = (product-small _ _ (c .before .before .wide16 .ensures .1) (c .before .wide162 .ensures .1), c .depth-of .ensures .1)
 
 returns : tie.Need-returns
-returns c = span-made _ _ (c .before .before .before .args .layer) (c .before .before .wide16 .result) (c .before .wide162 .result) _ (c .before .before .wide16 .ensures .0) (c .before .wide162 .ensures .0) (c .sample-octets .ensures)
+returns c = span-made _ _ _ _ _ (c .before .before .before .wide16 .ensures .0) (c .before .before .wide162 .ensures .0) (c .before .depth-of .ensures) (c .sample-octets .ensures)
 
 pub plane-span-spec : {M : Type 1} → statement M
 plane-span-spec =
-    tie.close (tie.spec wide16-requires wide16-requires-2 mul-n sample-octets-requires returns)
+    tie.close (tie.spec wide16-requires wide16-requires-2 mul-n depth-of-requires sample-octets-requires returns)
