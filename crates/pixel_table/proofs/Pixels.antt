@@ -16,7 +16,7 @@ use Rattle.sheet_rules.specs.declared.Verdict.the-variants.{Good}
 use Rattle.sheet_rules.specs.Record.{recordAt, encode, sheetOf, records}
 use Rattle.sheet_rules.specs.Judge.{keeps, after, after1, after2, after3, stepOf, endOf, onStep, walk, judge, judgeOf}
 use Rattle.sheet_rules.specs.StripeTable.{findStripe, layerRecord}
-use Rattle.sheet_rules.proofs.Make.{made}
+use Rattle.sheet_rules.proofs.Make.{made, marked}
 use Rattle.sheet_rules.specs.declared.Colour.{Colour}
 use Rattle.pixel_rules.specs.Planes.{planeAt, listOf}
 use Rattle.pixel_rules.specs.Samples.{maskAt, imageAt}
@@ -195,6 +195,34 @@ abbrev pub table : List Pixel
 table =
     pixel-a ∷ pixel-b ∷ pixel-c ∷ pixel-d ∷ pixel-e ∷ pixel-f ∷ pixel-g ∷ pixel-h ∷ pixel-i ∷ pixel-j ∷ []
 
+-- ---- grey layers (02, 2026-07): four pixels of the same make
+
+abbrev shade : ℕ → Colour
+shade v = record { c0 = v; c1 = 128; c2 = 96 }
+
+-- layer 3 from main pixel 2 to 5, grey, over a layer 1 that is one shade all over
+abbrev sheet-grey : List ℕ
+sheet-grey = sheetOf (blankImage 1 (shade 77) ∷ mask2 ∷ marked 1 (image 3 2 2 1 200 black) ∷ [])
+
+-- mask 1, layer 3 read: its second octet is the second sample
+abbrev pub grey-read : Pixel
+grey-read = record { sheet = sheet-grey; records = 3; stripes = 1; planes = entry 2 1 ++ entry 3 17; samples = 9 ∷ replicate 16 1 ++ (10 ∷ 20 ∷ []); stripe = 0; line = 1; x = 5; due = λ u. 20 ∷ 128 ∷ 96 ∷ 1 ∷ [] }
+
+-- mask 1, layer 3 unread: no shade is known, though each one is neutral
+abbrev pub grey-unread : Pixel
+grey-unread = record { sheet = sheet-grey; records = 3; stripes = 1; planes = entry 2 0; samples = replicate 16 1; stripe = 0; line = 1; x = 5; due = λ u. u .c0 ∷ u .c1 ∷ u .c2 ∷ 0 ∷ [] }
+
+-- mask unread, layer 3 read: layers 1 and 3 agree in the first of its samples
+abbrev pub grey-agrees : Pixel
+grey-agrees = record { sheet = sheet-grey; records = 3; stripes = 1; planes = entry 3 0; samples = 77 ∷ 20 ∷ []; stripe = 0; line = 1; x = 3; due = λ u. 77 ∷ 128 ∷ 96 ∷ 1 ∷ [] }
+
+-- mask 0, layer 3 unread: layer 1 shows
+abbrev pub grey-beneath : Pixel
+grey-beneath = record { sheet = sheet-grey; records = 3; stripes = 1; planes = entry 2 0; samples = replicate 16 0; stripe = 0; line = 1; x = 5; due = λ u. 77 ∷ 128 ∷ 96 ∷ 1 ∷ [] }
+
+abbrev pub greys : List Pixel
+greys = grey-read ∷ grey-unread ∷ grey-agrees ∷ grey-beneath ∷ []
+
 -- ---- the theorem
 
 infixr 4 _&_
@@ -240,4 +268,13 @@ pixels-hold =
     & entry-holds pixel-h refl refl (λ u. refl) (lit< tt)
     & entry-holds pixel-i refl refl (λ u. refl) (lit< tt)
     & entry-holds pixel-j refl refl (λ u. refl) (lit< tt)
+    & tt
+
+pub greys-hold : Each greys
+unfolding octets16 octets32 joined encode judgeOf judge walk onStep stepOf keeps after after1 after2 after3 endOf records recordAt be16At be32At lineOf lineInto putAt findStripe planeAt layerRecord maskAt imageAt scale
+greys-hold =
+    entry-holds grey-read refl refl (λ u. refl) (lit< tt)
+    & entry-holds grey-unread refl refl (λ u. refl) (lit< tt)
+    & entry-holds grey-agrees refl refl (λ u. refl) (lit< tt)
+    & entry-holds grey-beneath refl refl (λ u. refl) (lit< tt)
     & tt
