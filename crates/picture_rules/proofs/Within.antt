@@ -1,7 +1,6 @@
 -- The samples that a scene reads lie within the sample buffer.
 -- Assumes nothing.
-use Prim.Native.Nat.{ℕ, suc, _+_, _*_, _%_, _≤_, _<_}
-use native.Mathlib.Nat.{add-assoc, add-mul}
+use Prim.Native.Nat.{ℕ, suc, _+_, _*_, _≤_, _<_}
 use native.Mathlib.Omega.{arith}
 use mathlib.Core.Path.{_≡_, sym, ap, subst, _∙_}
 use mathlib.Core.Logic.{⊎-elim}
@@ -9,19 +8,18 @@ use mathlib.Core.Bool.{true}
 use mathlib.Core.List.{List, [], _∷_, List·Memᴰ, List·Memᴰ·not-nil, List·Memᴰ·cases-cons}
 use lib.ListN.{length}
 use Rattle.laws.proofs.Cases.{clash}
-use Rattle.sheet_rules.specs.declared.Record.{Record}
 use Rattle.sheet_rules.specs.Sentences.{Coded}
 use Rattle.pixel_rules.specs.declared.MainPos.{MainPos}
 use Rattle.pixel_rules.specs.declared.Plane.{Plane}
 use Rattle.picture_rules.specs.declared.ListVerdict.the-variants.{Fine}
 use Rattle.pixel_rules.specs.declared.Start.the-variants.{From}
-use Rattle.pixel_rules.specs.Place.{inside, alongOf, downOf}
+use Rattle.pixel_rules.specs.Place.{inside}
 use Rattle.pixel_rules.specs.Planes.{PlaneList, planeStart}
 use Rattle.pixel_rules.specs.Samples.{Scene, recordOf, mainOf, indexOf, depth, planeSpan}
 use Rattle.picture_rules.specs.Line.{planesJudged}
 use Rattle.picture_rules.specs.Sentences.{plane, layerBefore, AllFine}
 use Rattle.pixel_rules.proofs.Division.{sample-within}
-use Rattle.picture_rules.proofs.Scenes.{Stage, stage-placed}
+use Rattle.picture_rules.proofs.Scenes.{Stage}
 use Rattle.picture_rules.proofs.Ruled.{planes-answers}
 use Rattle.pixel_rules.proofs.Starts.{start-among}
 

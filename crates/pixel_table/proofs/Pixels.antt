@@ -13,10 +13,10 @@ use Rattle.octets.specs.Entries.{joined}
 use Rattle.answers.specs.declared.Answer.the-variants.{Done}
 use Rattle.sheet_rules.specs.declared.Record.{Record}
 use Rattle.sheet_rules.specs.declared.Verdict.the-variants.{Good}
-use Rattle.sheet_rules.specs.Record.{recordAt, encode, sheetOf, records}
+use Rattle.sheet_rules.specs.Record.{marked, recordAt, encode, sheetOf, records}
 use Rattle.sheet_rules.specs.Judge.{keeps, after, after1, after2, after3, stepOf, endOf, onStep, walk, judge, judgeOf}
 use Rattle.sheet_rules.specs.StripeTable.{findStripe, layerRecord}
-use Rattle.sheet_rules.proofs.Make.{made, marked}
+use Rattle.sheet_rules.proofs.Make.{made}
 use Rattle.sheet_rules.specs.declared.Colour.{Colour}
 use Rattle.pixel_rules.specs.Planes.{planeAt, listOf}
 use Rattle.pixel_rules.specs.Samples.{maskAt, imageAt}

@@ -5,9 +5,9 @@ use Prim.Native.Nat.{ℕ}
 use mathlib.Core.Path.{_≡_, refl}
 use mathlib.Core.List.{List, [], _∷_}
 use Rattle.sheet_rules.specs.declared.Record.{Record}
-use Rattle.sheet_rules.proofs.Make.{made, marked}
+use Rattle.sheet_rules.proofs.Make.{made}
 use Rattle.sheet_rules.specs.declared.Verdict.the-variants.{Good, Refused}
-use Rattle.sheet_rules.specs.Record.{recordAt, records}
+use Rattle.sheet_rules.specs.Record.{marked, recordAt, records}
 use Rattle.sheet_rules.specs.Judge.{keeps, after, after1, after2, after3, stepOf, endOf, onStep, walk, judge, judgeOf}
 use Rattle.octets.specs.Octets.{be16At, be32At}
 

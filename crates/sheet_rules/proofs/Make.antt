@@ -1,28 +1,7 @@
--- A record written out in a line, for examples, and one with another octet 17.
+-- A record written out in a line, for examples.
 -- Assumes nothing.
 use Prim.Native.Nat.{ℕ}
 use Rattle.sheet_rules.specs.declared.Record.{Record}
-
--- the record with octet 17 as given
-abbrev pub marked : ℕ → Record → Record
-marked v r =
-    record {
-      stripe = r .stripe;
-      layer = r .layer;
-      coder = r .coder;
-      x = r .x;
-      y = r .y;
-      width = r .width;
-      height = r .height;
-      res = r .res;
-      base0 = r .base0;
-      base1 = r .base1;
-      base2 = r .base2;
-      octet17 = v;
-      start = r .start;
-      len = r .len;
-      octets26 = r .octets26;
-    }
 
 -- stripe, layer, coder, offsets, size, resolution, base colour, start and length of coded data
 abbrev pub made : ℕ → ℕ → ℕ → ℕ → ℕ → ℕ → ℕ → ℕ → ℕ → ℕ → ℕ → ℕ → ℕ → Record

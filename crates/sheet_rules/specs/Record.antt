@@ -7,6 +7,7 @@
 --   recordFrom    the record of the 28 octets from a place on
 --   recordAt      the record of a number in a sheet
 --   isGrey        octet 17 is 1: the layer's data has one component, lightness
+--   marked v r    the record with octet 17 as given
 --   encode        the 28 octets of a record
 --   sheetOf       the octets of records, one after the other
 --   recordsFrom   so many records of a sheet from a number on
@@ -62,6 +63,27 @@ recordFrom s at =
 
 abbrev pub isGrey : Record → Bool
 isGrey r = eqb (r .octet17) 1
+
+-- the record with octet 17 as given
+abbrev pub marked : ℕ → Record → Record
+marked v r =
+    record {
+      stripe = r .stripe;
+      layer = r .layer;
+      coder = r .coder;
+      x = r .x;
+      y = r .y;
+      width = r .width;
+      height = r .height;
+      res = r .res;
+      base0 = r .base0;
+      base1 = r .base1;
+      base2 = r .base2;
+      octet17 = v;
+      start = r .start;
+      len = r .len;
+      octets26 = r .octets26;
+    }
 
 unfoldable pub recordAt : List ℕ → ℕ → Record
 recordAt s i = recordFrom s (i * recordSize)

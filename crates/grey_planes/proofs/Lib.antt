@@ -1,0 +1,4 @@
+pub mod Sheets
+pub mod Alike
+pub mod Planes
+pub mod Line
