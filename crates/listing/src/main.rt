@@ -53,7 +53,8 @@ fn put_line(r: Record) -> bool {
     put_field(r.base1 as u32);
     put_field(r.base2 as u32);
     put_field(r.start);
-    put_number(r.len, b"\n")
+    put_field(r.len);
+    put_number(r.octet17 as u32, b"\n")
 }
 
 // A number and a blank.

@@ -8,7 +8,7 @@ use Rattle.octets.specs.Octets.{be16At, be32At, begins, standsAt, octets16, oct
 use Rattle.octets.specs.Entries.{joined}
 use Rattle.answers.specs.declared.Answer.the-variants.{Done, Short, BadMode, NoRoom, BadSheet, Mismatch, TooLong}
 use Rattle.sheet_rules.specs.declared.Record.{Record}
-use Rattle.sheet_rules.specs.Record.{recordAt, encode, sheetOf, records}
+use Rattle.sheet_rules.specs.Record.{marked, recordAt, encode, sheetOf, records}
 use Rattle.sheet_rules.specs.Judge.{keeps, after, after1, after2, after3, stepOf, endOf, onStep, walk, judge, judgeOf, answerOf}
 use Rattle.jpeg_rules.specs.Marker.{classOf, markerOf}
 use Rattle.jpeg_rules.specs.Walk.{segOf, scanOf, tagOf, frameBodyOf, frameOf, scanStepOf, segmentOf, turnOf, walkOf}
@@ -22,7 +22,7 @@ use Rattle.segment_rules.specs.Segment.{beginOf}
 use Rattle.page_rules.proofs.Samples.{coded-mask, stripeHead, page}
 use Rattle.page_rules.proofs.Examples.{picture}
 use Rattle.write_rules.specs.Layer.{agrees}
-use Rattle.sheet_rules.proofs.Make.{made, marked}
+use Rattle.sheet_rules.proofs.Make.{made}
 use Rattle.write_rules.specs.Writing.{counted, matches, sizeAnswer, writeOf, writeInto}
 
 -- a record: stripe, layer, coder, offsets, size, resolution, base colour, coded data
