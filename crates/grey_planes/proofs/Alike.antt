@@ -9,7 +9,6 @@ use Rattle.laws.proofs.Cases.{cond-both}
 use Rattle.laws.proofs.Says.{says-and, says-true}
 use Rattle.sheet_rules.specs.declared.Colour.{Colour}
 use Rattle.sheet_rules.specs.declared.Record.{Record}
-use Rattle.sheet_rules.specs.Record.{isGrey}
 use Rattle.sheet_rules.specs.Judge.{coded}
 use Rattle.pixel_rules.specs.declared.MainPos.{MainPos}
 use Rattle.pixel_rules.specs.declared.Mask.{Mask}
@@ -18,7 +17,7 @@ use Rattle.pixel_rules.specs.declared.Sample.{Sample}
 use Rattle.pixel_rules.specs.declared.Sample.the-variants.{Known}
 use Rattle.pixel_rules.specs.Place.{inside}
 use Rattle.pixel_rules.specs.Planes.{planeStart}
-use Rattle.pixel_rules.specs.Samples.{Scene, recordOf, mainOf, widthOf, pairsOf, indexOf, baseOf, virtual, maskRead, imageRead, maskAt, imageAt}
+use Rattle.pixel_rules.specs.Samples.{Scene, recordOf, mainOf, widthOf, pairsOf, depth, indexOf, baseOf, virtual, maskRead, imageRead, maskAt, imageAt}
 use Rattle.pixel_rules.specs.Decide.{pairStep, Stack, decide, stackAt, pixelAt}
 use Rattle.pixel_rules.proofs.Division.{index-within}
 use Rattle.picture_rules.specs.Line.{pixels, linePixels}
@@ -57,7 +56,7 @@ module _ (v w : Scene) (a : Alike v w) where
     pub image-alike : (l : ℕ) → l % 2 ≡ 1 → imageAt w l x y ≡ imageAt v l x y
     unfolding imageAt inside indexOf
     image-alike l odd =
-        ap₂ (λ (r : Record) (m : ℕ). cond (coded r && inside m r x y) (imageRead (w .samples) (isGrey (recordOf w l)) (planeStart (w .planes) l) (indexOf m r x y)) (Known (baseOf r))) (a .records l) main-same
+        ap₂ (λ (r : Record) (m : ℕ). cond (coded r && inside m r x y) (imageRead (w .samples) (depth (recordOf w l)) (planeStart (w .planes) l) (indexOf m r x y)) (Known (baseOf r))) (a .records l) main-same
         ∙ cond-both (λ (p q : Sample). p ≡ q) (coded (recordOf v l) && inside (mainOf v) (recordOf v l) x y)
         (λ c.
         let i = says-and (says-true (coded (recordOf v l))) (says-true (inside (mainOf v) (recordOf v l) x y)) .told c .1 in

@@ -4,7 +4,7 @@ use Prim.Native.Nat.{ℕ, _+_, _-_, _*_, _/_, _%_, _≤_, _<_}
 use native.Mathlib.Omega.{arith}
 use mathlib.Core.Path.{_≡_, refl, sym, ap, ap₂, subst, subst₂, _∙_}
 use mathlib.Core.Logic.{_⊎_, inl, inr, _≢_, ⊎-elim}
-use mathlib.Core.Bool.{Bool, true, false, cond}
+use mathlib.Core.Bool.{Bool, true, cond}
 use mathlib.Core.List.{List}
 use lib.ListN.{length, getD, take, drop, length-append, length-map, length-drop, List·getD-append}
 use lib.Seq.{getD-append-add, getD-take, getD-drop, length-take-le}
@@ -32,8 +32,8 @@ use Rattle.pixel_rules.specs.declared.Start.{Start}
 use Rattle.pixel_rules.specs.declared.Start.the-variants.{From, Unread}
 use Rattle.pixel_rules.specs.declared.Sample.the-variants.{Known}
 use Rattle.pixel_rules.specs.Planes.{PlaneList, planeStart}
-use Rattle.pixel_rules.specs.Samples.{Scene, recordOf, planeSpan, bitOf, greyOf, sampleColour, maskRead, imageRead}
-use Rattle.pixel_rules.proofs.Division.{span-mask, span-grey, span-colour}
+use Rattle.pixel_rules.specs.Samples.{Scene, recordOf, planeSpan, depth, bitOf, greyOf, colourIn, maskRead, imageRead}
+use Rattle.pixel_rules.proofs.Division.{depth-grey, depth-colour, depth-some, span-mask, span-grey, span-colour, span-within, colour-own}
 use Rattle.picture_rules.specs.Line.{lineOf, lineInto}
 use Rattle.picture_rules.specs.Sentences.{HasLine, sceneOf, plane, FineEntry, AllFine, Gives, no-sheet, no-line, no-plane, no-room, lined}
 use Rattle.picture_rules.proofs.Within.{Read, start-read}
@@ -155,30 +155,28 @@ module _ (s : List ℕ) (pl : PlaneList) (d : List ℕ) (k l a : ℕ) (ok : Acce
       λ t. record { c0 = c0 t; c1 = c1 t; c2 = c2 t }
 
   -- the grey layer, in colour
+  colour-depth : depth (recordOf w l) ≡ 3
+  colour-depth = ap depth record-own ∙ depth-colour (marked 0 r) (ap (λ (m : ℕ). m % 2) (layer-is l a listed) ∙ odd) refl
+
   image-own : (i : ℕ) → Has v l i
-      → imageRead d′ (isGrey (recordOf w l)) (planeStart (pl′ .entries) l) i ≡ imageRead d (isGrey r) (planeStart (pl .entries) l) i
-  unfolding imageRead sampleColour
+      → imageRead d′ (depth (recordOf w l)) (planeStart (pl′ .entries) l) i ≡ imageRead d (depth r) (planeStart (pl .entries) l) i
+  unfolding imageRead colourIn
   image-own i h =
-      let e : isGrey (recordOf w l) ≡ false = ap isGrey record-own in
       let b = start-there l (length d) (pl .entries) a listed in
-      ap₂ (λ (g : Bool) (x : Start). imageRead d′ g x i) e b ∙ ap Known (colour-there i h) ∙ sym (ap₂ (λ (g : Bool) (x : Start). imageRead d g x i) grey listed)
+      let z : a + i ≡ a + i * 1 = omega arith in
+      ap₂ (λ (n : ℕ) (x : Start). imageRead d′ n x i) colour-depth b
+      ∙ ap Known (colour-there i h ∙ ap (λ (m : ℕ). greyOf (getD d m 0)) z)
+      ∙ sym (ap₂ (λ (n : ℕ) (x : Start). imageRead d n x i) (depth-grey r grey) listed)
 
   -- every other layer, where it was
-  image-front : (j i : ℕ) (g : Bool) → isGrey (recordOf v j) ≡ g → j % 2 ≡ 1 → Has v j i → (x : Start) → planeStart (pl .entries) j ≡ x → imageRead d′ g x i ≡ imageRead d g x i
-  unfolding imageRead sampleColour
-  image-front j i true e o h Unread z = refl
-  image-front j i true e o h (From b) z =
+  image-front : (j i : ℕ) → Has v j i → (x : Start) → planeStart (pl .entries) j ≡ x → imageRead d′ (depth (recordOf v j)) x i ≡ imageRead d (depth (recordOf v j)) x i
+  unfolding imageRead
+  image-front j i h Unread z = refl
+  image-front j i h (From b) z =
       let q = reads j b z .room in
-      let n = span-grey (recordOf v j) e in
-      ap (λ (x : ℕ). Known (greyOf x)) (front (b + i) (omega arith))
-  image-front j i false e o h Unread z = refl
-  image-front j i false e o h (From b) z =
-      let q = reads j b z .room in
-      let n = span-colour (recordOf v j) (ap (λ (m : ℕ). m % 2) (layer-is j b z) ∙ o) e in
-      let c0 = front (b + i * 3) (omega arith) in
-      let c1 = front (b + i * 3 + 1) (omega arith) in
-      let c2 = front (b + i * 3 + 2) (omega arith) in
-      ap Known (λ t. record { c0 = c0 t; c1 = c1 t; c2 = c2 t })
+      let n = span-within (recordOf v j) i h in
+      let p : ℕ = b + i * depth (recordOf v j) in
+      ap Known (colour-own (depth (recordOf v j)) d d′ p p (depth-some (recordOf v j)) (λ m t. front (p + m) (omega arith)))
 
   mask-front : (j i : ℕ) → j % 2 ≡ 0 → Has v j i → (x : Start) → planeStart (pl .entries) j ≡ x → maskRead d′ x i ≡ maskRead d x i
   unfolding maskRead
@@ -203,14 +201,14 @@ module _ (s : List ℕ) (pl : PlaneList) (d : List ℕ) (k l a : ℕ) (ok : Acce
       even-odd j z e o = omega arith
 
       image : (j : ℕ) → j % 2 ≡ 1 → (i : ℕ) → Has v j i → (j ≡ l) ⊎ (j ≢ l)
-          → imageRead d′ (isGrey (recordOf w j)) (planeStart (pl′ .entries) j) i ≡ imageRead d (isGrey (recordOf v j)) (planeStart (pl .entries) j) i
+          → imageRead d′ (depth (recordOf w j)) (planeStart (pl′ .entries) j) i ≡ imageRead d (depth (recordOf v j)) (planeStart (pl .entries) j) i
       image j e i n (inl z) =
           subst
-          (λ (m : ℕ). Has v m i → imageRead d′ (isGrey (recordOf w m)) (planeStart (pl′ .entries) m) i ≡ imageRead d (isGrey (recordOf v m)) (planeStart (pl .entries) m) i)
+          (λ (m : ℕ). Has v m i → imageRead d′ (depth (recordOf w m)) (planeStart (pl′ .entries) m) i ≡ imageRead d (depth (recordOf v m)) (planeStart (pl .entries) m) i)
           (sym z) (image-own i) n
       image j e i n (inr z) =
-          ap₂ (λ (g : Bool) (x : Start). imageRead d′ g x i) (ap isGrey (record-same j (omega arith) z)) (start-kept l (length d) (pl .entries) j z)
-          ∙ image-front j i (isGrey (recordOf v j)) refl e n (planeStart (pl .entries) j) refl
+          ap₂ (λ (m : ℕ) (x : Start). imageRead d′ m x i) (ap depth (record-same j (omega arith) z)) (start-kept l (length d) (pl .entries) j z)
+          ∙ image-front j i n (planeStart (pl .entries) j) refl
 
   -- ---- the list is fine as it was
 

@@ -17,11 +17,11 @@ use lib.ListN.{length, take, drop}
 use lib.Dec.{eqb}
 use Rattle.octets.specs.Octets.{putAt}
 use Rattle.sheet_rules.specs.declared.Record.{Record}
-use Rattle.sheet_rules.specs.Record.{recordSize, recordAt, records, isGrey, marked}
+use Rattle.sheet_rules.specs.Record.{recordSize, recordAt, records, marked}
 use Rattle.sheet_rules.specs.StripeTable.{extentOf}
 use Rattle.pixel_rules.specs.declared.Plane.{Plane}
 use Rattle.pixel_rules.specs.Planes.{PlaneList, planeStart}
-use Rattle.pixel_rules.specs.Samples.{Scene, recordOf, planeSpan, maskRead, imageRead}
+use Rattle.pixel_rules.specs.Samples.{Scene, recordOf, depth, planeSpan, maskRead, imageRead}
 
 pub record Clears (s t : List ℕ) : Type 0 where
   pub long : length t ≡ length s
@@ -59,4 +59,4 @@ pub record Alike (v w : Scene) : Type 0 where
   pub masks : (l : ℕ) → 1 ≤ l → l % 2 ≡ 0 → (i : ℕ) → Has v l i
       → maskRead (w .samples) (planeStart (w .planes) l) i ≡ maskRead (v .samples) (planeStart (v .planes) l) i
   pub images : (l : ℕ) → l % 2 ≡ 1 → (i : ℕ) → Has v l i
-      → imageRead (w .samples) (isGrey (recordOf w l)) (planeStart (w .planes) l) i ≡ imageRead (v .samples) (isGrey (recordOf v l)) (planeStart (v .planes) l) i
+      → imageRead (w .samples) (depth (recordOf w l)) (planeStart (w .planes) l) i ≡ imageRead (v .samples) (depth (recordOf v l)) (planeStart (v .planes) l) i

@@ -1,6 +1,7 @@
 -- One law for each way out of the functions of a layer's row: its premises are what is known there.
 -- Assumes nothing.
 use Prim.Native.Nat.{ℕ, _+_, _-_, _*_, _≤_, _<_}
+use native.Mathlib.Omega.{arith}
 use mathlib.Core.Path.{_≡_, refl}
 use mathlib.Core.Logic.{_≢_}
 use mathlib.Core.Bool.{Bool, true, false, _&&_}
@@ -12,12 +13,11 @@ use borrow.Author.Needs.{needs}
 use Rattle.pixel_rules.specs.declared.MainPos.{MainPos}
 use Rattle.pixel_rules.specs.declared.SamplePos.{SamplePos}
 use Rattle.sheet_rules.specs.declared.Colour.{Colour}
-use Rattle.pixel_rules.specs.declared.Sample.{Sample}
 use Rattle.pixel_rules.specs.declared.Sample.the-variants.{Known, Unknown}
 use Rattle.pixel_rules.specs.declared.Mask.{Mask}
 use Rattle.pixel_rules.specs.declared.Mask.the-variants.{Hidden}
 use Rattle.pixel_rules.specs.Place.{scale}
-use Rattle.pixel_rules.specs.Samples.{bitOf, greyOf, sampleColour}
+use Rattle.pixel_rules.specs.Samples.{bitOf, colourIn}
 use Rattle.sheet_rules.specs.Record.{colourAt}
 use Rattle.line_fetch.specs.declared.Row.{Row}
 use Rattle.line_fetch.specs.Rows.{rowSize, rowAt, rowMask, rowImage, MaskFits, ImageFits}
@@ -74,24 +74,18 @@ module _ (s d : List ℕ) (r : Row) (x : MainPos) where
   unfolding rowImage
   image-unread a b e = simp (le-leb (r .from) (x .0) a, lt-ltb (x .0) (r .to) b, eq-eqb (r .read) 0 e)
 
-  pub image-grey : (c : Sample) (p : SamplePos) → r .from ≤ x .0 → x .0 < r .to → r .read ≢ 0 → r .read ≡ 1 → p ≡ scale (r .ratio) (r .from) x
-      → c ≡ Known (greyOf (getD d (r .at + p .0) 0)) → c ≡ rowImage s d r x
-  unfolding rowImage sampleColour
-  image-grey c p a b n o e f = simp (le-leb (r .from) (x .0) a, lt-ltb (x .0) (r .to) b, ne-eqb (r .read) 0 n, eq-eqb (r .read) 1 o, f, e)
+  pub image-read : (c : Colour) (p : SamplePos) → r .from ≤ x .0 → x .0 < r .to → r .read ≢ 0 → p ≡ scale (r .ratio) (r .from) x
+      → c ≡ colourIn (r .read) d (r .at + p .0 * r .read) → Known c ≡ rowImage s d r x
+  unfolding rowImage
+  image-read c p a b n e f = simp (le-leb (r .from) (x .0) a, lt-ltb (x .0) (r .to) b, ne-eqb (r .read) 0 n, f, e)
 
-  pub image-read : (c : Sample) (p : SamplePos) → r .from ≤ x .0 → x .0 < r .to → r .read ≢ 0 → r .read ≢ 1 → p ≡ scale (r .ratio) (r .from) x
-      → c ≡ Known (colourAt d (r .at + p .0 * 3)) → c ≡ rowImage s d r x
-  unfolding rowImage sampleColour
-  image-read c p a b n o e f = simp (le-leb (r .from) (x .0) a, lt-ltb (x .0) (r .to) b, ne-eqb (r .read) 0 n, ne-eqb (r .read) 1 o, f, e)
+  pub image-there : (p : SamplePos) → ImageFits s d r → r .from ≤ x .0 → x .0 < r .to → r .read ≢ 0 → p ≡ scale (r .ratio) (r .from) x
+      → r .at + p .0 * r .read + r .read ≤ length d
+  image-there p g a b n e = rw e (g .there x a b n)
 
-  pub grey-there : (p : SamplePos) → ImageFits s d r → r .from ≤ x .0 → x .0 < r .to → r .read ≡ 1 → p ≡ scale (r .ratio) (r .from) x
-      → r .at + p .0 < length d
-  grey-there p g a b n e = rw e (g .grey x a b n)
-
-  pub image-there : (p : SamplePos) → ImageFits s d r → r .from ≤ x .0 → x .0 < r .to → r .read ≢ 0 → r .read ≢ 1 → p ≡ scale (r .ratio) (r .from) x
-      → r .at + p .0 * 3 + 3 ≤ length d
-  image-there p g a b n o e = rw e (g .there x a b n o)
+pub read-some : (n : ℕ) → n ≢ 0 → 0 < n
+read-some n d = omega arith
 
 pub ruleset rows = (needs, row-read)
 
-pub ruleset fetching = (needs, mask-before, mask-after, mask-unread, mask-read, mask-there, image-before, image-after, image-unread, image-grey, image-read, grey-there, image-there)
+pub ruleset fetching = (needs, mask-before, mask-after, mask-unread, mask-read, mask-there, image-before, image-after, image-unread, image-read, image-there, read-some)

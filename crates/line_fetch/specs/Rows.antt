@@ -7,7 +7,6 @@
 --   rowMask          a mask's sample in its row; rowImage: that of an image layer, whose base colour stands in the sheet
 --   MaskFits         the samples that the row of a mask names are in the buffer; ImageFits: the same of an image layer, and its base colour in the sheet
 use Prim.Native.Nat.{ℕ, _+_, _-_, _*_, _≤_, _<_}
-use mathlib.Core.Path.{_≡_}
 use mathlib.Core.Logic.{_≢_}
 use mathlib.Core.Bool.{Bool, _&&_, cond}
 use mathlib.Core.List.{List, [], _∷_}
@@ -19,7 +18,7 @@ use Rattle.pixel_rules.specs.declared.Sample.the-variants.{Known, Unknown}
 use Rattle.pixel_rules.specs.declared.Mask.{Mask}
 use Rattle.pixel_rules.specs.declared.Mask.the-variants.{Hidden}
 use Rattle.pixel_rules.specs.Place.{scale}
-use Rattle.pixel_rules.specs.Samples.{bitOf, sampleColour}
+use Rattle.pixel_rules.specs.Samples.{bitOf, colourIn}
 use Rattle.sheet_rules.specs.Record.{colourAt}
 use Rattle.line_fetch.specs.declared.Row.{Row}
 
@@ -53,12 +52,11 @@ rowMask d r x =
     (cond (eqb (r .read) 0) Hidden (bitOf (getD d (r .at + scale (r .ratio) (r .from) x .0) 0)))
     (bitOf (r .other))
 
--- of one octet a sample are grey layers alone
 unfoldable pub rowImage : List ℕ → List ℕ → Row → MainPos → Sample
-unfolding sampleColour
+unfolding colourIn
 rowImage s d r x =
     cond (across r x)
-    (cond (eqb (r .read) 0) Unknown (Known (sampleColour (eqb (r .read) 1) d (r .at) (scale (r .ratio) (r .from) x .0))))
+    (cond (eqb (r .read) 0) Unknown (Known (colourIn (r .read) d (r .at + scale (r .ratio) (r .from) x .0 * r .read))))
     (Known (colourAt s (r .other)))
 
 pub record MaskFits (d : List ℕ) (r : Row) : Type 0 where
@@ -67,6 +65,5 @@ pub record MaskFits (d : List ℕ) (r : Row) : Type 0 where
 
 pub record ImageFits (s d : List ℕ) (r : Row) : Type 0 where
   pub turns : 0 < r .ratio
-  pub grey : (x : MainPos) → r .from ≤ x .0 → x .0 < r .to → r .read ≡ 1 → r .at + scale (r .ratio) (r .from) x .0 < length d
-  pub there : (x : MainPos) → r .from ≤ x .0 → x .0 < r .to → r .read ≢ 0 → r .read ≢ 1 → r .at + scale (r .ratio) (r .from) x .0 * 3 + 3 ≤ length d
+  pub there : (x : MainPos) → r .from ≤ x .0 → x .0 < r .to → r .read ≢ 0 → r .at + scale (r .ratio) (r .from) x .0 * r .read + r .read ≤ length d
   pub base : r .other + 3 ≤ length s

@@ -71,8 +71,5 @@ pub fn image_at(s: &[u8], d: &[u8], r: Row, x: MainPos) -> Sample
         return Sample::Unknown;
     }
     let p = line_sample::scale_pos(r.ratio, r.from, x);
-    if r.read == 1 {
-        return line_sample::grey_at(d, r.at, p);
-    }
-    line_sample::sample_at(d, r.at, p)
+    Sample::Known(line_sample::image_colour(d, r.at, r.read, p))
 }

@@ -4,16 +4,16 @@ use Prim.Native.Nat.{ℕ, zero, suc, _+_, _-_, _*_, _/_, _%_, _≤_, _<_}
 use native.Mathlib.Nat.{add-mul}
 use native.Mathlib.Omega.{arith}
 use mathlib.Core.Path.{_≡_, refl, sym, ap, ap₂, subst, _∙_}
-use mathlib.Core.Bool.{Bool, true, false, _&&_, cond}
+use mathlib.Core.Bool.{true, _&&_}
 use mathlib.Core.List.{List}
 use lib.ListN.{length}
-use Rattle.laws.proofs.Cases.{cond-with, clash}
+use Rattle.laws.proofs.Cases.{cond-with}
 use Rattle.laws.proofs.Says.{says-and, says-true}
 use Rattle.octets.specs.Octets.{putAt}
 use Rattle.octets.proofs.Laws.{put-length}
 use Rattle.sheet_rules.specs.StripeTable.{layerRecord}
 use Rattle.sheet_rules.specs.declared.Record.{Record}
-use Rattle.sheet_rules.specs.Record.{recordSize, isGrey}
+use Rattle.sheet_rules.specs.Record.{recordSize}
 use Rattle.sheet_rules.specs.Judge.{coded}
 use Rattle.pixel_rules.specs.declared.MainPos.{MainPos}
 use Rattle.pixel_rules.specs.declared.Start.{Start}
@@ -22,7 +22,7 @@ use Rattle.pixel_rules.specs.Place.{ratio, scale, covers, inside}
 use Rattle.pixel_rules.specs.Planes.{PlaneList, planeStart}
 use Rattle.pixel_rules.specs.Samples.{Scene, recordOf, mainOf, indexOf, maskAt, imageAt, depth, pairsOf}
 use Rattle.pixel_rules.specs.Decide.{pairStep, decide, stackAt, pixelAt}
-use Rattle.pixel_rules.proofs.Division.{says-covers, says-inside, depth-mask, depth-image}
+use Rattle.pixel_rules.proofs.Division.{says-covers, says-inside, depth-mask}
 use Rattle.picture_rules.proofs.Scenes.{Stage, stage-layers, stage-placed, scene-ratio-some}
 use Rattle.picture_rules.proofs.Within.{sample-there}
 use Rattle.line_fetch.specs.declared.Row.{Row}
@@ -46,19 +46,21 @@ module _ (r : Record) (k : ℕ) (y : MainPos) (p : Start) (other : ℕ) (turns :
   over : (x : MainPos) → r .x ≤ x .0 → x .0 < r .x + r .width * k → covers (r .x) (r .width) k x ≡ true
   over x a b = says-covers (r .x) (r .width) k x .shown (a, b)
 
-  -- so many octets a sample
-  each-there : (d : List ℕ) (n : ℕ) → depth r ≡ n → There d → covers (r .y) (r .height) k y ≡ true → (a : ℕ) → p ≡ From a → (x : MainPos) → covers (r .x) (r .width) k x ≡ true
-      → a + scale k (r .y) y .0 * r .width * depth r + scale k (r .x) x .0 * n + n ≤ length d
-  each-there d n e f t a z x o =
-      let g = subst (λ (m : ℕ). a + (scale k (r .y) y .0 * r .width + scale k (r .x) x .0) * m + m ≤ length d) e (f a z x o t) in
-      let q = add-mul (scale k (r .y) y .0 * r .width) (scale k (r .x) x .0) n in
-      let h : scale k (r .y) y .0 * r .width * depth r ≡ scale k (r .y) y .0 * r .width * n = ap (λ (m : ℕ). scale k (r .y) y .0 * r .width * m) e in
-      omega arith
+  each-there : (d : List ℕ) → There d → covers (r .y) (r .height) k y ≡ true → (a : ℕ) → p ≡ From a → (x : MainPos) → covers (r .x) (r .width) k x ≡ true
+      → a + scale k (r .y) y .0 * r .width * depth r + scale k (r .x) x .0 * depth r + depth r ≤ length d
+  each-there d f t a z x o = let h = f a z x o t in let q = add-mul (scale k (r .y) y .0 * r .width) (scale k (r .x) x .0) (depth r) in omega arith
 
   mask-in : (d : List ℕ) → depth r ≡ 1 → There d → covers (r .y) (r .height) k y ≡ true → (q : Start) → p ≡ q → MaskFits d (rowIn r k y q other)
   unfolding rowIn
   mask-in d e f t Unread z = record { turns = turns; there = λ x a b n. absurd (n refl) }
-  mask-in d e f t (From i) z = record { turns = turns; there = λ x a b n. let h = each-there d 1 e f t i z x (over x a b) in omega arith }
+  mask-in d e f t (From i) z =
+      record {
+        turns = turns;
+        there = λ x a b n.
+            let h = each-there d f t i z x (over x a b) in
+            let g : scale k (r .x) x .0 * depth r ≡ scale k (r .x) x .0 * 1 = ap (λ (m : ℕ). scale k (r .x) x .0 * m) e in
+            omega arith;
+      }
 
   pub mask-fits : (d : List ℕ) → depth r ≡ 1 → There d → MaskFits d (rowBy r k y p other)
   unfolding rowBy
@@ -66,26 +68,16 @@ module _ (r : Record) (k : ℕ) (y : MainPos) (p : Start) (other : ℕ) (turns :
       cond-with (MaskFits d) (coded r && covers (r .y) (r .height) k y) (λ t. mask-in d e f (crossed t) p refl)
       (λ t. record { turns = omega arith; there = λ x a b n. absurd (n refl) })
 
-  -- a grey layer has one octet a sample, any other three
-  image-in : (s d : List ℕ) → other + 3 ≤ length s → (g : Bool) → depth r ≡ cond g 1 3 → There d → covers (r .y) (r .height) k y ≡ true → (q : Start) → p ≡ q
-      → ImageFits s d (rowIn r k y q other)
+  image-in : (s d : List ℕ) → other + 3 ≤ length s → There d → covers (r .y) (r .height) k y ≡ true → (q : Start) → p ≡ q → ImageFits s d (rowIn r k y q other)
   unfolding rowIn
-  image-in s d o g e f t Unread z = record { turns = turns; grey = λ x a b n. clash n; there = λ x a b n m. absurd (n refl); base = o }
-  image-in s d o true e f t (From i) z =
-      record { turns = turns; grey = λ x a b n. let h = each-there d 1 e f t i z x (over x a b) in omega arith; there = λ x a b n m. absurd (m e); base = o }
-  image-in s d o false e f t (From i) z =
-      record {
-        turns = turns;
-        grey = λ x a b n. let w : _≡_ {A = ℕ} 3 1 = sym e ∙ n in absurd (omega arith);
-        there = λ x a b n m. let h = each-there d 3 e f t i z x (over x a b) in omega arith;
-        base = o;
-      }
+  image-in s d o f t Unread z = record { turns = turns; there = λ x a b n. absurd (n refl); base = o }
+  image-in s d o f t (From i) z = record { turns = turns; there = λ x a b n. each-there d f t i z x (over x a b); base = o }
 
-  pub image-fits : (s d : List ℕ) → other + 3 ≤ length s → (g : Bool) → depth r ≡ cond g 1 3 → There d → ImageFits s d (rowBy r k y p other)
+  pub image-fits : (s d : List ℕ) → other + 3 ≤ length s → There d → ImageFits s d (rowBy r k y p other)
   unfolding rowBy
-  image-fits s d o g e f =
-      cond-with (ImageFits s d) (coded r && covers (r .y) (r .height) k y) (λ t. image-in s d o g e f (crossed t) p refl)
-      (λ t. record { turns = omega arith; grey = λ x a b n. clash n; there = λ x a b n m. absurd (n refl); base = o })
+  image-fits s d o f =
+      cond-with (ImageFits s d) (coded r && covers (r .y) (r .height) k y) (λ t. image-in s d o f (crossed t) p refl)
+      (λ t. record { turns = omega arith; there = λ x a b n. absurd (n refl); base = o })
 
 -- ---- the rows of a scene that is shown
 
@@ -93,9 +85,6 @@ module _ (v : Scene) (pl : PlaneList) (k n : ℕ) (y : MainPos) (g : Stage (v .s
   module _ (l : ℕ) (a : 1 ≤ l) (b : l ≤ v .extent .layers) where
     mask-depth : l % 2 ≡ 0 → depth (recordOf v l) ≡ 1
     mask-depth e = depth-mask (recordOf v l) (ap (λ (n : ℕ). n % 2) (stage-placed g l a b .layer) ∙ e)
-
-    image-depth : l % 2 ≡ 1 → depth (recordOf v l) ≡ cond (isGrey (recordOf v l)) 1 3
-    image-depth e = depth-image (recordOf v l) (ap (λ (n : ℕ). n % 2) (stage-placed g l a b .layer) ∙ e)
 
     within : (x : MainPos) → covers (recordOf v l .x) (recordOf v l .width) (ratio (mainOf v) (recordOf v l)) x ≡ true
         → covers (recordOf v l .y) (recordOf v l .height) (ratio (mainOf v) (recordOf v l)) y ≡ true → inside (mainOf v) (recordOf v l) x y ≡ true
@@ -113,7 +102,7 @@ module _ (v : Scene) (pl : PlaneList) (k n : ℕ) (y : MainPos) (g : Stage (v .s
         image-fits (recordOf v l) (ratio (mainOf v) (recordOf v l)) y (planeStart (v .planes) l) (otherOf (coded (recordOf v 3)) (recordOf v l) (v .extent .first + (l - 1)) l)
         (scene-ratio-some g l a b) (v .sheet) (v .samples)
         (let o = other-image (coded (recordOf v 3)) (recordOf v l) (v .extent .first + (l - 1)) l e in omega arith)
-        (isGrey (recordOf v l)) (image-depth e) (λ i z x p q. sample-there g l i z x y (within x p q))
+        (λ i z x p q. sample-there g l i z x y (within x p q))
 
   -- N is odd: the pairs and layer 1
   count : v .extent .layers ≡ pairsOf v * 2 + 1
@@ -155,7 +144,7 @@ module _ (v : Scene) (pl : PlaneList) (k n : ℕ) (y : MainPos) (g : Stage (v .s
           let c = count in
           let odd : (j * 2 + 1) % 2 ≡ 1 = omega arith in
           ap (λ (r : Row). rowImage (v .sheet) (v .samples) r x) (here (j * 2 + 1) (omega arith) (omega arith))
-          ∙ image-same v x y (j * 2 + 1) odd (image-depth (j * 2 + 1) (omega arith) (omega arith) odd)
+          ∙ image-same v x y (j * 2 + 1) odd
 
       mask-is : (j : ℕ) → 1 ≤ j → j ≤ pairsOf v → rowMask (v .samples) (rowAt rows (j * 2)) x ≡ maskAt v (j * 2) x y
       mask-is j g h =

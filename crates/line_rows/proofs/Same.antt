@@ -1,8 +1,9 @@
 -- The rows of a line give what the picture's definitions give: each layer's sample in its row is its sample in the scene, and what the rows name is there.
 -- Assumes nothing.
 use Prim.Native.Nat.{ℕ, _+_, _-_, _*_, _%_, _<_, _≤_}
+use native.Mathlib.Nat.{add-assoc, add-mul}
 use native.Mathlib.Omega.{arith}
-use mathlib.Core.Path.{_≡_, refl, sym, ap, _∙_}
+use mathlib.Core.Path.{_≡_, refl, sym, ap, ap₂, _∙_}
 use mathlib.Core.Bool.{Bool, true, false, _&&_, not, cond}
 use mathlib.Core.List.{List}
 use lib.ListN.{getD}
@@ -26,8 +27,9 @@ use Rattle.pixel_rules.specs.declared.Start.{Start}
 use Rattle.pixel_rules.specs.declared.Start.the-variants.{From, Unread}
 use Rattle.pixel_rules.specs.Place.{ratio, scale, covers, inside}
 use Rattle.pixel_rules.specs.Planes.{planeStart}
-use Rattle.pixel_rules.specs.Samples.{Scene, recordOf, mainOf, indexOf, bitOf, baseOf, virtual, sampleColour, maskRead, imageRead, maskAt, imageAt, depth}
-use Rattle.sheet_rules.specs.Record.{colourAt, isGrey}
+use Rattle.pixel_rules.specs.Samples.{Scene, recordOf, mainOf, indexOf, bitOf, baseOf, virtual, colourIn, maskRead, imageRead, maskAt, imageAt, depth}
+use Rattle.sheet_rules.specs.Record.{colourAt}
+use Rattle.pixel_rules.proofs.Division.{depth-some}
 use Rattle.line_fetch.specs.declared.Row.{Row}
 use Rattle.line_fetch.specs.Rows.{rowSize, rowAt, across, rowMask, rowImage}
 use Rattle.line_rows.specs.Rows.{rowIn, rowOut, rowBy, otherOf, rowOf, rowsOf}
@@ -68,7 +70,7 @@ rowMask-out d other x e = ap (λ (b : Bool). cond b (cond (eqb 0 0) Hidden (bitO
 
 rowImage-out : (s d : List ℕ) (other : ℕ) (x : MainPos) → across (rowOut other) x ≡ false → rowImage s d (rowOut other) x ≡ Known (colourAt s other)
 unfolding rowImage
-rowImage-out s d other x e = ap (λ (b : Bool). cond b (cond (eqb 0 0) Unknown (Known (sampleColour (eqb 0 1) d 0 (scale 1 0 x .0)))) (Known (colourAt s other))) e
+rowImage-out s d other x e = ap (λ (b : Bool). cond b (cond (eqb 0 0) Unknown (Known (colourIn 0 d (0 + scale 1 0 x .0 * 0)))) (Known (colourAt s other))) e
 
 module _ (d : List ℕ) (r : Record) (k : ℕ) (x y : MainPos) (other : ℕ) where
   abbrev area : Bool
@@ -86,17 +88,17 @@ module _ (d : List ℕ) (r : Record) (k : ℕ) (x y : MainPos) (other : ℕ) whe
       let z : a + scale k (r .y) y .0 * r .width * 1 + scale k (r .x) x .0 ≡ a + (scale k (r .y) y .0 * r .width + scale k (r .x) x .0) = omega arith in
       rw (e, z) refl
 
-  -- a grey layer has one octet a sample, any other three
-  image-in : (s : List ℕ) (p : Start) (g : Bool) → depth r ≡ cond g 1 3 → rowImage s d (rowIn r k y p other) x
-      ≡ cond (covers (r .x) (r .width) k x) (imageRead d g p (scale k (r .y) y .0 * r .width + scale k (r .x) x .0)) (Known (colourAt s other))
-  unfolding rowImage rowIn covers imageRead sampleColour
-  image-in s Unread g e = refl
-  image-in s (From a) true e =
-      let z : a + scale k (r .y) y .0 * r .width * 1 + scale k (r .x) x .0 ≡ a + (scale k (r .y) y .0 * r .width + scale k (r .x) x .0) = omega arith in
-      rw (e, z) refl
-  image-in s (From a) false e =
-      let z : a + scale k (r .y) y .0 * r .width * 3 + scale k (r .x) x .0 * 3 ≡ a + (scale k (r .y) y .0 * r .width + scale k (r .x) x .0) * 3 = omega arith in
-      rw (e, z) refl
+  image-in : (s : List ℕ) (p : Start) → rowImage s d (rowIn r k y p other) x
+      ≡ cond (covers (r .x) (r .width) k x) (imageRead d (depth r) p (scale k (r .y) y .0 * r .width + scale k (r .x) x .0)) (Known (colourAt s other))
+  unfolding rowImage rowIn covers imageRead
+  image-in s Unread = refl
+  image-in s (From a) =
+      let n : ℕ = depth r in
+      let z : a + scale k (r .y) y .0 * r .width * n + scale k (r .x) x .0 * n ≡ a + (scale k (r .y) y .0 * r .width + scale k (r .x) x .0) * n =
+      add-assoc a _ _ ∙ ap (λ (m : ℕ). a + m) (sym (add-mul (scale k (r .y) y .0 * r .width) (scale k (r .x) x .0) n)) in
+      let some = depth-some r in
+      let e : eqb (depth r) 0 ≡ false = ne-eqb (depth r) 0 (λ q. omega arith) in
+      ap₂ (λ (b : Bool) (m : ℕ). cond (covers (r .x) (r .width) k x) (cond b Unknown (Known (colourIn n d m))) (Known (colourAt s other))) e z
 
   pub mask-by : (p : Start) → depth r ≡ 1 → rowMask d (rowBy r k y p other) x
       ≡ cond (coded r) (cond area (maskRead d p (scale k (r .y) y .0 * r .width + scale k (r .x) x .0)) (bitOf other)) (bitOf other)
@@ -114,21 +116,21 @@ module _ (d : List ℕ) (r : Record) (k : ℕ) (x y : MainPos) (other : ℕ) whe
       go true false true z = out
       go true true c z = mask-in p e ∙ ap (λ (t : Bool). cond t (maskRead d p (scale k (r .y) y .0 * r .width + scale k (r .x) x .0)) (bitOf other)) z ∙ ap (λ (t : Bool). cond t (maskRead d p (scale k (r .y) y .0 * r .width + scale k (r .x) x .0)) (bitOf other)) (sym (and-true c))
 
-  pub image-by : (s : List ℕ) (p : Start) (g : Bool) → depth r ≡ cond g 1 3 → rowImage s d (rowBy r k y p other) x
-      ≡ cond (coded r && area) (imageRead d g p (scale k (r .y) y .0 * r .width + scale k (r .x) x .0)) (Known (colourAt s other))
+  pub image-by : (s : List ℕ) (p : Start) → rowImage s d (rowBy r k y p other) x
+      ≡ cond (coded r && area) (imageRead d (depth r) p (scale k (r .y) y .0 * r .width + scale k (r .x) x .0)) (Known (colourAt s other))
   unfolding rowBy
-  image-by s p g e = go (coded r) (covers (r .y) (r .height) k y) (covers (r .x) (r .width) k x) refl
+  image-by s p = go (coded r) (covers (r .y) (r .height) k y) (covers (r .x) (r .width) k x) refl
     where
       out : rowImage s d (rowOut other) x ≡ Known (colourAt s other)
       out = rowImage-out s d other x passed
 
       go : (a b c : Bool) → covers (r .x) (r .width) k x ≡ c
           → rowImage s d (cond (a && b) (rowIn r k y p other) (rowOut other)) x
-          ≡ cond (a && (c && b)) (imageRead d g p (scale k (r .y) y .0 * r .width + scale k (r .x) x .0)) (Known (colourAt s other))
+          ≡ cond (a && (c && b)) (imageRead d (depth r) p (scale k (r .y) y .0 * r .width + scale k (r .x) x .0)) (Known (colourAt s other))
       go false b c z = out
       go true false false z = out
       go true false true z = out
-      go true true c z = image-in s p g e ∙ ap (λ (t : Bool). cond t (imageRead d g p (scale k (r .y) y .0 * r .width + scale k (r .x) x .0)) (Known (colourAt s other))) (z ∙ sym (and-true c))
+      go true true c z = image-in s p ∙ ap (λ (t : Bool). cond t (imageRead d (depth r) p (scale k (r .y) y .0 * r .width + scale k (r .x) x .0)) (Known (colourAt s other))) (z ∙ sym (and-true c))
 
 -- ---- what a layer gives outside its area
 
@@ -176,11 +178,11 @@ module _ (v : Scene) (x y : MainPos) (l : ℕ) where
       go true = ap (λ (m : Mask). cond (inside (mainOf v) (recordOf v l) x y) (maskRead (v .samples) (planeStart (v .planes) l) (indexOf (mainOf v) (recordOf v l) x y)) m) (bit-cond false)
       go false = bit-cond (eqb l 2 && coded (recordOf v 3))
 
-  pub image-same : l % 2 ≡ 1 → depth (recordOf v l) ≡ cond (isGrey (recordOf v l)) 1 3 → rowImage (v .sheet) (v .samples) rowHere x ≡ imageAt v l x y
+  pub image-same : l % 2 ≡ 1 → rowImage (v .sheet) (v .samples) rowHere x ≡ imageAt v l x y
   unfolding rowOf layerRecord imageAt inside indexOf
-  image-same e q =
+  image-same e =
       let i : ℕ = v .extent .first + (l - 1) in
       let r = recordOf v l in
-      image-by (v .samples) (recordOf v l) (ratio (mainOf v) (recordOf v l)) x y (otherOf (coded (recordOf v 3)) (recordOf v l) i l) (v .sheet) (planeStart (v .planes) l) (isGrey (recordOf v l)) q
-      ∙ ap (λ c. cond (coded r && inside (mainOf v) r x y) (imageRead (v .samples) (isGrey r) (planeStart (v .planes) l) (indexOf (mainOf v) r x y)) (Known c))
+      image-by (v .samples) (recordOf v l) (ratio (mainOf v) (recordOf v l)) x y (otherOf (coded (recordOf v 3)) (recordOf v l) i l) (v .sheet) (planeStart (v .planes) l)
+      ∙ ap (λ c. cond (coded r && inside (mainOf v) r x y) (imageRead (v .samples) (depth r) (planeStart (v .planes) l) (indexOf (mainOf v) r x y)) (Known c))
       (ap (colourAt (v .sheet)) (other-image (coded (recordOf v 3)) r i l e) ∙ base-there (v .sheet) i)

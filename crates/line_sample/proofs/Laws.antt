@@ -1,10 +1,12 @@
 -- One law for each way out of the functions of a sample: its premises are what is known there.
 -- Assumes nothing.
-use Prim.Native.Nat.{ℕ, _-_, _*_, _/_, _%_, _≤_, _<_}
+use Prim.Native.Nat.{ℕ, _+_, _-_, _*_, _/_, _%_, _≤_, _<_}
 use native.Mathlib.Nat.{mul-le-mul}
 use native.Mathlib.Omega.{arith}
 use mathlib.Core.Path.{_≡_, refl, sym, ap}
 use mathlib.Core.Bool.{true, false, _||_, cond}
+use mathlib.Core.List.{List}
+use lib.ListN.{getD}
 use lib.Dec.{eqb}
 use mathlib.Core.Logic.{_≢_}
 use borrow.Author.Tests.{eq-eqb, ne-eqb}
@@ -12,7 +14,7 @@ use borrow.Author.Needs.{needs}
 use Rattle.pixel_rules.specs.declared.MainPos.{MainPos}
 use Rattle.pixel_rules.specs.declared.Mask.the-variants.{Zero, One}
 use Rattle.pixel_rules.specs.Place.{scale}
-use Rattle.pixel_rules.specs.Samples.{bitOf, depth}
+use Rattle.pixel_rules.specs.Samples.{bitOf, colourIn, depth}
 use Rattle.sheet_rules.specs.declared.Record.{Record}
 use Rattle.sheet_rules.specs.Record.{isGrey}
 
@@ -44,6 +46,19 @@ bit-one v d = simp (ne-eqb v 0 d)
 pub ruleset scaling = (needs, scale-one, scale-by, scale-any)
 
 pub ruleset bits = (needs, bit-zero, bit-one)
+
+-- ---- a colour: of three octets, and of one
+
+module _ (n : ℕ) (d : List ℕ) (p : ℕ) where
+  pub colour-three : n ≡ 3 → record { c0 = getD d p 0; c1 = getD d (p + 1) 0; c2 = getD d (p + 2) 0 } ≡ colourIn n d p
+  unfolding colourIn
+  colour-three e = simp (eq-eqb n 3 e)
+
+  pub colour-one : n ≢ 3 → record { c0 = getD d p 0; c1 = 128; c2 = 96 } ≡ colourIn n d p
+  unfolding colourIn
+  colour-one e = simp (ne-eqb n 3 e)
+
+pub ruleset colours = (needs, colour-three, colour-one)
 
 -- ---- the octets of samples
 

@@ -2,13 +2,11 @@
 ghost use mathlib.Core.Path.{_≡_};
 ghost use Prim.Native.Nat.{_+_, _*_, _<_, _≤_};
 ghost use lib.ListN.{length, getD};
-ghost use Rattle.pixel_rules.specs.declared.Sample.the-variants.{Known};
 ghost use Rattle.pixel_rules.specs.Place.{scale};
-ghost use Rattle.pixel_rules.specs.Samples.{bitOf, greyOf, depth};
+ghost use Rattle.pixel_rules.specs.Samples.{bitOf, colourIn, depth};
 ghost use Rattle.sheet_rules.specs.Record.{colourAt};
 use pixel_rules::MainPos;
 use pixel_rules::Mask;
-use pixel_rules::Sample;
 use pixel_rules::SamplePos;
 use sheet_rules::Colour;
 use sheet_rules::Record;
@@ -66,26 +64,26 @@ pub fn bit_at(d: &[u8], at: usize, p: SamplePos) -> Mask
     bit_of(d[i])
 }
 
-// The sample of an image layer, likewise.
-pub fn sample_at(d: &[u8], at: usize, p: SamplePos) -> Sample
-    requires { ⌜ at + p .0 * 3 + 3 ≤ length (now d) ⌝ }
-    ensures { λ r. ⌜ r ≡ Known (colourAt (now (d .entry)) (at + p .0 * 3)) ⌝ }
+// The colour of an image layer's sample, so many samples past the start of its row, of so many octets each. Its first octet is fetched before the test,
+// and one colour comes of both: with a fetch and a sample for each kind of layer a line took a tenth longer.
+pub fn image_colour(d: &[u8], at: usize, each: usize, p: SamplePos) -> Colour
+    requires { ⌜ (0 < each) × (at + p .0 * each + each ≤ length (now d)) ⌝ }
+    ensures { λ c. ⌜ c ≡ colourIn each (now (d .entry)) (at + p .0 * each) ⌝ }
 {
-    let i = at + p.0 * 3;
-    Sample::Known(colour_at(d, i))
-}
-
-// The sample of a grey layer: one octet, lightness alone.
-pub fn grey_at(d: &[u8], at: usize, p: SamplePos) -> Sample
-    requires { ⌜ at + p .0 < length (now d) ⌝ }
-    ensures { λ r. ⌜ r ≡ Known (greyOf (getD (now (d .entry)) (at + p .0) 0)) ⌝ }
-{
-    let i = at + p.0;
-    Sample::Known(Colour {
-        c0: d[i],
+    let i = at + p.0 * each;
+    let light = d[i];
+    if each == 3 {
+        return Colour {
+            c0: light,
+            c1: d[i + 1],
+            c2: d[i + 2],
+        };
+    }
+    Colour {
+        c0: light,
         c1: 128,
         c2: 96,
-    })
+    }
 }
 
 // The octets of a sample of a layer.

@@ -1,6 +1,7 @@
 -- More that was read: what is seen stays as it is, and with every coded layer read all is seen.
 -- Assumes nothing.
 use Prim.Native.Nat.{ℕ, zero, suc, _+_, _*_, _%_, _<_, _≤_}
+use native.Mathlib.Nat.{add-assoc}
 use native.Mathlib.Omega.{arith}
 use mathlib.Core.Path.{_≡_, refl, sym, ap, subst, _∙_}
 use mathlib.Core.Bool.{Bool, true, false, cond, _&&_}
@@ -11,7 +12,6 @@ use Rattle.sheet_rules.specs.StripeTable.{layerRecord}
 use Rattle.laws.proofs.Cases.{cond-with, cond-both, clash}
 use Rattle.laws.proofs.Says.{says-and, says-true, says-not, says-eq}
 use Rattle.answers.specs.declared.Answer.the-variants.{Done}
-use Rattle.sheet_rules.specs.Record.{isGrey}
 use Rattle.sheet_rules.specs.Judge.{coded}
 use Rattle.pixel_rules.specs.declared.MainPos.{MainPos}
 use Rattle.sheet_rules.specs.declared.Colour.{Colour}
@@ -24,12 +24,12 @@ use Rattle.pixel_rules.specs.Place.{inside}
 use Rattle.pixel_rules.specs.declared.Start.{Start}
 use Rattle.pixel_rules.specs.declared.Start.the-variants.{From, Unread}
 use Rattle.pixel_rules.specs.Planes.{PlaneList, planeStart}
-use Rattle.pixel_rules.specs.Samples.{Scene, recordOf, mainOf, widthOf, indexOf, bitOf, virtual, greyOf, sampleColour, maskRead, imageRead, maskAt, imageAt, depth, planeSpan, pairsOf}
+use Rattle.pixel_rules.specs.Samples.{Scene, recordOf, mainOf, widthOf, indexOf, bitOf, virtual, maskRead, imageRead, maskAt, imageAt, depth, planeSpan, pairsOf}
 use Rattle.pixel_rules.specs.Decide.{sameColour, agree, pairStep, Stack, decide, stackAt, pixelAt}
 use Rattle.picture_rules.specs.Line.{fourOf, lineOf, lineInto}
 use Rattle.picture_rules.specs.Sentences.{sceneOf, AllFine}
 use Rattle.picture_rules.specs.Demand.{fourAt, at, Reread, AllRead}
-use Rattle.pixel_rules.proofs.Division.{depth-mask, depth-grey, depth-colour, sample-within}
+use Rattle.pixel_rules.proofs.Division.{depth-mask, depth-some, sample-within, colour-own}
 use Rattle.picture_rules.proofs.Scenes.{Stage, shows-stage, stage-layers, stage-placed}
 use Rattle.pixel_rules.proofs.Rule.{same-true, same-self}
 use Rattle.picture_rules.proofs.Fours.{known-four}
@@ -119,40 +119,17 @@ module _ (s : List ℕ) (k y : ℕ) (pl qm : PlaneList) (d e : List ℕ) (g : St
       subst (MaskGrows (bitOf (getD d (a + i) 0))) (sym same) (mask-self (bitOf (getD d (a + i) 0)))
   mask-read l i h Unread f = tt
 
-  -- one octet of a grey layer
-  grey-read : (l i : ℕ) → i < planeSpan (recordOf old l) → (z : Start) → planeStart (pl .entries) l ≡ z → ImageGrows (imageRead d true z i) (imageRead e true (planeStart (qm .entries) l) i)
-  unfolding imageRead sampleColour
-  grey-read l i h (From a) f = let r = again-start l a f in ap (λ (x : Start). imageRead e true x i) (r .1) ∙ ap (λ (b : ℕ). Known (greyOf b)) (r .2 i h)
-  grey-read l i h Unread f = tt
-
-  -- three of any other
-  colour-read : (l i : ℕ) → i * 3 + 3 ≤ planeSpan (recordOf old l) → (z : Start) → planeStart (pl .entries) l ≡ z → ImageGrows (imageRead d false z i) (imageRead e false (planeStart (qm .entries) l) i)
-  unfolding imageRead sampleColour
-  colour-read l i h (From a) f =
+  image-read : (l i n : ℕ) → 0 < n → i * n + n ≤ planeSpan (recordOf old l) → (z : Start) → planeStart (pl .entries) l ≡ z
+      → ImageGrows (imageRead d n z i) (imageRead e n (planeStart (qm .entries) l) i)
+  unfolding imageRead
+  image-read l i n s h (From a) f =
       let r = again-start l a f in
       let b : ℕ = r .0 in
-      let o : (j : ℕ) → j < 3 → getD e (b + i * 3 + j) 0 ≡ getD d (a + i * 3 + j) 0 =
-      λ j t.
-      let u : b + i * 3 + j ≡ b + (i * 3 + j) = omega arith in
-      let w : a + (i * 3 + j) ≡ a + i * 3 + j = omega arith in
-      ap (λ (m : ℕ). getD e m 0) u ∙ r .2 (i * 3 + j) (omega arith) ∙ ap (λ (m : ℕ). getD d m 0) w in
-      let u : b + i * 3 ≡ b + i * 3 + 0 = omega arith in
-      let w : a + i * 3 + 0 ≡ a + i * 3 = omega arith in
-      let c0 : getD e (b + i * 3) 0 ≡ getD d (a + i * 3) 0 = ap (λ (m : ℕ). getD e m 0) u ∙ o 0 (omega arith) ∙ ap (λ (m : ℕ). getD d m 0) w in
-      let c1 = o 1 (omega arith) in
-      let c2 = o 2 (omega arith) in
-      ap (λ (x : Start). imageRead e false x i) (r .1) ∙ ap Known (λ t. record { c0 = c0 t; c1 = c1 t; c2 = c2 t })
-  colour-read l i h Unread f = tt
-
-  image-read : (l i : ℕ) (b : Bool) → isGrey (recordOf old l) ≡ b → recordOf old l .layer % 2 ≡ 1 → i * depth (recordOf old l) + depth (recordOf old l) ≤ planeSpan (recordOf old l)
-      → ImageGrows (imageRead d b (planeStart (pl .entries) l) i) (imageRead e b (planeStart (qm .entries) l) i)
-  image-read l i true g odd h =
-      let n = depth-grey (recordOf old l) g in
-      let k : i * 1 + 1 ≤ planeSpan (recordOf old l) = subst (λ (j : ℕ). i * j + j ≤ planeSpan (recordOf old l)) n h in
-      grey-read l i (omega arith) (planeStart (pl .entries) l) refl
-  image-read l i false g odd h =
-      let n = depth-colour (recordOf old l) odd g in
-      colour-read l i (subst (λ (j : ℕ). i * j + j ≤ planeSpan (recordOf old l)) n h) (planeStart (pl .entries) l) refl
+      ap (λ (x : Start). imageRead e n x i) (r .1)
+      ∙ ap Known
+      (colour-own n d e (a + i * n) (b + i * n) s
+      (λ j t. ap (λ (m : ℕ). getD e m 0) (add-assoc b (i * n) j) ∙ r .2 (i * n + j) (omega arith) ∙ ap (λ (m : ℕ). getD d m 0) (sym (add-assoc a (i * n) j))))
+  image-read l i n s h Unread f = tt
 
   module _ (x z : MainPos) where
     mask-grows : (l : ℕ) → 1 ≤ l → l ≤ old .extent .layers → l % 2 ≡ 0 → MaskGrows (maskAt old l x z) (maskAt new l x z)
@@ -176,7 +153,7 @@ module _ (s : List ℕ) (k y : ℕ) (pl qm : PlaneList) (d e : List ℕ) (g : St
         cond-both ImageGrows (coded (recordOf old l) && inside (mainOf old) (recordOf old l) x z)
         (λ t.
         let u = says-and (says-true (coded (recordOf old l))) (says-true (inside (mainOf old) (recordOf old l) x z)) .told t .1 in
-        image-read l (indexOf (mainOf old) (recordOf old l) x z) (isGrey (recordOf old l)) refl (ap (λ (n : ℕ). n % 2) p ∙ odd) (sample-within (mainOf old) (recordOf old l) x z u))
+        image-read l (indexOf (mainOf old) (recordOf old l) x z) (depth (recordOf old l)) (depth-some (recordOf old l)) (sample-within (mainOf old) (recordOf old l) x z u) (planeStart (pl .entries) l) refl)
         (λ t. refl)
 
     pixel-grows : ImageGrows (pixelAt old x z) (pixelAt new x z)
@@ -290,7 +267,7 @@ module _ (v : Scene) (all : AllRead v) (x z : MainPos) where
       (λ t.
       let u = says-and (says-true (coded (recordOf v l))) (says-true (inside (mainOf v) (recordOf v l) x z)) .told t .0 in
       let r = read-start l a b u in
-      subst (λ (q : Start). IsKnown (imageRead (v .samples) (isGrey (recordOf v l)) q (indexOf (mainOf v) (recordOf v l) x z))) (sym (r .1)) tt)
+      subst (λ (q : Start). IsKnown (imageRead (v .samples) (depth (recordOf v l)) q (indexOf (mainOf v) (recordOf v l) x z))) (sym (r .1)) tt)
       (λ t. tt)
 
   pixel-known : v .extent .layers % 2 ≡ 1 → 3 ≤ v .extent .layers → IsKnown (pixelAt v x z)

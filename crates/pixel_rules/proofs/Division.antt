@@ -1,20 +1,24 @@
 -- The laws of division: the one step from main mask pixels to a layer's samples, and a layer's area.
 -- Assumes nothing.
 use Prim.Native.Nat.{ℕ, _+_, _-_, _*_, _/_, _%_, _≤_, _<_}
-use native.Mathlib.Nat.{div-lt-iff-lt-mul, div-one, div-eq-of-lt-le, mul-le-mul-right, add-mul, one-mul, mul-comm, mul-zero}
+use native.Mathlib.Nat.{div-lt-iff-lt-mul, div-one, div-eq-of-lt-le, mul-le-mul-right, add-mul, one-mul, mul-comm, mul-zero, add-zero}
 use native.Mathlib.Omega.{arith}
-use mathlib.Core.Path.{_≡_, refl, ap, _∙_}
+use mathlib.Core.Path.{_≡_, refl, sym, ap, _∙_}
 use mathlib.Core.Logic.{⊎-elim}
-use mathlib.Core.Bool.{Bool, true, false, cond, or-true}
-use lib.Dec.{eqb}
-use borrow.Author.Tests.{eq-eqb, ne-eqb}
+use mathlib.Core.Bool.{Bool, true, false, _||_, cond, or-true}
+use mathlib.Core.List.{List}
+use lib.ListN.{getD}
+use lib.Dec.{eqb, lit<}
+use borrow.Author.Tests.{eqb-true, eq-eqb, ne-eqb}
+use Rattle.laws.proofs.Cases.{cond-with, cond-both}
 use Rattle.laws.proofs.Says.{Says, says-le, says-lt, says-and, says-eq, says-else}
+use Rattle.sheet_rules.specs.declared.Colour.{Colour}
 use Rattle.sheet_rules.specs.declared.Record.{Record}
 use Rattle.sheet_rules.specs.Record.{isGrey}
 use Rattle.pixel_rules.specs.declared.MainPos.{MainPos}
 use Rattle.pixel_rules.specs.declared.SamplePos.{SamplePos}
 use Rattle.pixel_rules.specs.Place.{ratio, scale, covers, inside, alongOf, downOf}
-use Rattle.pixel_rules.specs.Samples.{indexOf, depth, planeSpan}
+use Rattle.pixel_rules.specs.Samples.{indexOf, depth, planeSpan, greyOf, colourIn}
 
 -- ---- along one side
 
@@ -111,11 +115,30 @@ module _ (r : Record) where
   span-colour e g = ap (λ (n : ℕ). r .width * r .height * n) (depth-colour e g)
 
 -- the octets of a sample lie within the layer's
-pub sample-within : (main : ℕ) (r : Record) (x y : MainPos) → inside main r x y ≡ true → indexOf main r x y * depth r + depth r ≤ planeSpan r
+pub span-within : (r : Record) (i : ℕ) → i < r .width * r .height → i * depth r + depth r ≤ planeSpan r
 unfolding planeSpan
-sample-within main r x y e =
-    let a = index-within main r x y e in
-    let m : (indexOf main r x y + 1) * depth r ≤ r .width * r .height * depth r = mul-le-mul-right (depth r) (omega arith) in
-    let b = add-mul (indexOf main r x y) 1 (depth r) in
+span-within r i h =
+    let m : (i + 1) * depth r ≤ r .width * r .height * depth r = mul-le-mul-right (depth r) (omega arith) in
+    let b = add-mul i 1 (depth r) in
     let c = one-mul (depth r) in
     omega arith
+
+pub sample-within : (main : ℕ) (r : Record) (x y : MainPos) → inside main r x y ≡ true → indexOf main r x y * depth r + depth r ≤ planeSpan r
+sample-within main r x y e = span-within r (indexOf main r x y) (index-within main r x y e)
+
+-- a layer has an octet a sample at least
+pub depth-some : (r : Record) → 0 < depth r
+depth-some r = cond-with (λ (n : ℕ). 0 < n) (eqb (r .layer % 2) 0 || isGrey r) (λ t. lit< tt) (λ t. lit< tt)
+
+-- a sample's colour hangs on its own octets alone
+pub colour-own : (n : ℕ) (d e : List ℕ) (p q : ℕ) → 0 < n → ((j : ℕ) → j < n → getD e (q + j) 0 ≡ getD d (p + j) 0) → colourIn n e q ≡ colourIn n d p
+unfolding colourIn
+colour-own n d e p q h f =
+    let z : getD e q 0 ≡ getD d p 0 = ap (λ (i : ℕ). getD e i 0) (sym (add-zero q)) ∙ f 0 h ∙ ap (λ (i : ℕ). getD d i 0) (add-zero p) in
+    cond-both (λ (c k : Colour). c ≡ k) (eqb n 3)
+    (λ t.
+    let m = eqb-true n 3 t in
+    let one = f 1 (omega arith) in
+    let two = f 2 (omega arith) in
+    λ i. record { c0 = z i; c1 = one i; c2 = two i })
+    (λ t. ap greyOf z)

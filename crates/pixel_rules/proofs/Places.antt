@@ -1,6 +1,7 @@
 -- The sample of a layer at a place, case by case (01, "Colour of a pixel"): coded or not, inside or outside, read or unread.
 -- Assumes nothing.
-use Prim.Native.Nat.{ℕ, _+_, _*_}
+use Prim.Native.Nat.{ℕ, _+_, _*_, _%_}
+use native.Mathlib.Nat.{mul-one}
 use mathlib.Core.Path.{_≡_, refl, sym, _∙_}
 use mathlib.Core.Logic.{_≢_}
 use mathlib.Core.Bool.{true, false, _&&_, false≢true}
@@ -17,8 +18,9 @@ use Rattle.pixel_rules.specs.declared.Mask.the-variants.{Zero, One, Hidd
 use Rattle.pixel_rules.specs.Place.{inside}
 use Rattle.pixel_rules.specs.declared.Start.the-variants.{From, Unread}
 use Rattle.pixel_rules.specs.Planes.{planeStart}
-use Rattle.pixel_rules.specs.Samples.{Scene, recordOf, mainOf, indexOf, bitOf, baseOf, virtual, sampleColour, maskRead, imageRead, maskAt, imageAt}
+use Rattle.pixel_rules.specs.Samples.{Scene, recordOf, mainOf, indexOf, bitOf, baseOf, virtual, colourIn, maskRead, imageRead, maskAt, imageAt}
 use Rattle.sheet_rules.specs.Record.{colourAt, isGrey}
+use Rattle.pixel_rules.proofs.Division.{depth-grey, depth-colour}
 
 pub coded-true : (r : Record) → Coded r → coded r ≡ true
 coded-true r h = simp (ne-eqb (r .len) 0 h)
@@ -60,16 +62,16 @@ module _ (v : Scene) (l : ℕ) (x y : MainPos) where
   -- ---- inside it is what was read at its sample, and not known where the layer is unread
 
   module _ (h : Coded (recordOf v l)) (o : inside (mainOf v) (recordOf v l) x y ≡ true) where
-    pub image-read-at : (a : ℕ) → planeStart (v .planes) l ≡ From a → isGrey (recordOf v l) ≡ false
+    pub image-read-at : (a : ℕ) → planeStart (v .planes) l ≡ From a → recordOf v l .layer % 2 ≡ 1 → isGrey (recordOf v l) ≡ false
         → imageAt v l x y ≡ Known (colourAt (v .samples) (a + indexOf (mainOf v) (recordOf v l) x y * 3))
-    unfolding imageAt imageRead sampleColour
-    image-read-at a e g = simp (coded-true (recordOf v l) h, o, e, g)
+    unfolding imageAt imageRead colourIn
+    image-read-at a e odd g = simp (coded-true (recordOf v l) h, o, e, depth-colour (recordOf v l) odd g)
 
     -- a grey layer's octet is lightness, and its colour is written out here once more
     pub grey-read-at : (a : ℕ) → planeStart (v .planes) l ≡ From a → isGrey (recordOf v l) ≡ true
         → imageAt v l x y ≡ Known (record { c0 = getD (v .samples) (a + indexOf (mainOf v) (recordOf v l) x y) 0; c1 = 128; c2 = 96 })
-    unfolding imageAt imageRead sampleColour
-    grey-read-at a e g = simp (coded-true (recordOf v l) h, o, e, g) refl
+    unfolding imageAt imageRead colourIn
+    grey-read-at a e g = simp (coded-true (recordOf v l) h, o, e, depth-grey (recordOf v l) g, mul-one) refl
 
     pub image-unread : planeStart (v .planes) l ≡ Unread → imageAt v l x y ≡ Unknown
     unfolding imageAt imageRead

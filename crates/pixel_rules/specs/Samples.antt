@@ -9,12 +9,12 @@
 --   planeSpan r     octets of all samples of a layer
 --   indexOf         a sample's number in its layer, row by row
 --   greyOf v        the colour of a grey layer's octet
---   sampleColour    the colour of sample i of those from a place on, grey or not
+--   colourIn n d p  the colour of the sample of n octets at a place
 --   bitOf           a mask octet's value: 0 is 0, all else 1
 --   virtual v l     what an uncoded mask gives
 --   maskAt          the sample of a mask at a place; imageAt: of an image layer
 use Prim.Native.Nat.{ℕ, _+_, _*_, _/_, _%_}
-use mathlib.Core.Bool.{Bool, _&&_, _||_, cond}
+use mathlib.Core.Bool.{_&&_, _||_, cond}
 use mathlib.Core.List.{List}
 use lib.ListN.{getD}
 use lib.Dec.{eqb}
@@ -78,19 +78,20 @@ virtual v l = cond (eqb l 2 && coded (recordOf v 3)) One Zero
 abbrev pub greyOf : ℕ → Colour
 greyOf v = record { c0 = v; c1 = 128; c2 = 96 }
 
--- one octet in a grey layer, three in any other
-unfoldable pub sampleColour : Bool → List ℕ → ℕ → ℕ → Colour
-sampleColour grey d a i = cond grey (greyOf (getD d (a + i) 0)) (colourAt d (a + i * 3))
+-- three octets are a colour, one is lightness
+unfoldable pub colourIn : ℕ → List ℕ → ℕ → Colour
+colourIn n d p = cond (eqb n 3) (colourAt d p) (greyOf (getD d p 0))
 
 unfoldable pub maskRead : List ℕ → Start → ℕ → Mask
 unfolding bitOf
 maskRead d (From a) i = bitOf (getD d (a + i) 0)
 maskRead d Unread i = Hidden
 
-unfoldable pub imageRead : List ℕ → Bool → Start → ℕ → Sample
-unfolding sampleColour
-imageRead d grey (From a) i = Known (sampleColour grey d a i)
-imageRead d grey Unread i = Unknown
+-- sample i of those from a place on, n octets each
+unfoldable pub imageRead : List ℕ → ℕ → Start → ℕ → Sample
+unfolding colourIn
+imageRead d n (From a) i = Known (colourIn n d (a + i * n))
+imageRead d n Unread i = Unknown
 
 unfoldable pub maskAt : Scene → ℕ → MainPos → MainPos → Mask
 unfolding virtual maskRead planeStart inside indexOf
@@ -105,5 +106,5 @@ unfoldable pub imageAt : Scene → ℕ → MainPos → MainPos → Sample
 unfolding imageRead planeStart inside indexOf
 imageAt v l x y =
     cond (coded (recordOf v l) && inside (mainOf v) (recordOf v l) x y)
-    (imageRead (v .samples) (isGrey (recordOf v l)) (planeStart (v .planes) l) (indexOf (mainOf v) (recordOf v l) x y))
+    (imageRead (v .samples) (depth (recordOf v l)) (planeStart (v .planes) l) (indexOf (mainOf v) (recordOf v l) x y))
     (Known (baseOf (recordOf v l)))

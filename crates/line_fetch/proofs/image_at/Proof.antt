@@ -1,4 +1,4 @@
-use Rattle.line_fetch.proofs.Laws.{grey-there, fetching}
+use Rattle.line_fetch.proofs.Laws.{fetching}
 use borrow.Author.Needs.{needs}
 use Rattle.line_fetch.proofs.image_at.Statement.{statement}
 use Rattle.line_fetch.proofs.image_at.Tie as tie
@@ -21,17 +21,11 @@ returns-3 c = search fetching
 scale-pos-requires : tie.Need-scale-pos-requires
 scale-pos-requires c κs = search needs
 
-grey-at-requires : tie.Need-grey-at-requires
-grey-at-requires c κs = search grey-there
+image-colour-requires : tie.Need-image-colour-requires
+image-colour-requires c κs = search fetching
 
 returns-4 : tie.Need-returns-4
 returns-4 c = search fetching
-
-sample-at-requires : tie.Need-sample-at-requires
-sample-at-requires c κs = search fetching
-
-returns-5 : tie.Need-returns-5
-returns-5 c = search fetching
 
 pub image-at-spec : {M : Type 1} → statement M
 image-at-spec =
@@ -43,7 +37,5 @@ image-at-spec =
     returns-2
     returns-3
     scale-pos-requires
-    grey-at-requires
-    returns-4
-    sample-at-requires
-    returns-5)
+    image-colour-requires
+    returns-4)
