@@ -75,7 +75,7 @@ module _ (v : Scene) (l : ℕ) (x y : MainPos) where
 
     pub image-unread : planeStart (v .planes) l ≡ Unread → imageAt v l x y ≡ Unknown
     unfolding imageAt imageRead
-    image-unread e = simp (coded-true (recordOf v l) h, o, e)
+    image-unread e = simp (coded-true (recordOf v l) h, o, e) refl
 
     -- 0 is 0, all else 1
     pub mask-read-0 : (a : ℕ) → planeStart (v .planes) l ≡ From a → getD (v .samples) (a + indexOf (mainOf v) (recordOf v l) x y) 0 ≡ 0 → maskAt v l x y ≡ Zero
