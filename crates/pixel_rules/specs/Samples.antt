@@ -74,7 +74,7 @@ baseOf r = record { c0 = r .base0; c1 = r .base1; c2 = r .base2 }
 unfoldable pub virtual : Scene → ℕ → Mask
 virtual v l = cond (eqb l 2 && coded (recordOf v 3)) One Zero
 
--- lightness alone: 128 and 96 are the codes of a and b where there is no colour (01, "Colour of a pixel")
+-- lightness alone: 128 and 96 are the codes of a and b where there is no colour (02, 2026-07)
 abbrev pub greyOf : ℕ → Colour
 greyOf v = record { c0 = v; c1 = 128; c2 = 96 }
 
