@@ -54,12 +54,12 @@ int run_many(int arguments, char **words, const char *name,
 }
 
 /* "stripe, layer, coder, x, y, width, height, resolution, three base octets,
- * start, length" */
+ * start, length"; request 2026-07: "Listing lines end with this octet", 17. */
 void print_record(struct record r)
 {
     const uint32_t fields[] = {r.stripe,    r.layer,  r.coder,      r.x,         r.y,
                                r.width,     r.height, r.resolution, r.colour[0], r.colour[1],
-                               r.colour[2], r.start,  r.length};
+                               r.colour[2], r.start,  r.length,     r.grey};
     const size_t count = sizeof fields / sizeof fields[0];
     for (size_t k = 0; k < count; k++) {
         printf("%" PRIu32 "%c", fields[k], k + 1 < count ? ' ' : '\n');

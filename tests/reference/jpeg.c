@@ -189,6 +189,13 @@ static bool walk_frame(struct walk *walk, struct marker marker)
     if (walk->layer.width == 0) {
         return stop(walk, BAD_LAYER, body + 3);
     }
+    /* "hand back the component count from the frame, and only 1 and 3 are
+     * taken"; "another count is BadLayer at its octet".  A scan header counts
+     * its own components, which nobody asks for. */
+    walk->layer.components = walk->page[body + 5];
+    if (walk->layer.components != 1 && walk->layer.components != 3) {
+        return stop(walk, BAD_LAYER, body + 5);
+    }
     walk->has_frame = true;
     walk->at = marker.behind + length;
     return true;
@@ -299,7 +306,7 @@ struct jpeg_layer jpeg_walk(const uint8_t *page, size_t octets, size_t start,
                             uint32_t main_resolution)
 {
     struct walk walk = {page,  octets, main_resolution, start,
-                        false, false,  false,           {0, 0, 0, 0, 0, 0}};
+                        false, false,  false,           {0, 0, 0, 0, 0, 0, 0}};
     bool goes_on = walk_start(&walk);
     while (goes_on) {
         goes_on = walk_marker(&walk);

@@ -1,7 +1,8 @@
 /* Where an image layer ends, read straight from the paper and nothing else.
  * Words in quotation marks are the paper's own (section "Where an image layer
  * ends" unless another one is named), or those of request 2026-03, "Padded
- * markers", which amends its rule of exactly one FF. */
+ * markers", which amends its rule of exactly one FF, and of request 2026-07,
+ * "Grey layers", where they speak of components. */
 #ifndef REFERENCE_JPEG_H
 #define REFERENCE_JPEG_H
 
@@ -17,6 +18,7 @@ struct jpeg_layer {
     size_t end; /* the octet behind the layer's FF D9 */
     uint32_t width;
     uint32_t height;
+    uint32_t components; /* 1 or 3 */
     uint32_t resolution;
 };
 

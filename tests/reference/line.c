@@ -44,6 +44,7 @@ struct pixel {
     uint32_t layers;                 /* N */
     uint32_t value[MOST_LAYERS + 1]; /* of each layer, under some content */
     bool unread[MOST_LAYERS + 1];    /* whether a content may choose it */
+    bool grey[MOST_LAYERS + 1];      /* and then among greys only */
 };
 
 /* "A layer is coded when its length is not 0." */
@@ -55,6 +56,12 @@ static bool is_coded(struct record r)
 static bool is_mask(uint32_t layer)
 {
     return layer % 2 == 0;
+}
+
+/* "octet 17 of a JPEG layer: 1 for one component" */
+static bool is_grey(struct record r)
+{
+    return r.grey == 1;
 }
 
 /* The records of the stripe.  Only for a sheet that keeps the rules: "Each has
@@ -91,10 +98,12 @@ static struct plane plane_at(const struct reference_line_call *call, size_t i)
     return plane;
 }
 
-/* "Mask samples are one octet ..., image samples three, row by row." */
-static uint64_t sample_size(uint32_t layer)
+/* "Mask samples are one octet ..., image samples three, row by row."  "Planes of
+ * such layers", which are grey, "hold one octet a sample, the lightness
+ * code". */
+static uint64_t sample_size(struct record r)
 {
-    return is_mask(layer) ? 1 : 3;
+    return is_mask(r.layer) || is_grey(r) ? 1 : 3;
 }
 
 /* BadPlane: "a listed layer is absent, uncoded, out of order, or runs past the
@@ -115,7 +124,7 @@ static bool is_bad_plane(const struct work *work, size_t i)
             return true;
         }
     }
-    uint64_t size = (uint64_t)r.width * r.height * sample_size(plane.layer);
+    uint64_t size = (uint64_t)r.width * r.height * sample_size(r);
     return plane.start + size > work->call->sample_octets;
 }
 
@@ -153,6 +162,12 @@ static uint32_t colour_of(uint32_t first, uint32_t second, uint32_t third)
     return first * 65536 + second * 256 + third;
 }
 
+/* Of a grey layer's sample: "the colour is that octet, then 128, then 96". */
+static uint32_t grey_of(uint32_t lightness)
+{
+    return colour_of(lightness, 128, 96);
+}
+
 /* "k = main resolution / layer resolution, and a layer covers width x k by
  * height x k main pixels from its offset" */
 static bool is_inside(struct record r, uint64_t k, uint64_t x, uint64_t y)
@@ -178,16 +193,19 @@ static uint32_t value_outside(const struct work *work, struct record r)
 
 /* "Inside, pixel (x, y) takes sample ((x - xo) / k, (y - yo) / k), rounded
  * down."  "Mask samples are one octet (0 is 0, all else 1), image samples
- * three, row by row." */
+ * three, row by row", but of a grey layer one. */
 static uint32_t value_read(const struct reference_line_call *call, struct record r,
                            struct plane plane, uint64_t k, uint64_t x)
 {
     uint64_t column = (x - r.x) / k;
     uint64_t row = (call->line - r.y) / k;
     uint64_t number = row * r.width + column;
-    const uint8_t *sample = call->samples + (plane.start + number * sample_size(r.layer));
+    const uint8_t *sample = call->samples + (plane.start + number * sample_size(r));
     if (is_mask(r.layer)) {
         return sample[0] == 0 ? 0 : 1;
+    }
+    if (is_grey(r)) {
+        return grey_of(sample[0]);
     }
     return colour_of(sample[0], sample[1], sample[2]);
 }
@@ -205,12 +223,13 @@ static void look_at_layer(const struct work *work, uint32_t layer, uint64_t x, s
         pixel->value[layer] = value_read(work->call, r, plane, k, x);
     } else {
         pixel->unread[layer] = true;
+        pixel->grey[layer] = is_grey(r);
     }
 }
 
 static struct pixel pixel_at(const struct work *work, uint64_t x)
 {
-    struct pixel pixel = {work->layers, {0}, {false}};
+    struct pixel pixel = {work->layers, {0}, {false}, {false}};
     for (uint32_t layer = 1; layer <= work->layers; layer++) {
         look_at_layer(work, layer, x, &pixel);
     }
@@ -243,23 +262,37 @@ static bool is_known_colour(const struct pixel *pixel, uint32_t colour)
     return false;
 }
 
+/* What is tried of unread samples. */
+struct probes {
+    uint32_t colour[PROBES];
+    uint32_t grey[PROBES]; /* "Unread grey layers can hold only such colours" */
+};
+
 /* The colours tried of an unread image sample: the first two that no known
- * layer has here.  Two are enough.  A pixel's colour is the value of one image
- * layer, and the mask bits alone choose which.  Where two contents give two
- * colours, look at the layers that their bits choose.  If one of these layers
- * is unread, the same bits and its two probes give two colours; if both are
- * known, the same two sets of bits give the same two colours as before,
- * whatever the probes are.  All sets of bits are tried, so the trials differ
- * too. */
-static void choose_probes(const struct pixel *pixel, uint32_t probe[PROBES])
+ * layer has here, and of a grey layer's the first two greys; at most eight
+ * layers are known, so there are always two.  Two are enough.  A pixel's colour
+ * is the value of one image layer, and the mask bits alone choose which.  Where
+ * two contents give two colours, look at the layers that their bits choose.  If
+ * one of these layers is unread, the same bits and its two probes give two
+ * colours; if both are known, the same two sets of bits give the same two
+ * colours as before, whatever the probes are.  All sets of bits are tried, so
+ * the trials differ too. */
+static struct probes choose_probes(const struct pixel *pixel)
 {
+    struct probes probes;
     uint32_t colour = 0;
+    uint32_t lightness = 0;
     for (size_t i = 0; i < PROBES; i++) {
         while (is_known_colour(pixel, colour)) {
             colour++;
         }
-        probe[i] = colour++;
+        while (is_known_colour(pixel, grey_of(lightness))) {
+            lightness++;
+        }
+        probes.colour[i] = colour++;
+        probes.grey[i] = grey_of(lightness++);
     }
+    return probes;
 }
 
 /* How many contents are tried: each unread sample, bit or colour, takes two
@@ -275,13 +308,14 @@ static uint32_t count_contents(const struct pixel *pixel)
 
 /* "A possible content gives every sample of every unread layer any value, 0 or
  * 1 in a mask and any three octets in an image layer, each free of all
- * others": the content of this number. */
-static void put_content(struct pixel *pixel, uint32_t number, const uint32_t probe[PROBES])
+ * others", of a grey layer any lightness: the content of this number. */
+static void put_content(struct pixel *pixel, uint32_t number, const struct probes *probes)
 {
     for (uint32_t layer = 1; layer <= pixel->layers; layer++) {
         if (pixel->unread[layer]) {
             uint32_t choice = number % PROBES;
             number /= PROBES;
+            const uint32_t *probe = pixel->grey[layer] ? probes->grey : probes->colour;
             pixel->value[layer] = is_mask(layer) ? choice : probe[choice];
         }
     }
@@ -290,12 +324,11 @@ static void put_content(struct pixel *pixel, uint32_t number, const uint32_t pro
 /* Whether every content gives one colour, and which. */
 static bool is_seen(struct pixel *pixel, uint32_t *colour)
 {
-    uint32_t probe[PROBES];
-    choose_probes(pixel, probe);
-    put_content(pixel, 0, probe);
+    struct probes probes = choose_probes(pixel);
+    put_content(pixel, 0, &probes);
     *colour = compose(pixel);
     for (uint32_t i = 1; i < count_contents(pixel); i++) {
-        put_content(pixel, i, probe);
+        put_content(pixel, i, &probes);
         if (compose(pixel) != *colour) {
             return false;
         }

@@ -3,7 +3,8 @@
  * This is a yardstick for the proved library: it shares no code with it, is
  * written in the paper's words and order and takes its time.  Words in
  * quotation marks are the paper's own, or those of request 2026-01, "Grey where
- * we cannot see", where they speak of an unseen colour. */
+ * we cannot see", where they speak of an unseen colour, and of request 2026-07,
+ * "Grey layers", where they speak of lightness. */
 #ifndef REFERENCE_LINE_H
 #define REFERENCE_LINE_H
 

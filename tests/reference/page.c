@@ -187,7 +187,7 @@ static void put_record(uint8_t *octets, const struct record *record)
     put(octets, 14, 1, record->colour[0]);
     put(octets, 15, 1, record->colour[1]);
     put(octets, 16, 1, record->colour[2]);
-    put(octets, 17, 1, 0);
+    put(octets, 17, 1, record->grey);
     put(octets, 18, 4, record->start);
     put(octets, 22, 4, record->length);
     put(octets, 26, 2, 0);

@@ -36,7 +36,7 @@ struct record sheet_record(const uint8_t *sheet, size_t number)
     r.colour[0] = number_at(octets, 14, 1);
     r.colour[1] = number_at(octets, 15, 1);
     r.colour[2] = number_at(octets, 16, 1);
-    r.zero_at_17 = number_at(octets, 17, 1);
+    r.grey = number_at(octets, 17, 1);
     r.start = number_at(octets, 18, 4);
     r.length = number_at(octets, 22, 4);
     r.zero_at_26 = number_at(octets, 26, 2);
@@ -150,11 +150,20 @@ static bool breaks_n(const uint8_t *sheet, size_t i)
     return false;
 }
 
-/* The table: one octet at 17 and two at 26 that mean 0. */
+/* The table: two octets at 26 that mean 0. */
 static bool breaks_zeros(const uint8_t *sheet, size_t i)
 {
+    return sheet_record(sheet, i).zero_at_26 != 0;
+}
+
+/* "The sheet keeps it in octet 17 of a JPEG layer: 1 for one component, 0 for
+ * three, and 0 in all other records."  A JPEG layer is an image layer that is
+ * coded, by coder 1; what its data has, a sheet does not tell. */
+static bool breaks_grey(const uint8_t *sheet, size_t i)
+{
     struct record r = sheet_record(sheet, i);
-    return r.zero_at_17 != 0 || r.zero_at_26 != 0;
+    bool is_jpeg = is_coded(r) && !is_even(r.layer) && r.coder == 1;
+    return r.grey != 0 && !(r.grey == 1 && is_jpeg);
 }
 
 /* "Coded: coder 1, 2, 4 or 8 for even layers, 1 for odd; width and height not
@@ -323,6 +332,7 @@ static const struct rule rules[] = {
     {"layers", breaks_layers},
     {"N", breaks_n},
     {"zeros", breaks_zeros},
+    {"grey", breaks_grey},
     {"coded", breaks_coded},
     {"uncoded", breaks_uncoded},
     {"layer 2", breaks_layer_2},

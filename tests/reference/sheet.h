@@ -2,7 +2,8 @@
  *
  * This is a yardstick for the proved library: it shares no code with it, is
  * written in the paper's words and takes its time.  Words in quotation marks
- * are the paper's own (section "The sheet" unless another one is named). */
+ * are the paper's own (section "The sheet" unless another one is named), or
+ * those of request 2026-07, "Grey layers", where they speak of octet 17. */
 #ifndef REFERENCE_SHEET_H
 #define REFERENCE_SHEET_H
 
@@ -26,7 +27,7 @@ struct record {
     uint32_t height;
     uint32_t resolution;
     uint32_t colour[3];
-    uint32_t zero_at_17;
+    uint32_t grey; /* octet 17 */
     uint32_t start;
     uint32_t length;
     uint32_t zero_at_26;

@@ -190,6 +190,9 @@ static bool read_image(struct reading *reading, uint32_t x, uint32_t y, struct r
     record->width = layer.width;
     record->height = layer.height;
     record->resolution = layer.resolution;
+    /* Request 2026-07: "octet 17 of a JPEG layer: 1 for one component, 0 for
+     * three, and 0 in all other records" */
+    record->grey = layer.components == 1 ? 1 : 0;
     record->start = (uint32_t)start;
     record->length = (uint32_t)(layer.end - start);
     return true;

@@ -78,6 +78,10 @@ static bool disagrees(const struct source *source, struct record r)
     if (layer.end != r.length) {
         return true;
     }
+    /* Request 2026-07: "in writing, a disagreement is Mismatch" */
+    if (layer.components != (r.grey == 1 ? 1 : 3)) {
+        return true;
+    }
     return layer.width != r.width || layer.height != r.height || layer.resolution != r.resolution;
 }
 
