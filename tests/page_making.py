@@ -44,9 +44,9 @@ def fax(r=200, length=12, body=None, version=b"\x07\xca"):
     return b"\xff\xe1" + big(length, 2) + sized(b"G3FAX\0" + version + big(r, 2), length, body)
 
 
-def frame(code=0xC0, length=11, h=20, w=50, body=None):
+def frame(code=0xC0, length=11, h=20, w=50, c=3, body=None):
     return (bytes([0xFF, code]) + big(length, 2)
-            + sized(b"\x08" + big(h, 2) + big(w, 2) + b"\x01\x01\x11\0", length, body))
+            + sized(b"\x08" + big(h, 2) + big(w, 2) + bytes([c]) + b"\x01\x11\0", length, body))
 
 
 def segment(code=0xDB, length=4, body=None):
@@ -54,17 +54,18 @@ def segment(code=0xDB, length=4, body=None):
     return bytes([0xFF, code]) + big(length, 2) + b"\x5a" * size
 
 
-def scan(length=8, body=None):
-    return b"\xff\xda" + big(length, 2) + sized(b"\x01\x01\0\0\x3f\0", length, body)
+def scan(length=8, c=1, body=None):
+    return b"\xff\xda" + big(length, 2) + sized(bytes([c]) + b"\x01\0\0\x3f\0", length, body)
 
 
 def picture(r, h, w):
     """`back` or `fore`"""
-    return b"\xff\xd8" + fax(r) + frame(h=h, w=w) + scan() + b"\x12\x34\x56\xff\xd9"
+    return lambda c=3: (b"\xff\xd8" + fax(r) + frame(h=h, w=w, c=c) + scan()
+                        + b"\x12\x34\x56\xff\xd9")
 
 
-BACK = picture(200, 20, 50)
-FORE = picture(100, 10, 30)
+back, fore = picture(200, 20, 50), picture(100, 10, 30)
+BACK, FORE = back(), fore()
 
 
 def whole_stripe(kind, data):
@@ -88,8 +89,8 @@ PARTS = {
     "frame": frame,
     "segment": segment,
     "scan": scan,
-    "back": lambda: BACK,
-    "fore": lambda: FORE,
+    "back": back,
+    "fore": fore,
     "s1": whole_stripe(1, BACK),
     "s2": whole_stripe(2, MASK),
     "s3": whole_stripe(3, MASK + BACK),

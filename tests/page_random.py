@@ -74,10 +74,12 @@ def padded(rng, pieces):
 
 
 def random_pieces(rng, main):
-    """The pieces of a JPEG layer behind its FF D8, and its width, height and resolution."""
+    """The pieces of a JPEG layer behind its FF D8, and its width, height, resolution and whether
+    it is grey, 1 or 0."""
     resolution = rng.choice([r for r in LISTED if main % r == 0])
     width, height = number_between(rng, 1, 65535), number_between(rng, 1, 65535)
-    rest = random_octets(rng, 1 + rng.choice([0, 3, 9, rng.randrange(30)]))
+    grey = rng.choice([0, 1])
+    rest = bytes([1 if grey else 3]) + random_octets(rng, rng.choice([0, 3, 9, rng.randrange(30)]))
     pieces = [*random_segments(rng),
               fax(resolution, length=12 + rng.choice([0, 0, 1, rng.randrange(30)]),
                   version=random_octets(rng, 2)),
@@ -86,12 +88,12 @@ def random_pieces(rng, main):
               + bytes([rng.randrange(256)]) + big(height, 2) + big(width, 2) + rest]
     for _ in range(rng.choice([1, 1, 2, 3])):
         pieces += [*random_segments(rng), *later_fax(rng), *random_scan(rng)]
-    return [*pieces, *random_segments(rng), b"\xff\xd9"], width, height, resolution
+    return [*pieces, *random_segments(rng), b"\xff\xd9"], width, height, resolution, grey
 
 
 def random_picture(rng, main, often=0.5):
-    """A JPEG layer, and its width, height and resolution. `often` is how often a layer has fill,
-    and changes nothing else in it."""
+    """A JPEG layer, and its width, height, resolution and whether it is grey. `often` is how often
+    a layer has fill, and changes nothing else in it."""
     pieces, *picture = random_pieces(rng, main)
     of_fill = random.Random(rng.getrandbits(32))
     octets = padded(of_fill, pieces) if of_fill.random() < often else b"".join(pieces)
@@ -99,9 +101,11 @@ def random_picture(rng, main, often=0.5):
 
 
 def faulty_piece(rng, piece):
-    """A piece with a small number where a segment has its length, a frame its height or width, or
-    a tagged segment its resolution."""
-    at = rng.choice([at for at in (2, 2, 5, 7, 12) if at + 2 <= len(piece)])
+    """A piece with a small number where a segment has its length, a frame its height, width or
+    components, or a tagged segment its resolution."""
+    at = rng.choice([at for at in (2, 2, 5, 7, 9, 12) if at + 2 <= len(piece)])
+    if at == 9:
+        return piece[:at] + bytes([rng.choice([0, 1, 2, 3, 4, 255])]) + piece[at + 1:]
     return piece[:at] + rng.choice([b"\0\0", b"\0\1", b"\0\7"]) + piece[at + 2:]
 
 
@@ -147,8 +151,8 @@ class PageInTheMaking:
                             width=self.width)
         self.lines = ""
 
-    def add_record(self, stripe_number, layer, coder, box, resolution, colour, data):
-        fields = [stripe_number, layer, coder, *box, resolution, *colour, *data]
+    def add_record(self, stripe_number, layer, coder, box, resolution, colour, data, grey):
+        fields = [stripe_number, layer, coder, *box, resolution, *colour, *data, grey]
         self.lines += " ".join(map(str, fields)) + "\n"
 
     def types(self):
@@ -156,13 +160,13 @@ class PageInTheMaking:
                 if (self.coders[0] or not t & 2) and (self.coders[1] or not t & 5)]
 
     def add_image(self, kind, bit, offset):
-        """Puts an image layer; answers coder, box, resolution and data of its record."""
+        """Puts an image layer; answers coder, box, resolution, data and octet 17 of its record."""
         if not kind & bit:
-            return 0, (0, 0, 0, 0), self.main, (0, 0)
-        octets, width, height, resolution = random_picture(self.rng, self.main, self.often)
+            return 0, (0, 0, 0, 0), self.main, (0, 0), 0
+        octets, width, height, resolution, grey = random_picture(self.rng, self.main, self.often)
         data = (len(self.octets), len(octets))
         self.octets += octets
-        return 1, (*offset, width, height), resolution, data
+        return 1, (*offset, width, height), resolution, data, grey
 
     def add_stripe(self, stripe_number, height):
         rng = self.rng
@@ -179,10 +183,10 @@ class PageInTheMaking:
         self.octets += mask
         layers = [self.add_image(kind, 1, offsets[0]), self.add_image(kind, 4, offsets[1])]
         layers.insert(1, (self.coders[0] if mask else 0, (0, 0, self.width, height), self.main,
-                          mask_data))
-        for layer, (coder, box, resolution, data) in enumerate(layers, 1):
+                          mask_data, 0))
+        for layer, (coder, box, resolution, data, grey) in enumerate(layers, 1):
             colour = {1: colours[:3], 2: (0, 0, 0), 3: colours[3:]}[layer]
-            self.add_record(stripe_number, layer, coder, box, resolution, colour, data)
+            self.add_record(stripe_number, layer, coder, box, resolution, colour, data, grey)
 
 
 def random_page(rng, stripes=None, often=0.5):
@@ -226,6 +230,14 @@ def change_length(rng, page):
         old = int.from_bytes(page[at:at + 2], "big")
         new = rng.choice([0, 1, 2, 5, 6, 7, 8, 12, 16, 37, old + 1, old - 1, rng.randrange(65536)])
         page[at:at + 2] = big(new % 65536, 2)
+    return page
+
+
+def change_components(rng, page):
+    """Another count of components, in what looks like a frame."""
+    places = [found.start() for found in re.finditer(rb"\xff[\xc0-\xcf].{8}", page, re.S)]
+    if places:
+        page[rng.choice(places) + 9] = rng.choice([0, 1, 1, 2, 3, 3, 4, 255])
     return page
 
 
@@ -298,7 +310,7 @@ def extend(rng, page):
 
 CHANGES = [change_octet, change_octet, change_code, change_code, change_length, change_length,
            change_field, change_field, change_field, change_field, drop, drop, double, swap, insert,
-           extend, pad, pad, pad_zero, end_in_run]
+           extend, pad, pad, pad_zero, end_in_run, change_components, change_components]
 
 
 def damaged(rng, page):

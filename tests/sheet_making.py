@@ -23,18 +23,19 @@ FIELDS = {
     "resolution": (12, 2),
     "start": (18, 4),
     "length": (22, 4),
+    "grey": (17, 1),
 }
 FIELDS.update({"octet%d" % k: (k, 1) for k in range(RECORD)})
-LAYOUT = struct.Struct(">HBBHHHHHBBBxIIxx")
+LAYOUT = struct.Struct(">HBBHHHHHBBBBIIxx")
 
 WHITE = (255, 128, 96)
 BLACK = (0, 128, 96)
 
 
-def record(stripe, layer, coder, x, y, width, height, resolution, colour, start, length):
-    """The 28 octets of a record."""
+def record(stripe, layer, coder, x, y, width, height, resolution, colour, start, length, grey=0):
+    """The 28 octets of a record, its fields as the listing has them."""
     return bytearray(LAYOUT.pack(stripe, layer, coder, x, y, width, height, resolution,
-                                 *colour, start, length))
+                                 *colour, grey, start, length))
 
 
 def put(sheet, number, field, value):

@@ -36,17 +36,19 @@ def random_record(rng, page, stripe, layer, height, coded):
     width, main = page
     even = layer % 2 == 0
     colour = (0, 0, 0) if even else [rng.randrange(256) for _ in range(3)]
-    coder, start, length = 0, 0, 0
+    coder, start, length, grey = 0, 0, 0, 0
     if coded:
         coder = rng.choice([1, 2, 4, 8]) if even else 1
         start, length = data(rng)
+        grey = 0 if even else rng.choice([0, 1])
     if layer == 2:
         return record(stripe, layer, coder, 0, 0, width, height, main, colour, start, length)
     if not coded:
         return record(stripe, layer, 0, 0, 0, 0, 0, main, colour, 0, 0)
     resolution = rng.choice([r for r in LISTED if main % r == 0])
     return record(stripe, layer, coder, number(rng, 0, 65535), number(rng, 0, 65535),
-                  number(rng, 1, 65535), number(rng, 1, 65535), resolution, colour, start, length)
+                  number(rng, 1, 65535), number(rng, 1, 65535), resolution, colour, start, length,
+                  grey)
 
 
 def good_sheet(rng, stripes=None, layers=None):
@@ -77,7 +79,7 @@ EDGES = {
     "start": [0, 1, 2 ** 24, TOP - 2, TOP - 1],
     "length": [0, 1, 2 ** 24, TOP - 1],
     "octet14": [0, 1], "octet15": [0, 1], "octet16": [0, 255],
-    "octet17": [0, 1, 128], "octet26": [0, 1], "octet27": [0, 1, 255],
+    "octet17": [0, 1, 1, 2, 128], "octet26": [0, 1], "octet27": [0, 1, 255],
 }
 
 

@@ -16,8 +16,8 @@ STACK = 16          # KiB for a reader: its sheet in the making takes 5,376 octe
 STARTS = 30         # the stack begins at a random octet, so that one start proves little
 SCAN = b"\xff\xd8" + fax() + frame() + scan()   # its data begins at 100 of a page
 END = b"\xff\xd9\xff\xd9"
-PLAIN = ["0 1 0 0 0 0 0 400 10 11 12 0 0", "0 2 0 0 0 1000 100 400 0 0 0 0 0",
-         "0 3 0 0 0 0 0 400 20 21 22 0 0"]
+PLAIN = ["0 1 0 0 0 0 0 400 10 11 12 0 0 0", "0 2 0 0 0 1000 100 400 0 0 0 0 0 0",
+         "0 3 0 0 0 0 0 400 20 21 22 0 0 0"]
 
 
 def listing(changed):
@@ -53,11 +53,11 @@ def layer_pages():
              b"\xff\xe0\xff\xff" + bytes(65533), frame_scan)]:
         page, units = filled(head + before, unit, behind + END)
         size = len(before) + units + len(behind)
-        yield name, page, listing("0 1 1 16 8 50 20 200 10 11 12 61 %d" % size)
+        yield name, page, listing("0 1 1 16 8 50 20 200 10 11 12 61 %d 0" % size)
 
 
 def other_pages():
-    mask = "0 2 4 0 0 1000 100 400 0 0 0 %d %d"
+    mask = "0 2 4 0 0 1000 100 400 0 0 0 %d %d 0"
     page, units = filled(start(), optional(), stripe() + MASK + END)
     yield "optional segments throughout", page, listing(mask % (22 + units + 39, 5))
     page, _ = filled(start() + stripe() + MASK + END, b"\0", b"")
@@ -87,8 +87,8 @@ def full_stripes():
     page, lines = start(), ""
     for number in range(64):
         at = len(page) + 39
-        lines += ("%d 1 1 16 8 50 20 200 10 11 12 %d %d\n%d 2 4 0 0 1000 1023 400 0 0 0 %d 5\n"
-                  "%d 3 1 32 4 50 20 200 20 21 22 %d %d\n"
+        lines += ("%d 1 1 16 8 50 20 200 10 11 12 %d %d 0\n%d 2 4 0 0 1000 1023 400 0 0 0 %d 5 0\n"
+                  "%d 3 1 32 4 50 20 200 20 21 22 %d %d 0\n"
                   % (number, at + 5, len(layer), number, at, number, at + 5 + len(layer),
                      len(layer)))
         page += one

@@ -29,9 +29,9 @@ def read_pages():
 def many_rows(length, walks=WALKS):
     """64 stripes, or fewer, whose image layers are all the data from 0 on."""
     for number in range(walks // 2):
-        yield [number, 1, 1, 0, 0, 50, 20, 200, 1, 2, 3, 0, length]
-        yield [number, 2, 8, 0, 0, 9, 9, 400, 0, 0, 0, 0, 1]
-        yield [number, 3, 1, 0, 0, 50, 20, 200, 1, 2, 3, 0, length]
+        yield [number, 1, 1, 0, 0, 50, 20, 200, 1, 2, 3, 0, length, 0]
+        yield [number, 2, 8, 0, 0, 9, 9, 400, 0, 0, 0, 0, 1, 0]
+        yield [number, 3, 1, 0, 0, 50, 20, 200, 1, 2, 3, 0, length, 0]
 
 
 def refused_works(walks):
@@ -49,7 +49,7 @@ def refused_works(walks):
     rows[0][12] -= 1
     rows[-1][5] += 1
     small = b"\xff\xd8" + picture[2:300] + b"\xff\xd9"
-    rows = [row[:12] + [min(row[12], len(small))] for row in rows]
+    rows = [row[:12] + [min(row[12], len(small)), row[13]] for row in rows]
     yield "the last record of 192", sheet_of(rows), small, "refused 16 191"
 
 
@@ -61,7 +61,7 @@ def works(walks):
     for name, sheet, data, answer in refused_works(walks):
         yield name, sheet, data, LONGEST, answer.encode() + b"\n"
     page = start(image=0) + stripe(x1=0, y1=0, x3=0, y3=0) + MASK + END
-    sheet = sheet_of(rows_of(test_limits.listing("0 2 4 0 0 1000 100 400 0 0 0 0 5")))
+    sheet = sheet_of(rows_of(test_limits.listing("0 2 4 0 0 1000 100 400 0 0 0 0 5 0")))
     yield "a mask", sheet, MASK, len(page), b"done %d\n" % len(page) + page
     # each is written with a null pointer for no octets too
     yield "no sheet", b"", MASK, 70, b"refused 14 0\n"

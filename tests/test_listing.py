@@ -21,11 +21,11 @@ LEAST_GOOD = SHEETS // 12
 LEAST_REFUSED = SHEETS // 3
 LARGEST = 26880
 
-# "A listing" of the paper
+# "A listing" of the paper; request 2026-07 ends its lines with octet 17
 EXAMPLE = """\
-0 1 0 0 0 0 0 200 255 128 96 0 0
-0 2 4 0 0 4 2 200 0 0 0 60 5
-0 3 0 0 0 0 0 200 0 128 96 0 0
+0 1 0 0 0 0 0 200 255 128 96 0 0 0
+0 2 4 0 0 4 2 200 0 0 0 60 5 0
+0 3 0 0 0 0 0 200 0 128 96 0 0 0
 """
 
 
@@ -53,7 +53,7 @@ def told_by(name, got, expected):
 def own_listing(sheet):
     """A good sheet's listing, from neither program."""
     fields = ["stripe", "layer", "coder", "x", "y", "width", "height", "resolution",
-              "octet14", "octet15", "octet16", "start", "length"]
+              "octet14", "octet15", "octet16", "start", "length", "octet17"]
     lines = (" ".join(str(sheet_making.get(sheet, k, field)) for field in fields)
              for k in range(len(sheet) // sheet_making.RECORD))
     return "".join(line + "\n" for line in lines)

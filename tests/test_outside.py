@@ -25,9 +25,9 @@ class Layer:
     """A stored layer and its line of the table."""
 
     def __init__(self, cells):
-        self.name, coder, width, height, resolution, size, has, _ = cells
+        self.name, coder, width, height, resolution, components, size, has, _ = cells
         self.coder, self.width, self.height, self.size = map(int, (coder, width, height, size))
-        self.resolution = int(resolution or 0)
+        self.resolution, self.components = int(resolution or 0), int(components or 0)
         self.has = [bytes.fromhex(octets) for octets in has.split()]
         with open(os.path.join(FOLDER, self.name), "rb") as file:
             self.octets = file.read()
@@ -41,7 +41,7 @@ class Layer:
 
 def stored():
     rows = page_making.rows(os.path.join(FOLDER, "README.md"))
-    return {cells[0]: Layer(cells) for cells in rows if len(cells) == 8 and cells[1].isdigit()}
+    return {cells[0]: Layer(cells) for cells in rows if len(cells) == 9 and cells[1].isdigit()}
 
 
 def filled(octets, fill):
@@ -88,11 +88,12 @@ class Page:
         return layer.coder, begin, layer.size
 
     def image_line(self, number, name, offset, colour, coded):
-        box = (0, 0, 0, 0, self.main)
+        box, grey = (0, 0, 0, 0, self.main), 0
         if name is not None:
             layer = self.layers[name]
             box = (*offset, layer.width, layer.height, layer.resolution)
-        return [self.stripes, number, coded[0], *box, *colour, *coded[1:]]
+            grey = int(layer.components == 1)
+        return [self.stripes, number, coded[0], *box, *colour, *coded[1:], grey]
 
     def stripe(self, mask=None, back=None, fore=None, height=60, at=((3, 5), (65535, 7))):
         """Adds a stripe of the layers named; `at` has the offsets of both image layers."""
@@ -103,7 +104,7 @@ class Page:
         coded = [self.put(mask), self.put(back), self.put(fore)]
         records = [self.image_line(1, back, at[0], (255, 128, 96), coded[1]),
                    [self.stripes, 2, coded[0][0], 0, 0, self.width, height, self.main, 0, 0, 0,
-                    *coded[0][1:]],
+                    *coded[0][1:], 0],
                    self.image_line(3, fore, at[1], (0, 128, 96), coded[2])]
         self.lines += "".join(" ".join(map(str, record)) + "\n" for record in records)
         self.stripes += 1

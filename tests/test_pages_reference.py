@@ -233,7 +233,7 @@ def check_good(tally, reader, rng):
 
 def without_data(lines):
     """A listing without where coded data stands and how long it is."""
-    return [line.split()[:-2] for line in lines.splitlines()]
+    return [line.split()[:11] + line.split()[13:] for line in lines.splitlines()]
 
 
 def check_padded(tally, reader, rng):

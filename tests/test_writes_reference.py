@@ -136,7 +136,7 @@ def check_positions(writer):
             is_data = run == 1 if code == 0x00 else code < 0xD8
             ends = at + run + 1 if code == 0xD9 else len(octets) if is_data else None
             for length in {at, at + 1, at + run, at + run + 1, len(octets)}:
-                rows = one_picture(1, (50, 20, 200), len(before), length)
+                rows = one_picture(1, (50, 20, 200, 0), len(before), length)
                 works.append(picture_work(
                     "%d FF and %02X in scan data at %d, a record of %d" % (run, code, k, length),
                     rows, before + octets + b"\xff\xd9", length == ends))

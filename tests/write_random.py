@@ -17,7 +17,7 @@ from sheet_random import LISTED, whole_records
 END = b"\xff\xd9\xff\xd9"
 LONGEST = 16777215
 STRIPE, LAYER, CODER, X, Y, WIDTH, HEIGHT, RESOLUTION = range(8)
-COLOUR, START, LENGTH = slice(8, 11), 11, 12
+COLOUR, START, LENGTH, GREY = slice(8, 11), 11, 12, 13
 
 
 def rows_of(lines):
@@ -53,12 +53,13 @@ def page_of(rows, data):
 
 
 def one_picture(layer, picture, start, length):
-    """The rows of a stripe with one image layer; `picture` is its width, height and
-    resolution."""
-    rows = [[0, each, 0, 0, 0, 0, 0, 1200, each, 0, 0, 0, 0] for each in (1, 2, 3)]
-    rows[1][5:] = [9, 9, 1200, 0, 0, 0, 0, 0]
-    rows[layer - 1][2:8] = [1, 0, 0, *picture]
-    rows[layer - 1][11:] = [start, length]
+    """The rows of a stripe with one image layer; `picture` is its width, height, resolution and
+    whether it is grey."""
+    rows = [[0, each, 0, 0, 0, 0, 0, 1200, each, 0, 0, 0, 0, 0] for each in (1, 2, 3)]
+    rows[1][5:] = [9, 9, 1200, 0, 0, 0, 0, 0, 0]
+    *box, grey = picture
+    rows[layer - 1][2:8] = [1, 0, 0, *box]
+    rows[layer - 1][START:] = [start, length, grey]
     return rows
 
 
@@ -111,6 +112,13 @@ def change_image(rng, rows, data):
     return rows, data
 
 
+def change_grey(rng, rows, data):
+    """Octet 17 the other way, as it was before there were grey layers, or one that no record has."""
+    row = rng.choice([row for row in rows if row[LENGTH] and row[LAYER] != 2] or rows)
+    row[GREY] = rng.choice([1 - row[GREY] % 2, 1 - row[GREY] % 2, 0, 2])
+    return rows, data
+
+
 def change_coder(rng, rows, data):
     row = rng.choice([row for row in rows if row[LAYER] == 2])
     row[CODER] = rng.choice([1, 2, 4, 8, 16])
@@ -132,7 +140,7 @@ def add_layers(rng, rows, data):
     main = rows[1][RESOLUTION]
     at = max(k for k, row in enumerate(rows) if row[STRIPE] == stripe) + 1
     top = rows[at - 1][LAYER]
-    return rows[:at] + [[stripe, top + k, 0, 0, 0, 0, 0, main, 0, 0, 0, 0, 0]
+    return rows[:at] + [[stripe, top + k, 0, 0, 0, 0, 0, main, 0, 0, 0, 0, 0, 0]
                         for k in (1, 2)] + rows[at:], data
 
 
@@ -144,8 +152,8 @@ def change_data(rng, rows, data):
     return rows, page_random.damaged(rng, data)
 
 
-CHANGES = [change_image, change_image, change_coder, change_place, change_place, add_layers,
-           cut_data, change_data, change_data, change_data]
+CHANGES = [change_image, change_image, change_grey, change_coder, change_place, change_place,
+           add_layers, cut_data, change_data, change_data, change_data]
 
 
 def damaged_work(rng):
@@ -169,7 +177,7 @@ def faulty_layer(rng):
 
 def record_row(sheet, k):
     fields = ["stripe", "layer", "coder", "x", "y", "width", "height", "resolution",
-              "octet14", "octet15", "octet16", "start", "length"]
+              "octet14", "octet15", "octet16", "start", "length", "grey"]
     return [sheet_making.get(sheet, k, field) for field in fields]
 
 
@@ -227,5 +235,5 @@ def is_mismatch(rows, k, data, found):
         return any(each[LAYER] == 2 and each[LENGTH] and each[CODER] != row[CODER]
                    for each in rows[:k])
     picture = found.get((main_of(rows), data[row[START]:row[START] + row[LENGTH]]))
-    same = (WIDTH, HEIGHT, RESOLUTION, LENGTH)
+    same = (WIDTH, HEIGHT, RESOLUTION, LENGTH, GREY)
     return picture is None or any(picture[field] != row[field] for field in same)
