@@ -145,6 +145,15 @@ def code_pages():
             yield made(what, "head1 soi fax frame scan %s%s eoi end" % (before, octets), answer)
 
 
+def count_pages():
+    """(what, page, answer): every count of components, in a background and in a foreground."""
+    for count in range(256):
+        for what, words, at in (("background", "head1 back(c=%d) end", 86),
+                                ("foreground", "start stripe(type=6) mask fore(c=%d) end", 91)):
+            answer = "done 3" if count in (1, 3) else "refused 11 %d" % at
+            yield made("a %s of %d components" % (what, count), words % count, answer)
+
+
 # what may stand in scan data, and where its fault is counted from its first octet, if it has one
 IN_DATA = [(b"\xff\x00", None), (b"\xff\xd0", None), (b"\xff\xd7", None), (b"\xff\x01", 2),
            (b"\xff\x02", 0), (b"\xff\xcf", 0), (b"\xff\xd8", 0), (b"\xff\xff\x00", 0),
@@ -280,7 +289,7 @@ def main():
     cases = page_making.table()
     check_table(tally, reader, cases)
     check_rooms(tally, plain, cases)
-    check_pages(tally, reader, [*code_pages(), *position_pages()])
+    check_pages(tally, reader, [*code_pages(), *count_pages(), *position_pages()])
     check_pages(tally, reader, [*fill_pages.run_pages(), *fill_pages.string_pages()])
     check_cuts(tally, plain, cases, random.Random(seed))
     check_cuts(tally, reader, cases[::12], random.Random(seed))
