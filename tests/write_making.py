@@ -11,17 +11,18 @@ import re
 
 import page_making
 import sheet_making
-from page_making import BACK, FORE, MASK
+from page_making import BACK, FORE, MASK, back, fore
 
 ROOM = 20000
 DATA = MASK + BACK + FORE
 ABSENT = {0: dict(x1=0, y1=0, x3=0, y3=0), 1: dict(x3=0, y3=0), 4: dict(x1=0, y1=0), 5: {}}
 PIECES = {2: MASK, 1: BACK, 4: FORE}  # in the order of the page
+GREYS = {2: MASK, 1: back(c=1), 4: fore(c=1)}
 
 
-def written(kind):
-    """`w1` to `w7`: the stripe of a type, absent layers' offsets 0."""
-    data = b"".join(octets for bit, octets in PIECES.items() if kind & bit)
+def written(kind, pieces=PIECES):
+    """`w1` to `w7`, or `g1` to `g7`: the stripe of a type, absent layers' offsets 0."""
+    data = b"".join(octets for bit, octets in pieces.items() if kind & bit)
     return lambda **settings: page_making.stripe(
         **{"type": kind, **ABSENT[kind & 5], **settings}) + data
 
@@ -34,8 +35,10 @@ def long(octets):
     return bare(mask=octets) + b"\x5a" * octets
 
 
-PARTS = {**page_making.PARTS, "all": lambda: DATA, "bare": bare, "long": long}
+PARTS = {**page_making.PARTS, "all": lambda: DATA, "bare": bare, "long": long,
+         "greys": lambda: b"".join(GREYS.values())}
 PARTS.update({"w%d" % kind: written(kind) for kind in (1, 2, 3, 4, 6, 7)})
+PARTS.update({"g%d" % kind: written(kind, GREYS) for kind in (1, 3, 4, 6, 7)})
 
 
 def octets_of(words):
