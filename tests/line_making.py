@@ -28,6 +28,26 @@ def base_colour(layer):
     return (200 + layer, 220 + layer, (240 + layer) % 256)
 
 
+def letter_number(letter):
+    number = ord(letter) - ord("a") + 1
+    assert 1 <= number <= 26, letter
+    return number
+
+
+def grey(lightness):
+    """The colour of a grey layer's sample."""
+    return bytes((lightness, 128, 96))
+
+
+def lightness(letter):
+    """The octet of a grey layer's sample: of a letter its number, of a named grey its first."""
+    if letter in NAMED:
+        octets = bytes(NAMED[letter])
+        assert octets == grey(octets[0]), letter
+        return octets[0]
+    return letter_number(letter)
+
+
 def colour(word):
     """The three octets of a colour's word."""
     if word in NAMED:
@@ -36,8 +56,9 @@ def colour(word):
         return bytes(base_colour(int(word[1:])))
     if word.startswith("#"):
         return bytes.fromhex(word[1:])
-    number = ord(word) - ord("a") + 1
-    assert 1 <= number <= 26, word
+    if re.fullmatch(r"g[a-z]", word):
+        return grey(letter_number(word[1]))
+    number = letter_number(word)
     return bytes((number, 50 + number, 100 + number))
 
 
@@ -50,15 +71,17 @@ class Stripe:
         self.width, self.height, self.main = width, height, main
         self.layers = {layer: dict(coder=0, x=0, y=0, width=0, height=0, resolution=main,
                                    colour=base_colour(layer) if layer % 2 else (0, 0, 0),
-                                   start=0, length=0) for layer in range(1, layers + 1)}
+                                   start=0, length=0, grey=0) for layer in range(1, layers + 1)}
         self.layers[2].update(width=width, height=height)
 
     def code(self, layer, **fields):
         self.layers[layer].update(coder=1, start=START, length=LENGTH, **fields)
 
     def word(self, word):
-        coded = CODED.fullmatch(word)
-        if word == "2":
+        coded, one_octet = CODED.fullmatch(word), re.fullmatch(r"(\d+)g", word)
+        if one_octet:
+            self.layers[int(one_octet[1])]["grey"] = 1
+        elif word == "2":
             self.code(2)
         elif word == "all":
             for layer in self.layers:
@@ -93,11 +116,13 @@ def stripes_of(words, kind=Stripe):
 
 # Samples
 
-def sample_octets(layer, words):
+def sample_octets(layer, is_grey, words):
     """The samples behind `L=`, and how many they are."""
     samples = []
     for letter, times in re.findall(r"(.)(?:\^(\d+))?", words.replace("/", "")):
-        if layer % 2 == 1:
+        if is_grey:
+            octets = bytes([lightness(letter)])
+        elif layer % 2 == 1:
             octets = colour(letter)
         else:
             octets = bytes([HIGH[letter] if letter in HIGH else int(letter)])
@@ -123,10 +148,9 @@ def read_of(words, stripe):
             planes += entry(*map(int, word.split("@")))
         else:
             layer, _, written = word.partition("=")
-            octets, count = sample_octets(int(layer), written)
-            if stripe is not None:
-                fields = stripe.layers[int(layer)]
-                assert count == fields["width"] * fields["height"], word
+            fields = {} if stripe is None else stripe.layers[int(layer)]
+            octets, count = sample_octets(int(layer), fields.get("grey", 0), written)
+            assert not fields or count == fields["width"] * fields["height"], word
             planes += entry(int(layer), len(samples))
             samples += octets
     return planes, samples

@@ -12,8 +12,8 @@ WIDEST = 40
 WIDER = 600          # now and then
 HIGHER = [256, 300, 32768, 65535]
 SIZES = [3, 3, 5, 5, 7, 9, 11, 13, 15, 15]
-# few colours, so that sides agree often; some differ in one octet only; that of unseen pixels is
-# one as any other
+# few colours, so that sides agree often, those of grey layers too; some differ in one octet only;
+# that of unseen pixels is one as any other
 COLOURS = [bytes(c) for c in ((255, 128, 96), (0, 128, 96), (0, 0, 0), (0, 128, 97), (0, 129, 96),
                               GREY)]
 ONES = [1, 1, 1, 2, 128, 255]
@@ -46,6 +46,7 @@ def code_layer(rng, stripe, layer):
     if layer == 2:
         stripe.code(2)
         return
+    stripe.layers[layer]["grey"] = rng.choice([0, 1]) if layer % 2 else 0
     if rng.random() < 0.25 and stripe.height not in HIGHER:
         stripe.code(layer, width=stripe.width, height=stripe.height)
         return
@@ -90,14 +91,20 @@ def layer_octets(rng, stripe, layer, colours):
     count = fields["width"] * fields["height"]
     if layer % 2 == 0:
         return mask_octets(rng, count, fields["width"])
+    if fields["grey"]:
+        colours = [octets[:1] for octets in colours]
     if rng.random() < 0.3:
         return rng.choice(colours) * count
     return b"".join(rng.choices(colours, k=count))
 
 
+def sample_size(stripe, layer):
+    return 3 if layer % 2 == 1 and not stripe.layers[layer]["grey"] else 1
+
+
 def layer_size(stripe, layer):
     fields = stripe.layers[layer]
-    return fields["width"] * fields["height"] * (1 if layer % 2 == 0 else 3)
+    return fields["width"] * fields["height"] * sample_size(stripe, layer)
 
 
 class Work:
@@ -180,9 +187,11 @@ class Work:
             return 0 if mask else bytes(fields["colour"])
         if layer not in self.planes:
             return None
-        number, size = row * fields["width"] + column, 1 if mask else 3
+        number, size = row * fields["width"] + column, sample_size(stripe, layer)
         at = self.planes[layer] + number * size
         octets = bytes(self.samples[at:at + size])
+        if fields["grey"]:
+            return octets + b"\x80\x60"
         return int(octets != b"\0") if mask else octets
 
     def colour_shown(self, stripe, x):
