@@ -15,7 +15,7 @@ import calls
 import reference_run
 import test_limits
 from line_making import Stripe, entry, with_unseen
-from line_random import Work
+from line_random import Work, sample_size
 from page_making import big
 from test_limits import in_stack
 
@@ -32,7 +32,8 @@ UNSEEN = {"line": None, "line_unseen": tuple(COLOURS[2])}
 # Wide lines of many layers
 
 class Wide(Work):
-    """64 stripes of fifteen layers, or fewer, all coded, on the widest page."""
+    """64 stripes of fifteen layers, or fewer, all coded, on the widest page; layers 3, 7, 11 and 15
+    are grey."""
 
     def __init__(self, rng, number, read, stripes=64):
         self.colours, self.planes, self.samples = COLOURS, {}, bytearray()
@@ -59,7 +60,7 @@ class Wide(Work):
                 stripe.code(layer, x=rng.randrange(50), height=1, resolution=resolution,
                             width=rng.choice([WIDEST * resolution // 1200, 60000]))
             if layer % 2 == 1:
-                fields["colour"] = COLOURS[0]
+                fields.update(colour=COLOURS[0], grey=int(layer % 4 == 3))
         return stripe
 
 
@@ -103,20 +104,20 @@ def wide_calls(works, beside, unseen):
 
 # Layers beyond 2^32 octets
 
-def far_stripe(width, layer, resolution=1200, x=0, y=0, size=LARGEST):
+def far_stripe(width, layer, resolution=1200, x=0, y=0, grey=0):
     """One stripe, the highest there is, with one layer of the largest size; mask 4 is over white,
     and what it shows is layer 5, black."""
     stripe = Stripe(width, LARGEST, 5, 1200)
     stripe.layers[1]["colour"], stripe.layers[5]["colour"] = COLOURS[0], COLOURS[1]
     if layer == 4:
         stripe.code(1, width=1, height=1, x=LARGEST)
-    stripe.code(layer, width=size, height=size, resolution=resolution, x=x, y=y)
+    stripe.code(layer, width=LARGEST, height=LARGEST, resolution=resolution, x=x, y=y, grey=grey)
     return stripe
 
 
 def far_octets(name, stripe, layer, line, start, lacking=0):
     """A call of line_far and what it prints. Every seventh sample of the line's row is told."""
-    fields, step = stripe.layers[layer], 1 if layer == 4 else 3
+    fields, step = stripe.layers[layer], sample_size(stripe, layer)
     k = 1200 // fields["resolution"]
     row = (line - fields["y"]) // k
     size = fields["width"] * fields["height"] * step
@@ -132,6 +133,7 @@ def far_octets(name, stripe, layer, line, start, lacking=0):
         if layer == 4:
             pixels.append(COLOURS[1] if sample != b"\0" else COLOURS[0])
         else:
+            sample += b"\x80\x60" * fields["grey"]
             pixels.append(sample if inside else bytes(fields["colour"]))
     sheet, planes = bytes(stripe.records(0)), entry(layer, start)
     told = told if not lacking else {}
@@ -146,24 +148,24 @@ def far_octets(name, stripe, layer, line, start, lacking=0):
 
 def far_calls():
     """(name, words, what is printed)"""
-    for layer in (1, 4):
-        stripe = far_stripe(300, layer)
+    for told, layer, grey in (("layer 1", 1, 0), ("grey layer 1", 1, 1), ("layer 4", 4, 0)):
+        stripe = far_stripe(300, layer, grey=grey)
         # rows before and behind 2^31 and 2^32 octets, and the last
         for line in (0, 1, 10922, 10923, 21845, 21846, 32768, 32769, 43690, 65534):
-            yield ("layer %d, line %d, from 2^32 - 1" % (layer, line),
+            yield ("%s, line %d, from 2^32 - 1" % (told, line),
                    *far_octets("line", stripe, layer, line, TOP - 1))
-        yield "layer %d from 0, the last line" % layer, *far_octets("line", stripe, layer, 65534, 0)
+        yield "%s from 0, the last line" % told, *far_octets("line", stripe, layer, 65534, 0)
         for name in UNSEEN:
-            yield ("%s, layer %d from 5, the last line" % (name, layer),
+            yield ("%s, %s from 5, the last line" % (name, told),
                    *far_octets(name, stripe, layer, 65534, 5))
-            yield ("%s, layer %d, an octet less" % (name, layer),
+            yield ("%s, %s, an octet less" % (name, told),
                    *far_octets(name, stripe, layer, 65534, TOP - 1, 1))
-            yield ("%s, layer %d, 2^32 octets less" % (name, layer),
+            yield ("%s, %s, 2^32 octets less" % (name, told),
                    *far_octets(name, stripe, layer, 65534, TOP - 1, TOP))
-            scaled = far_stripe(300, layer, 100, 17, 5)
-            yield ("%s, layer %d at 100" % (name, layer),
+            scaled = far_stripe(300, layer, 100, 17, 5, grey)
+            yield ("%s, %s at 100" % (name, told),
                    *far_octets(name, scaled, layer, 65534, TOP - 2))
-            yield ("%s, layer %d at 100, line 4" % (name, layer),
+            yield ("%s, %s at 100, line 4" % (name, told),
                    *far_octets(name, scaled, layer, 4, TOP - 2))
     widest = far_stripe(WIDEST, 1, 1200, 3, 0)
     yield "layer 1 across the widest page", *far_octets("line", widest, 1, 65534, TOP - 7)
