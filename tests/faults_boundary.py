@@ -14,6 +14,7 @@ import threading
 import boundary_making
 import calls
 import faults_fill
+import faults_grey
 import faults_unseen
 import fuzz
 import planting
@@ -90,6 +91,7 @@ FAULTS = [
     *answered("line_unseen", LINE_UNSEEN),
     *faults_unseen.OF_COLOUR,
     *faults_fill.OF_CALLS,
+    *faults_grey.OF_CALLS,
     ("line", "octets past the line 0", *before(
         LINE, "for (size_t k = shown.count; !shown.number && k < out_len; k++) out[k] = 0;")),
     ("line", "the last pixel seen", *before(LINE, "if (shown.count) out[shown.count - 1] = 1;")),

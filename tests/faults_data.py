@@ -8,6 +8,7 @@ fault that nobody finds.
 import sys
 
 import data_making
+import faults_grey
 import planting
 import reference_run
 
@@ -142,7 +143,7 @@ def main():
     cases = data_making.table()
     large = [case for case in cases if len(case.sheet) > FEW or max(case.lent) > 10 ** 6]
     groups = [[case for case in cases if case not in large], large]
-    return planting.check_table("data", FAULTS, groups, found_by)
+    return planting.check_table("data", FAULTS + faults_grey.THROUGH, groups, found_by)
 
 
 if __name__ == "__main__":

@@ -8,6 +8,7 @@ fault that nobody finds.
 
 import sys
 
+import faults_grey
 import faults_unseen
 import line_making
 import planting
@@ -86,7 +87,7 @@ FAULTS = [
     ("line.c", "a size of 16 bits", "uint64_t size = (uint64_t)r.width * r.height",
      "uint64_t size = (uint16_t)(r.width * r.height)"),
     ("line.c", "one octet a sample of every layer when judged",
-     "r.height * sample_size(plane.layer)", "r.height"),
+     "r.height * sample_size(r)", "r.height"),
     ("line.c", "only the rows down to the line must fit",
      "uint64_t size = (uint64_t)r.width * r.height",
      "uint64_t size = (uint64_t)r.width * (work->call->line + 1 < r.height ? "
@@ -214,8 +215,8 @@ FAULTS = [
      "colour_of(sample[2], sample[1], sample[0])"),
     ("line.c", "the third octet not read", "colour_of(sample[0], sample[1], sample[2])",
      "colour_of(sample[0], sample[1], sample[1])"),
-    ("line.c", "four octets an image sample", "(plane.start + number * sample_size(r.layer))",
-     "(plane.start + number * sample_size(r.layer) + (is_mask(r.layer) || number + 1 "
+    ("line.c", "four octets an image sample", "(plane.start + number * sample_size(r))",
+     "(plane.start + number * sample_size(r) + (is_mask(r.layer) || number + 1 "
      ">= r.width * r.height ? 0 : number))"),
     ("line.c", "samples from the first octet always", "(plane.start + number",
      "(0 * plane.start + number"),
@@ -328,8 +329,8 @@ def main():
     names, groups = zip(*groups_of(line_making.table()))
     of_calls = [(file, "%s: %s" % (call, what), old, new) for call, what, file, old, new
                 in faults_unseen.OF_COLOUR + faults_unseen.OF_LENT]
-    return planting.check_table("line", FAULTS + faults_unseen.SHARED + of_calls, groups, found_by,
-                                names)
+    faults = FAULTS + faults_unseen.SHARED + faults_grey.OF_LINE + faults_grey.THROUGH + of_calls
+    return planting.check_table("line", faults, groups, found_by, names)
 
 
 if __name__ == "__main__":

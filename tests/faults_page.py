@@ -8,6 +8,7 @@ fault that nobody finds.
 import sys
 
 import faults_fill
+import faults_grey
 import page_making
 import planting
 import reference_run
@@ -85,7 +86,6 @@ FAULTS = [
      "put(octets, 4, 2, record->x);", "put(octets, 4, 2, record->y);"),
     ("page.c", "a start in two octets", "put(octets, 18, 4, record->start);",
      "put(octets, 18, 4, record->start % 65536);"),
-    ("page.c", "octet 17 left as it was", "    put(octets, 17, 1, 0);\n", ""),
     ("page.c", "octet 27 left as it was", "put(octets, 26, 2, 0);", "put(octets, 26, 1, 0);"),
     ("stripe.c", "type 5 taken", "type == 5 || ", ""),
     ("stripe.c", "type 8 taken", "type > 7", "type > 8"),
@@ -166,6 +166,7 @@ FAULTS = [
     ("jpeg.c", "a marker without FF", "if (walk->page[due] != 0xFF) {", "if (false) {"),
     ("jpeg.c", "a layer without FF D8", "|| walk->page[start + 1] != 0xD8", ""),
     *faults_fill.OF_WALK, *faults_fill.OF_PLACES,
+    *faults_grey.OF_COUNTS, *faults_grey.OF_WALK, *faults_grey.OF_PLACES, *faults_grey.OF_READ,
     # what the driver has to see
     ("as_library.c", "a refusal changes an octet", "return same;",
      "if (same.number == 7 && sheet_len > 0) sheet[sheet_len - 1] ^= 1;\n    return same;"),

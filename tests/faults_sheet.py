@@ -9,6 +9,7 @@ import random
 import sys
 
 import calls
+import faults_grey
 import planting
 import reference_run
 import sheet_making
@@ -41,7 +42,6 @@ FAULTS = [
      "records_of_stripe(sheet, i, stripe) == 0"),
     ("N judged by stripe 0 at the end", "records_of_stripe(sheet, whole, last_stripe)",
      "records_of_stripe(sheet, whole, 0)"),
-    ("octet 17 free", "r.zero_at_17 != 0 || ", ""),
     ("mask coder 8 refused", " || r.coder == 8;", ";"),
     ("mask coder 3 taken", "r.coder == 2 ||", "r.coder == 2 || r.coder == 3 ||"),
     ("image coder 2 taken", "&& r.coder != 1)", "&& r.coder != 1 && r.coder != 2)"),
@@ -126,7 +126,8 @@ class Sheets:
 
 def main():
     tally = reference_run.Tally()
-    planting.check_all(tally, "faults_sheet", [("sheet.c", *fault) for fault in FAULTS],
+    faults = [("sheet.c", *fault) for fault in FAULTS]
+    planting.check_all(tally, "faults_sheet", faults + faults_grey.OF_SHEET + faults_grey.OF_LISTING,
                        Sheets().found_by)
     return tally.end()
 

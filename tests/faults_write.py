@@ -8,6 +8,7 @@ fault that nobody finds.
 import sys
 
 import faults_fill
+import faults_grey
 import planting
 import reference_run
 import write_making
@@ -102,6 +103,7 @@ FAULTS = [
     ("write.c", "the walk starts at 0", "jpeg_walk(source->data + r.start,",
      "jpeg_walk(source->data,"),
     *faults_fill.OF_WALK,
+    *faults_grey.OF_WALK, *faults_grey.OF_WRITE, *faults_grey.THROUGH,
     ("write.c", "the width is not looked at", "layer.width != r.width || ", ""),
     ("write.c", "the height is not looked at", "layer.height != r.height ||", ""),
     ("write.c", "the resolution is not looked at",

@@ -127,6 +127,13 @@ def change_coded(rng, sheet):
     return sheet
 
 
+def change_grey(rng, sheet):
+    """Octet 17 as a grey layer has it, in any record, or as none has it."""
+    if whole_records(sheet):
+        put(sheet, rng.randrange(whole_records(sheet)), "grey", rng.choice([1, 1, 1, 0, 2]))
+    return sheet
+
+
 def end_data(rng, sheet):
     """Data that ends just below 2^32, or at it, which is one too far."""
     coded = [k for k in range(whole_records(sheet)) if get(sheet, k, "length") > 1]
@@ -204,7 +211,8 @@ def extend(rng, sheet):
 
 CHANGES = [change_octet, change_octet, change_field, change_field, change_field, change_field,
            step_field, step_field, change_coded, change_coded, change_resolution,
-           change_resolution, end_data, cut, double, drop, swap, extend, extend]
+           change_resolution, change_grey, change_grey, end_data, cut, double, drop, swap, extend,
+           extend]
 
 
 def damaged(rng, sheet):
