@@ -23,6 +23,7 @@ DAMAGED = reference_run.trials(1800)
 LAYERS = reference_run.trials(900)
 POSITIONS = 140      # more than a reader looks at in one step
 LARGE = 10000        # a page above this is cut only at some octets
+TOGETHER = 3 * 10 ** 6    # octets of pages in one run of a reader: to begin takes its time too
 FIRST_CODED = 61     # no coded data of a Mode 1 page stands before this
 RECORD = 28
 SANITIZED = ("-O2", "-fsanitize=address,undefined", "-fno-sanitize-recover=all")
@@ -84,17 +85,45 @@ def check_table(tally, reader, cases):
             tally.check(inside(case.page, lines), "%s: data outside the page" % case.told())
 
 
+def runs(works):
+    """(case, numbers, pages)s in lists of those that one run of a reader is given."""
+    run, octets = [], 0
+    for work in works:
+        run.append(work)
+        octets += sum(len(page) for page, _ in work[2])
+        if octets > TOGETHER:
+            yield run
+            run, octets = [], 0
+    yield run
+
+
+def answered(reader, what, works):
+    """(case, numbers, what the reader prints) of each (case, numbers, pages), a page and a room for
+    each number; `what` a number is tells which page of the case it is."""
+    for run in runs(works):
+        told = ["%s, %s %d" % (case.told(), what, number) for case, numbers, _ in run
+                for number in numbers]
+        lines = iter(reader.lines_in_rooms(told.__getitem__, [
+            each for *_, pages in run for each in pages]))
+        for case, numbers, _ in run:
+            yield case, numbers, [next(lines) for _ in numbers]
+
+
+def in_rooms(cases):
+    """(case, rooms, pages): first in the room that it needs."""
+    for case in cases:
+        if case.answer.startswith("done") and len(case.page) <= LARGE:
+            least = RECORD * int(case.answer.split()[1])
+            rooms = [least, 0, 1, RECORD, least - RECORD, least - 1, least, least + 1,
+                     least + RECORD, 100000]
+            yield case, rooms, [(case.page, room) for room in rooms]
+
+
 def check_rooms(tally, reader, cases):
     """A page whose sheet has R records is read in any room from 28 R on, and in none below."""
-    good = [case for case in cases if case.answer.startswith("done") and len(case.page) <= LARGE]
-    for case in good:
-        least = RECORD * int(case.answer.split()[1])
-        rooms = [0, 1, RECORD, least - RECORD, least - 1, least, least + 1, least + RECORD, 100000]
-        whole, *answers = reader.lines_in_rooms(
-            lambda k, case=case, rooms=rooms: "%s, in room %s" % (case.told(), [least, *rooms][k]),
-            [(case.page, room) for room in [least, *rooms]])
-        wrong = [room for room, lines in zip(rooms, answers)
-                 if lines != (whole if room >= least else "refused 13 0\n")]
+    for case, rooms, (whole, *answers) in answered(reader, "in room", in_rooms(cases)):
+        wrong = [room for room, lines in zip(rooms[1:], answers)
+                 if lines != (whole if room >= rooms[0] else "refused 13 0\n")]
         tally.check(page_making.answer(whole) == case.answer and not wrong,
                     "%s: in room %s" % (case.told(), wrong))
 
@@ -212,21 +241,23 @@ def cuts(rng, page):
     return sorted({*range(120), rng.randrange(len(page)), len(page) - 2, len(page) - 1})
 
 
-def check_cuts(tally, reader, cases, rng):
-    made = 0
+def cut_pages(rng, cases):
+    """(case, sizes, pages): first the whole page."""
     for case in cases:
         # too long a page is not read at all, so its cuts need not resemble it
-        if case.room != page_making.ROOM or len(case.page) > 16777215:
-            continue
-        sizes = cuts(rng, case.page)
-        whole, *answers = reader.lines(
-            lambda k, case=case, sizes=sizes: "%s, cut at %d"
-            % (case.told(), [len(case.page), *sizes][k]),
-            [case.page] + [case.page[:size] for size in sizes])
-        wrong = [size for size, lines in zip(sizes, answers)
+        if case.room == page_making.ROOM and len(case.page) <= 16777215:
+            sizes = [len(case.page), *cuts(rng, case.page)]
+            pages = [case.page[:size] for size in sizes]
+            yield case, sizes, [(page, room_for(page)) for page in pages]
+
+
+def check_cuts(tally, reader, cases, rng):
+    made = 0
+    for case, sizes, (whole, *answers) in answered(reader, "cut at", cut_pages(rng, cases)):
+        wrong = [size for size, lines in zip(sizes[1:], answers)
                  if not is_good_cut(case.page, size, lines, whole)]
         tally.check(not wrong, "%s: cut at %s" % (case.told(), wrong[:5]))
-        made += len(sizes)
+        made += len(answers)
     print("%d cut pages" % made)
 
 
