@@ -38,7 +38,8 @@ OF_SHEET = [
                 "!is_even(r.layer) && (is_coded(r) || r.layer > 3)"),
     jpeg_layers("octet 17 in any record", "true"),
     jpeg_layers("octet 17 of layer 1 only", "is_coded(r) && r.layer == 1"),
-    jpeg_layers("octet 17 of layers 1 and 3 only", "is_coded(r) && !is_even(r.layer) && r.layer < 4"),
+    jpeg_layers("octet 17 of layers 1 and 3 only",
+                "is_coded(r) && !is_even(r.layer) && r.layer < 4"),
     jpeg_layers("no octet 17 of layer 15", "is_coded(r) && !is_even(r.layer) && r.layer < 15"),
 ]
 # those that show through every call that is lent a sheet
@@ -183,7 +184,8 @@ COLOUR = "return colour_of(lightness, 128, 96);"
 IS_GREY = "return r.grey == 1;"
 UNREAD = "        pixel->unread[layer] = true;\n        pixel->grey[layer] = is_grey(r);\n"
 BASE = "return colour_of(r.colour[0], r.colour[1], r.colour[2]);"
-FOUND = "        struct record r = sheet_record(call->sheet, i);\n        if (r.stripe == call->stripe) {"
+FOUND = ("        struct record r = sheet_record(call->sheet, i);\n"
+         "        if (r.stripe == call->stripe) {")
 
 
 def coloured(what, octets):
@@ -200,7 +202,8 @@ def known(what, colour):
 
 OF_LINE = [
     ("line.c", "three octets a grey sample", SIZE, "return is_mask(r.layer) ? 1 : 3;"),
-    ("line.c", "two octets a grey sample", SIZE, "return is_mask(r.layer) ? 1 : is_grey(r) ? 2 : 3;"),
+    ("line.c", "two octets a grey sample", SIZE,
+     "return is_mask(r.layer) ? 1 : is_grey(r) ? 2 : 3;"),
     ("line.c", "one octet a sample wherever a layer is grey", SIZE,
      "static bool any; any = any || is_grey(r); return is_mask(r.layer) || any ? 1 : 3;"),
     ("line.c", "three octets a grey sample when judged", "r.height * sample_size(r)",
@@ -260,7 +263,7 @@ OFTEN = {
     "data": ("octet 17 is 0, as before", "octet 17 free"),
 }
 OFTEN["line_unseen"] = OFTEN["line"]
-ALL_OF = {"read": OF_COUNTS + OF_WALK + OF_PLACES + OF_READ, "write": OF_WALK + OF_WRITE, "line": OF_LINE,
-          "line_unseen": OF_LINE, "judge": OF_SHEET, "data": OF_SHEET}
+ALL_OF = {"read": OF_COUNTS + OF_WALK + OF_PLACES + OF_READ, "write": OF_WALK + OF_WRITE,
+          "line": OF_LINE, "line_unseen": OF_LINE, "judge": OF_SHEET, "data": OF_SHEET}
 OF_CALLS = [(call, what, file, old, new) for call, faults in ALL_OF.items()
             for file, what, old, new in faults if what in OFTEN[call]]

@@ -107,8 +107,8 @@ def check_scenes(tally, whom, scenes, changes):
     numbers = check_alike(tally, whom, "damaged scene", *(
         list(map(damaged, works, changes)) for works in zip(*scenes)))
     for number in (0, 13, 14, 15, 17):
-        tally.check(numbers.count(number) >= SCENES // 30, "only %d damaged scenes have the answer %d"
-                    % (numbers.count(number), number))
+        tally.check(numbers.count(number) >= SCENES // 30,
+                    "only %d damaged scenes have the answer %d" % (numbers.count(number), number))
 
 
 # Every lightness, in every image layer
@@ -209,8 +209,8 @@ def main():
         check_scenes(tally, each, scenes, changes)
         check_lightness(tally, each)
         check_turned(tally, each, pages)
-        print("%s: %d scenes in grey and in colour, as they are and damaged; %d sheets with octet 17 "
-              "turned over" % (each.told, len(scenes), len(pages)))
+        print("%s: %d scenes in grey and in colour, as they are and damaged; %d sheets with octet "
+              "17 turned over" % (each.told, len(scenes), len(pages)))
     return tally.end()
 
 
