@@ -24,14 +24,22 @@
 extern "C" {
 #endif
 
-/* The first number changes with a call or struct that viewers link, the second with a call that is
- * added or with pages that are read and were not. */
+/* The first number, which is the shared object's too, changes with a call or struct that viewers
+ * link, and with what they must lend a call; the second with a call that is added or with pages that
+ * are read and were not. */
 /* 1.1.0: spirerook_judge.
  * 1.2.0: spirerook_line_unseen; unseen pixels of spirerook_line are 128 128 96 0, no longer 0 0 0 0
  *        (what a program does that looks for those: at spirerook_line_unseen).
  * 1.3.0: octets FF before a marker of a JPEG layer are fill; such pages were BadLayer, and such
- *        layers Mismatch.  What was Done before is Done with the same octets. */
-#define SPIREROOK_VERSION "1.3.0"
+ *        layers Mismatch.  What was Done before is Done with the same octets.
+ * 2.0.0: grey layers.  Octet 17 of a record is 1 where its JPEG data has one component
+ *        (spirerook_record_grey), and the samples of such a layer are one octet each, no longer
+ *        three.  A program of before would lend three, and be shown a wrong picture without a
+ *        refusal: it must be changed and compiled anew (docs/C-API.md, "Grey layers").
+ *        JPEG data of components other than one and three was read, and is BadLayer.
+ *        A sheet of before has octet 17 = 0 over one component too: it is kept, samples of that layer
+ *        stay three octets, and writing it is Mismatch. */
+#define SPIREROOK_VERSION "2.0.0"
 
 /* ---- Bounds ---- */
 
@@ -63,7 +71,9 @@ extern "C" {
  * decoders take it for that: their conversion of colours must be off.  With libjpeg, behind
  * jpeg_read_header and before jpeg_start_decompress:
  *   jpeg.jpeg_color_space = jpeg.out_color_space = JCS_YCbCr;
- * A layer of one component has lightness alone: each of its samples is widened by 128 96.
+ * A layer of one component has lightness alone (with libjpeg JCS_GRAYSCALE, for both).  It is a grey
+ * layer, spirerook_record_grey is 1: its samples are one octet each, the lightness, and nobody
+ * widens them; spirerook_line gives the colour, the octet and 128 96 behind it.
  * For a screen, spirerook_lab_to_srgb in spirerook_colour.h makes sRGB of a colour. */
 
 /* The colour that spirerook_line gives unseen pixels, a middle grey: three octets, as three
@@ -160,7 +170,9 @@ enum { SPIREROOK_FROM_PAGE = 0, SPIREROOK_FROM_PENCIL = 1 };
  *     BadLayer, Trailing: the first fault in the order of the page's octets.  The place is the
  *     first octet of the field at fault, from 0; it equals the page's length where a field is due
  *     at its end.  A marker of a JPEG layer may have any number of octets FF before it, but for the
- *     layer's first, and its place is the first of them.  The page's own markers have none.
+ *     layer's first, and its place is the first of them.  The page's own markers have none.  A
+ *     frame of components other than one and three is BadLayer at the octet that counts them, which is
+ *     judged behind height and width.
  *   NoRoom, place 0: 28 octets a record do not fit.
  *   Done.  Octets behind the records stay as they were. */
 spirerook_answer spirerook_read(const uint8_t *page, size_t page_len, uint8_t *sheet,
@@ -175,8 +187,8 @@ spirerook_answer spirerook_read(const uint8_t *page, size_t page_len, uint8_t *s
  *     more was due.
  *   BadMode: the first record of a layer above 3.
  *   Short or Mismatch, record by record: coded data passes the end of the data (Short, judged
- *     first); or an image's data is not just the JPEG layer that its record tells, or a mask's
- *     coder is not that of an earlier coded mask (Mismatch).
+ *     first); or an image's data is not just the JPEG layer that its record tells, its components
+ *     by octet 17 among that, or a mask's coder is not that of an earlier coded mask (Mismatch).
  *   TooLong, place 0: the page would have more than SPIREROOK_PAGE_OCTETS octets.
  *   NoRoom, place 0: the page does not fit.
  *   Done.  Octets behind the page stay as they were.
@@ -193,8 +205,10 @@ spirerook_answer spirerook_write(const uint8_t *sheet, size_t sheet_len, const u
  * Lent: the sheet, the plane list and the samples, for reading; room for the line, for writing.
  * The plane list tells which coded layers of the stripe were read: entries of five octets, the
  * layer and four of its start in the samples, layers rising.  From its start a layer has its own
- * width by height, row by row, one octet a sample of a mask (0 is 0, all else 1) and three of an
- * image layer.  Layers may share samples; coded layers that are not listed are unread.
+ * width by height, row by row, one octet a sample of a mask (0 is 0, all else 1), one of a grey layer
+ * (its colour is that octet, 128, 96) and three of any other image layer: so many octets as
+ * spirerook_record_samples says.  Layers may share samples; coded layers that are not listed are
+ * unread.  An unread grey layer holds some grey, and no other colour.
  * Numbers, in this order:
  *   BadSheet: the place is the first record that breaks a rule, from 0, or the number of whole
  *     records where one more was due.
@@ -288,6 +302,10 @@ static inline uint32_t spirerook_record_resolution(const uint8_t *record) { retu
 /* The three octets of the base colour. */
 static inline const uint8_t *spirerook_record_base(const uint8_t *record) { return record + 14; }
 
+/* 1 where the layer is grey: an image whose JPEG data has one component; 0 of all others, masks and
+ * layers that are not coded among them. */
+static inline uint32_t spirerook_record_grey(const uint8_t *record) { return record[17]; }
+
 /* Where the coded data stands. */
 static inline uint32_t spirerook_record_start(const uint8_t *record) { return spirerook_get4(record + 18); }
 static inline uint32_t spirerook_record_length(const uint8_t *record) { return spirerook_get4(record + 22); }
@@ -300,12 +318,13 @@ static inline int spirerook_record_mask(const uint8_t *record) { return record[2
 
 /* clang-format on */
 
-/* The octets that the layer's decoded samples take: one a sample of a mask, three of an image; 0
- * where it is not coded. */
+/* The octets that the layer's decoded samples take: one a sample of a mask and of a grey layer, three
+ * of any other image; 0 where it is not coded. */
 static inline uint64_t spirerook_record_samples(const uint8_t *record)
 {
     uint64_t count = (uint64_t)spirerook_record_width(record) * spirerook_record_height(record);
-    return spirerook_record_coded(record) ? count * (spirerook_record_mask(record) ? 1 : 3) : 0;
+    int one = spirerook_record_mask(record) || spirerook_record_grey(record) == 1;
+    return spirerook_record_coded(record) ? count * (one ? 1 : 3) : 0;
 }
 
 /* ---- Makers ---- */
@@ -335,6 +354,7 @@ typedef struct {
     uint32_t stripe, layer, coder, x, y, width, height, resolution;
     uint8_t base[3];
     uint32_t start, length;
+    uint32_t grey; /* 1 where JPEG data has one component, else 0 */
 } spirerook_record;
 
 /* A record: SPIREROOK_RECORD_OCTETS octets.  Whether it keeps the rules of a sheet, spirerook_judge
@@ -352,7 +372,7 @@ static inline void spirerook_put_record(uint8_t *record, const spirerook_record 
     record[14] = fields->base[0];
     record[15] = fields->base[1];
     record[16] = fields->base[2];
-    record[17] = 0;
+    record[17] = (uint8_t)(fields->grey & 255);
     spirerook_put4(record + 18, fields->start);
     spirerook_put4(record + 22, fields->length);
     spirerook_put2(record + 26, 0);

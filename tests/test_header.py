@@ -13,10 +13,8 @@ import sys
 
 import counts
 import reference_run
-import sheet_random
+import sheet_making
 import view_reference
-from sheet_making import record
-from write_random import record_row
 
 HEADER = os.path.join(reference_run.HEADERS, "spirerook.h")
 FOLDERS = ["-I", reference_run.HEADERS, "-I", os.path.join(reference_run.ROOT, "host")]
@@ -39,7 +37,11 @@ FACTS = {1: ["field", "coded data"], 2: ["marker", "ident"], 3: ["length", "segm
 COLOURS = ["CIELAB", "T.42", "D50", "L x 100/255", "(a - 128) x 170/255", "(b - 96) x 200/255",
            "White is 255 128 96, black 0 128 96", "Base colours", "samples of image layers",
            "pixels of a line", "not YCbCr", "conversion of colours must be off",
-           "jpeg_color_space = jpeg.out_color_space = JCS_YCbCr", "spirerook_colour.h"]
+           "jpeg_color_space = jpeg.out_color_space = JCS_YCbCr", "spirerook_colour.h",
+           "A layer of one component has lightness alone", "one octet each", "nobody widens them",
+           "the octet and 128 96 behind it"]
+FIELDS = ["stripe", "layer", "coder", "x", "y", "width", "height", "resolution", "octet14",
+          "octet15", "octet16", "start", "length", "octet17"]
 RECORDS = 300
 CODES = 4000         # random colours
 
@@ -99,25 +101,24 @@ def check_bounds(tally, program):
 
 
 def check_records(tally, program, rng):
-    """Each field from its own octets, and back."""
-    sheet = b"".join(bytes(record(
-        rng.randrange(65536), rng.randrange(256), rng.randrange(256), *(
-            rng.randrange(65536) for _ in range(5)), [rng.randrange(256) for _ in range(3)],
-        rng.randrange(2 ** 32), rng.choice([0, rng.randrange(2 ** 32)]))) for _ in range(RECORDS))
-    lines = reference_run.run(program, sheet, "records")[0].splitlines()
+    """Each field from its own octets, and back; all octets random, but lengths and octet 17 often
+    those that tell something."""
+    sheet = bytearray(rng.randbytes(28 * RECORDS))
+    for k in range(RECORDS):
+        if rng.random() < 0.5:
+            sheet_making.put(sheet, k, "length", 0)
+        if rng.random() < 0.8:
+            sheet_making.put(sheet, k, "octet17", rng.randrange(2))
+    lines = reference_run.run(program, bytes(sheet), "records")[0].splitlines()
     tally.check(len(lines) == 2 * RECORDS, "%d lines of records" % len(lines))
     for k in range(RECORDS):
-        row = record_row(sheet, k)
+        row = [sheet_making.get(sheet, k, field) for field in FIELDS]
         coded, mask = int(row[12] != 0), int(row[1] % 2 == 0)
-        samples = coded * row[5] * row[6] * (1 if mask else 3)
+        samples = coded * row[5] * row[6] * (1 if mask or row[13] == 1 else 3)
         due = " ".join(map(str, [*row, coded, mask, samples]))
         tally.check(lines[2 * k] == due, "record %d: %s is due, not %s" % (k, due, lines[2 * k]))
-        tally.check(lines[2 * k + 1] == sheet[28 * k:28 * k + 28].hex(),
-                    "record %d made again: %s" % (k, lines[2 * k + 1]))
-    dirty = bytearray(sheet_random.good_sheet(rng, stripes=1, layers=3))
-    dirty[17], dirty[26], dirty[27] = 1, 2, 3
-    made = reference_run.run(program, bytes(dirty), "records")[0].splitlines()[1]
-    tally.check(made[34:36] == "00" and made[52:] == "0000", "zeros of a record: %s" % made)
+        due = sheet[28 * k:28 * k + 26].hex() + "0000"      # the last two octets are no field
+        tally.check(lines[2 * k + 1] == due, "record %d made again: %s" % (k, lines[2 * k + 1]))
 
 
 def check_planes(tally, program):

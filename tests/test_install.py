@@ -30,7 +30,7 @@ int main(void)
 """
 PAGE = start() + stripe() + MASK + b"\xff\xd9\xff\xd9"
 FILES = ["include/spirerook.h", "include/spirerook_colour.h", "lib/libspirerook.a", "lib/libspirerook.so",
-         "lib/libspirerook.so.1", "lib/libspirerook.so.%s", "lib/pkgconfig/spirerook.pc"]
+         "lib/libspirerook.so.2", "lib/libspirerook.so.%s", "lib/pkgconfig/spirerook.pc"]
 
 
 def make(*words):
@@ -73,14 +73,14 @@ def check_program(tally, prefix, folder, how, flags):
         tally.check((ran.returncode, ran.stdout) == due, "%s: %s" % (how, ran))
     needed = subprocess.run(["readelf", "-d", program], check=True,
                             stdout=subprocess.PIPE).stdout.decode()
-    tally.check(("libspirerook.so.1" in needed) == (how == "shared"), "%s links %s" % (how, needed))
+    tally.check(("libspirerook.so.2" in needed) == (how == "shared"), "%s links %s" % (how, needed))
 
 
 def check_shared(tally, path):
     """Its soname, no text relocation, no stack that can be executed, only calls exported."""
     told = subprocess.run(["readelf", "-Wdl", path], check=True,
                           stdout=subprocess.PIPE).stdout.decode()
-    tally.check("soname: [libspirerook.so.1]" in told, "no soname:\n%s" % told)
+    tally.check("soname: [libspirerook.so.2]" in told, "no soname:\n%s" % told)
     tally.check("TEXTREL" not in told, "text is relocated:\n%s" % told)
     stack = re.search(r"GNU_STACK.*", told)
     tally.check(stack is not None and "RWE" not in stack[0], "the stack: %s" % stack)

@@ -4,9 +4,10 @@
  *   header numbers   a line a number from 0 to 20: number, name, text
  *   header bounds    a line a constant: its value and its name
  *   header records   28 octets a record from standard input: a line of its
- *                    fields each, as "A listing" has them, then whether it is
- *                    coded and a mask, and the octets of its samples; the same
- *                    record made again of its fields follows in hexadecimal
+ *                    fields each, as "A listing" has them, octet 17 last; then
+ *                    whether it is coded and a mask, and the octets of its
+ *                    samples; the same record made again of its fields follows
+ *                    in hexadecimal
  *   header planes    lines of a layer and a start: the entry in hexadecimal
  *   header colours   three octets a colour from standard input: its sRGB in
  *                    hexadecimal
@@ -95,6 +96,7 @@ static spirerook_record fields_of(const uint8_t *record)
     memcpy(fields.base, spirerook_record_base(record), sizeof fields.base);
     fields.start = spirerook_record_start(record);
     fields.length = spirerook_record_length(record);
+    fields.grey = spirerook_record_grey(record);
     return fields;
 }
 
@@ -102,10 +104,10 @@ static void print_record(const uint8_t *record)
 {
     spirerook_record r = fields_of(record);
     uint8_t again[SPIREROOK_RECORD_OCTETS];
-    printf("%u %u %u %u %u %u %u %u %u %u %u %u %u ", (unsigned)r.stripe, (unsigned)r.layer,
+    printf("%u %u %u %u %u %u %u %u %u %u %u %u %u %u ", (unsigned)r.stripe, (unsigned)r.layer,
            (unsigned)r.coder, (unsigned)r.x, (unsigned)r.y, (unsigned)r.width, (unsigned)r.height,
            (unsigned)r.resolution, (unsigned)r.base[0], (unsigned)r.base[1], (unsigned)r.base[2],
-           (unsigned)r.start, (unsigned)r.length);
+           (unsigned)r.start, (unsigned)r.length, (unsigned)r.grey);
     printf("%d %d %llu\n", spirerook_record_coded(record), spirerook_record_mask(record),
            (unsigned long long)spirerook_record_samples(record));
     memset(again, 0xEE, sizeof again);
