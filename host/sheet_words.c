@@ -60,7 +60,7 @@ static bool out_of_order(const asked *of)
 
 static bool not_zero(const asked *of)
 {
-    return of->at[17] != 0 || of->at[26] != 0 || of->at[27] != 0;
+    return of->at[26] != 0 || of->at[27] != 0;
 }
 
 static bool stripe_gap(const asked *of)
@@ -117,6 +117,14 @@ static bool mask_coder(const asked *of)
 static bool image_coder(const asked *of)
 {
     return is_coded(of) && !spirerook_record_mask(of->at) && spirerook_record_coder(of->at) != 1;
+}
+
+static bool not_grey(const asked *of)
+{
+    uint32_t grey = spirerook_record_grey(of->at);
+    bool may_be = is_coded(of) && !spirerook_record_mask(of->at) &&
+                  spirerook_record_coder(of->at) == 1;
+    return grey > (may_be ? 1 : 0);
 }
 
 static bool no_samples(const asked *of)
@@ -274,7 +282,7 @@ static const struct {
 } rules[] = {
     {too_many, "a sheet has at most 960 records"},
     {out_of_order, "records must stand in order of stripe, and in a stripe of layer"},
-    {not_zero, "octets 17, 26 and 27 of a record must be 0"},
+    {not_zero, "octets 26 and 27 of a record must be 0"},
     {stripe_gap, "stripes must run 0, 1, 2 with no gap"},
     {stripe_high, "a sheet has at most 64 stripes"},
     {layer_gap, "a stripe's layers must run 1, 2, 3 with no gap"},
@@ -283,6 +291,7 @@ static const struct {
     {ends_badly, "the stripe before must end with an odd layer, 3 or above"},
     {mask_coder, "a coded mask's coder must be 1, 2, 4 or 8"},
     {image_coder, "a coded image's coder must be 1"},
+    {not_grey, "octet 17 of a record must be 0, or 1 in that of a coded image of coder 1"},
     {no_samples, "a coded layer's width and height must not be 0"},
     {data_far, "a coded layer's start plus its length must be below 2^32"},
     {uncoded_coder, "a layer that is not coded must have coder 0"},

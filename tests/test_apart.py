@@ -343,7 +343,7 @@ def check_load(tally, desk):
         one.kill()
         one.wait()
     print("a decoder of less than a second took %.1f s beside %d others" % (spent, len(busy)))
-    tally.check("layer 1: JPEG, %d by %d at 1200 to the inch: read" % (side, side) in shown.told,
+    tally.check("layer 1: JPEG, %d by %d at 1200 to the inch, grey: read" % (side, side) in shown.told,
                 "under load: %s" % shown.told)
 
 

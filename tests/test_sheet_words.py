@@ -34,7 +34,7 @@ class Record:
         (self.stripe, self.layer, self.coder, self.x, self.y, self.width, self.height,
          self.resolution) = (int.from_bytes(octets[at:at + size], "big") for at, size in (
              (0, 2), (2, 1), (3, 1), (4, 2), (6, 2), (8, 2), (10, 2), (12, 2)))
-        self.base, self.zeros = octets[14:17], octets[17:18] + octets[26:28]
+        self.base, self.grey, self.zeros = octets[14:17], octets[17], octets[26:28]
         self.start, self.length = (int.from_bytes(octets[at:at + 4], "big") for at in (18, 22))
         self.is_coded, self.is_even = self.length != 0, self.layer % 2 == 0
 
@@ -90,7 +90,7 @@ RULES = [
     ("a sheet has at most 960 records", lambda s: len(s.up_to) > 64 * 15),
     ("records must stand in order of stripe, and in a stripe of layer", lambda s: any(
         (each.stripe, each.layer) > (s.one.stripe, s.one.layer) for each in s.before)),
-    ("octets 17, 26 and 27 of a record must be 0", lambda s: any(s.one.zeros)),
+    ("octets 26 and 27 of a record must be 0", lambda s: any(s.one.zeros)),
     ("stripes must run 0, 1, 2 with no gap", lambda s: any(
         not s.stripe(number) for number in range(s.one.stripe))),
     ("a sheet has at most 64 stripes", lambda s: len({each.stripe for each in s.up_to}) > 64),
@@ -103,6 +103,9 @@ RULES = [
      and s.one.coder not in (1, 2, 4, 8)),
     ("a coded image's coder must be 1", lambda s: s.one.is_coded and not s.one.is_even
      and s.one.coder != 1),
+    ("octet 17 of a record must be 0, or 1 in that of a coded image of coder 1",
+     lambda s: s.one.grey > 1 or s.one.grey == 1 and not (
+         s.one.is_coded and not s.one.is_even and s.one.coder == 1)),
     ("a coded layer's width and height must not be 0", lambda s: s.one.is_coded
      and 0 in (s.one.width, s.one.height)),
     ("a coded layer's start plus its length must be below 2^32", lambda s: s.one.is_coded
@@ -179,6 +182,11 @@ def crafted():
         sheet = sheet_making.base_sheet("plain(1,5)")
         sheet_making.put(sheet, 3, name, 7)
         yield bytes(sheet)
+    for kind, record_of, octet in (("coded", 1, 1), ("coded", 3, 1), ("plain", 4, 1), ("coded", 0, 2),
+                                   ("coded", 4, 255), ("plain", 0, 128)):
+        sheet = sheet_making.base_sheet(kind + "(1,5)")
+        sheet_making.put(sheet, record_of, "octet17", octet)
+        yield bytes(sheet)
 
 
 def check_words(tally, program, rng):
@@ -212,6 +220,7 @@ def check_viewer(tally, folder):
     good = make_kit.read(os.path.join(folder, "s"))
     for name, place, words in (
             ("3.octet14=1", 3, "a mask's base colour must be 0 0 0"),
+            ("3.octet17=1", 3, "octet 17 of a record must be 0, or 1 in that of a coded image of coder 1"),
             ("4.layer=7", 4, "a stripe's layers must run 1, 2, 3 with no gap"),
             ("1.height=0", 1, "a coded layer's width and height must not be 0"),
             ("cut 139", 4, "a sheet must end with a whole record of 28 octets"),

@@ -76,9 +76,9 @@ def check_told(results, name, page, shown, stripe):
             if not layer.is_coded():
                 due += "not coded, (colour %d %d %d|[01]) all over$" % layer.base
             else:
-                due += "%s, %d by %d at %d to the inch: %s" % (
+                due += "%s, %d by %d at %d to the inch%s: %s" % (
                     view_making.MASK_CODERS[layer.coder] if layer.is_mask() else "JPEG",
-                    layer.width, layer.height, layer.resolution,
+                    layer.width, layer.height, layer.resolution, ", grey" if layer.grey else "",
                     "UNREAD: asked for by --unread; " if layer.unread else "read$")
             found = re.findall(due, shown.told, re.M)
             place = "pencil" if layer.number > 3 else "page"
@@ -180,8 +180,9 @@ def colour_pages(rng, coders):
     for lightness in range(0, 256, 64):   # all greys, which must be grey on the screen too
         layers = three(200)
         row = [(lightness + n // 8, 128, 96) for n in range(512)]
-        coders.code(layers[0], 1, [row] * 8)
-        yield "greys", Page(512, 200, 4).add(layers, 8)
+        for words in ((), ("grey",)):
+            coders.code(layers[0], 1, [row] * 8, words=words)
+            yield "greys %s" % (words,), Page(512, 200, 4).add(layers, 8)
 
 
 def check_colours(results, coders, rng):
@@ -197,7 +198,8 @@ def check_colours(results, coders, rng):
 # Outside layers
 
 def decoded(coders, program, layer):
-    """The rows of a stored JPEG by libjpeg; grey as lightness with neutral colour."""
+    """The rows of a stored JPEG by libjpeg, grey as lightness with neutral colour; and whether it is
+    grey."""
     octets = coders.run([program], layer.octets)
     head, samples = re.match(rb"P(\d) (\d+) (\d+) 255\n", octets), octets
     kind, width, height = map(int, head.groups())
@@ -206,14 +208,14 @@ def decoded(coders, program, layer):
         pixels = [(value, 128, 96) for value in samples]
     else:
         pixels = [tuple(samples[k:k + 3]) for k in range(0, len(samples), 3)]
-    return [pixels[y * width:(y + 1) * width] for y in range(height)]
+    return [pixels[y * width:(y + 1) * width] for y in range(height)], kind == 5
 
 
-def stored_layer(number, stored, rows, main):
+def stored_layer(number, stored, rows, main, grey=False):
     layer = view_reference.Layer(number, (0, 0, 0) if number == 2 else (60, 100, 90), main)
     layer.coder, layer.rows, layer.data = stored.coder, rows, stored.octets
     layer.width, layer.height = len(rows[0]), len(rows)
-    layer.resolution = stored.resolution or main
+    layer.resolution, layer.grey = stored.resolution or main, grey
     return layer
 
 
@@ -232,10 +234,10 @@ def outside_pages(coders, program, layers):
             yield name, Page(208, 400, stored.coder).add(three_layers, 60)
         elif stored.resolution != 12343:
             main = 1200 if stored.resolution in (300, 600) else 400
-            rows = decoded(coders, program, stored)
+            rows, grey = decoded(coders, program, stored)
             for number in (1, 3):
                 three_layers = three(main)
-                three_layers[number - 1] = stored_layer(number, stored, rows, main)
+                three_layers[number - 1] = stored_layer(number, stored, rows, main, grey)
                 yield name, Page(300, main, 4).add(three_layers, 150)
 
 
@@ -261,10 +263,11 @@ def check_outside(results, coders, program):
 
 def check_exact(results, coders, program, rng):
     """The random pages' JPEG layers decode to just their samples."""
-    for words in ((), ("progressive",), ("restart",), ("dense",)):
+    for words in ((), ("progressive",), ("restart",), ("dense",), ("grey",), ("progressive", "grey")):
         rows = view_making.random_image(rng, 93, 71, [WHITE])
         octets = coders.run([program], coders.jpeg(200, rows, *words))
-        samples = b"".join(bytes(part for codes in row for part in codes) for row in rows)
+        parts = 1 if "grey" in words else 3
+        samples = b"".join(bytes(part for codes in row for part in codes[:parts]) for row in rows)
         results.check(octets.endswith(b"\n" + samples), "JPEG %s is not exact" % (words,))
 
 

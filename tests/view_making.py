@@ -97,13 +97,16 @@ class Coders:
         return read(coded)
 
     def jpeg(self, resolution, rows, *words, quality=100):
-        head = b"P6 %d %d 255\n" % (len(rows[0]), len(rows))
-        samples = b"".join(bytes(part for codes in row for part in codes) for row in rows)
+        """Of three components, or of one where the words have `grey`: the lightness alone."""
+        kind, parts = (b"P5", 1) if "grey" in words else (b"P6", 3)
+        head = b"%s %d %d 255\n" % (kind, len(rows[0]), len(rows))
+        samples = b"".join(bytes(part for codes in row for part in codes[:parts]) for row in rows)
         return self.run([self.lab_jpeg, str(resolution), str(quality), *words], head + samples)
 
     def code(self, layer, coder, rows, x=0, y=0, words=()):
         """Fills a layer, whose resolution is set."""
         layer.coder, layer.rows, layer.x, layer.y = coder, rows, x, y
+        layer.grey = "grey" in words
         layer.width, layer.height = len(rows[0]), len(rows)
         layer.data = (self.mask(coder, rows) if layer.is_mask()
                       else self.jpeg(layer.resolution, rows, *words))
@@ -179,6 +182,7 @@ class Page:
                     number, layer.number, layer.coder, layer.x, layer.y, *size,
                     layer.resolution if layer.is_coded() else self.main, layer.base, start,
                     len(layer.data))
+                sheet_making.put(sheet, len(sheet) // 28 - 1, "octet17", int(layer.grey))
         return bytes(sheet), bytes(pencil)
 
 
@@ -205,13 +209,17 @@ def random_colour(rng, few):
     return rng.choice(few) if rng.random() < 0.5 else tuple(rng.randrange(256) for _ in range(3))
 
 
-def random_image(rng, width, height, few):
+def random_grey(rng, few):
+    return (random_colour(rng, few)[0], 128, 96)
+
+
+def random_image(rng, width, height, few, colour=random_colour):
     """Constant over each block of eight by eight, which JPEG of quality 100 keeps exactly."""
     across = (width + 7) // 8
     rows = []
     for y in range(height):
         if y % 8 == 0:
-            blocks = [random_colour(rng, few) for _ in range(across)]
+            blocks = [colour(rng, few) for _ in range(across)]
             row = [codes for codes in blocks for _ in range(8)][:width]
         rows.append(row)
     return rows
@@ -237,6 +245,9 @@ def random_layer(rng, coders, layer, page, height, few):
     if layer.is_mask():
         return coders.code(layer, rng.choice(list(MASK_CODERS)), random_mask(rng, width, rows), x, y)
     words = rng.choice([(), ("progressive",), ("restart",), ("dense",)])
+    if rng.random() < 0.4:
+        return coders.code(layer, 1, random_image(rng, width, rows, few, random_grey), x, y,
+                           (*words, "grey"))
     return coders.code(layer, 1, random_image(rng, width, rows, few), x, y, words)
 
 

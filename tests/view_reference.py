@@ -10,7 +10,8 @@ import itertools
 import struct
 import zlib
 
-UNKNOWN = "unknown"
+UNKNOWN, UNKNOWN_GREY = "unknown", "unknown grey"
+GREYS = tuple((lightness, 128, 96) for lightness in range(256))
 UNSEEN = None
 MAGENTA, GREEN = (255, 0, 255), (0, 255, 0)
 SQUARE = 16
@@ -19,13 +20,14 @@ SQUARE = 16
 class Layer:
     """A layer's record, the samples that its coder was given, and whether it is read.
 
-    `rows` holds 0 or 1 for a mask, three codes for an image; None if nothing is coded.
+    `rows` holds 0 or 1 for a mask, three codes for an image; None if nothing is coded. A grey layer
+    has greys only, three codes each here too.
     """
 
     def __init__(self, number, base=(0, 0, 0), resolution=0):
         self.number, self.base, self.resolution = number, base, resolution
         self.coder = self.x = self.y = self.width = self.height = 0
-        self.rows, self.data, self.unread = None, b"", False
+        self.rows, self.data, self.unread, self.grey = None, b"", False, False
 
     def is_mask(self):
         return self.number % 2 == 0
@@ -38,7 +40,7 @@ class Layer:
 
 
 def contents_of_row(layer, main, width, y, layer_3_is_coded):
-    """What a layer holds at each pixel of a line: a sample, or UNKNOWN."""
+    """What a layer holds at each pixel of a line: a sample, UNKNOWN, or UNKNOWN_GREY."""
     if not layer.is_coded():
         alone = 1 if layer.number == 2 and layer_3_is_coded else layer.outside()
         return [alone] * width
@@ -49,7 +51,7 @@ def contents_of_row(layer, main, width, y, layer_3_is_coded):
         if not (inside_y and 0 <= x - layer.x < layer.width * k):
             row.append(outside)
         elif layer.unread:
-            row.append(UNKNOWN)
+            row.append(UNKNOWN_GREY if layer.grey else UNKNOWN)
         else:
             row.append(layer.rows[(y - layer.y) // k][(x - layer.x) // k])
     return row
@@ -57,7 +59,9 @@ def contents_of_row(layer, main, width, y, layer_3_is_coded):
 
 def possible(number, content):
     """The contents that a place may have. Three colours that occur nowhere else stand for all the
-    colours of an unread image: if they cannot tell, no others can."""
+    colours of an unread image: if they cannot tell, no others can. An unread grey one has any grey."""
+    if content == UNKNOWN_GREY:
+        return GREYS
     if content != UNKNOWN:
         return (content,)
     return (0, 1) if number % 2 == 0 else tuple(("free", number, n) for n in range(3))

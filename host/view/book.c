@@ -6,6 +6,8 @@
 #include "lines.h"
 #include "sheet_words.h"
 
+enum { GREY_AT = 17 }; /* of a record */
+
 static int refused_page(const options *asked, spirerook_answer answer)
 {
     complain("%s: refused: %s (%u) at octet %u: %s", asked->page, spirerook_name(answer.number),
@@ -49,8 +51,22 @@ static int not_own(const book *opened, size_t at, const char *what)
     return STATUS_REFUSED;
 }
 
-/* Layers 1 to 3 of each stripe must be the page's own, octet for octet: the pencil of another page
- * would strike other cues. */
+/* Why a record of a pencil sheet is not the page's own; null where it is, octet for octet. */
+static const char *other_record(const uint8_t *record, const uint8_t *own)
+{
+    uint8_t grey_as_own[SPIREROOK_RECORD_OCTETS];
+    if (memcmp(record, own, sizeof grey_as_own) == 0) {
+        return NULL;
+    }
+    memcpy(grey_as_own, record, sizeof grey_as_own);
+    grey_as_own[GREY_AT] = own[GREY_AT];
+    return memcmp(grey_as_own, own, sizeof grey_as_own) == 0 && spirerook_record_grey(own) == 1
+               ? "octet 17 must be 1, since the page's layer is grey; sheets made before version 2.0.0 have 0"
+               : "layers 1 to 3 are not the page's own";
+}
+
+/* Layers 1 to 3 of each stripe must be the page's own: the pencil of another page would strike other
+ * cues. */
 static int own_layers(const whole_file *sheet, const book *opened)
 {
     size_t due = 0, all = opened->sheet_octets / SPIREROOK_RECORD_OCTETS,
@@ -63,9 +79,9 @@ static int own_layers(const whole_file *sheet, const book *opened)
         if (due == all) {
             return not_own(opened, k, "the page has no more stripes");
         }
-        if (memcmp(record, spirerook_record_at(opened->sheet, due++), SPIREROOK_RECORD_OCTETS) !=
-            0) {
-            return not_own(opened, k, "layers 1 to 3 are not the page's own");
+        const char *other = other_record(record, spirerook_record_at(opened->sheet, due++));
+        if (other != NULL) {
+            return not_own(opened, k, other);
         }
     }
     return due == all ? STATUS_WHOLE : not_own(opened, records, "the page has more stripes");

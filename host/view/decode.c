@@ -44,7 +44,7 @@ finding decode_layer(const coded_layer *layer, const apart_bounds *bounds, apart
         [APART_BROKE_OFF] = LAYER_BROKE_OFF,     [APART_TOO_SLOW] = LAYER_TOO_SLOW,
         [APART_TOO_LATE] = LAYER_TOO_LATE};
     decoding task = {layer, bounds->memory};
-    size_t octets = (size_t)layer->width * layer->height * (layer->mask ? 1 : 3);
+    size_t octets = sample_octets(layer) * layer->width * layer->height;
     apart_report report;
     if (!layer->mask) {
         ready_jpeg();

@@ -9,8 +9,6 @@
 #include <jpeglib.h>
 #include <jerror.h>
 
-enum { NEUTRAL_A = 128, NEUTRAL_B = 96 };
-
 typedef struct {
     struct jpeg_error_mgr errors;
     jmp_buf out;
@@ -68,21 +66,6 @@ static void count_scans(j_common_ptr common)
     }
 }
 
-/* One component is the lightness; the colour is neutral. */
-static void read_row(struct jpeg_decompress_struct *decoder, uint8_t *samples)
-{
-    JSAMPROW row = samples;
-    jpeg_read_scanlines(decoder, &row, 1);
-    if (decoder->num_components == 1) {
-        for (size_t x = decoder->output_width; x-- > 0;) {
-            uint8_t lightness = samples[x];
-            samples[3 * x] = lightness;
-            samples[3 * x + 1] = NEUTRAL_A;
-            samples[3 * x + 2] = NEUTRAL_B;
-        }
-    }
-}
-
 /* libjpeg says nothing where scans are missing at the end: each component must have come, in a
  * progressive picture to its last bit. */
 static bool all_came(const struct jpeg_decompress_struct *decoder)
@@ -100,22 +83,32 @@ static bool all_came(const struct jpeg_decompress_struct *decoder)
     return true;
 }
 
-static finding read_picture(struct jpeg_decompress_struct *decoder, const coded_layer *layer,
-                            uint8_t *samples, uint32_t *rows)
+/* Whether the data is what its record tells.  Of a page's own layers the library has seen to that;
+ * of a pencil's nobody has. */
+static finding judge_header(const struct jpeg_decompress_struct *decoder, const coded_layer *layer)
 {
-    jpeg_read_header(decoder, TRUE);
     if (decoder->image_width != layer->width || decoder->image_height != layer->height) {
         return LAYER_OTHER_SIZE;
     }
     if (decoder->num_components != 1 && decoder->num_components != 3) {
         return LAYER_NO_DECODER;
     }
-    decoder->jpeg_color_space = decoder->out_color_space = decoder->num_components == 1
-                                                               ? JCS_GRAYSCALE
-                                                               : JCS_YCbCr;
+    return (decoder->num_components == 1) == layer->grey ? LAYER_READ : LAYER_OTHER_COLOURS;
+}
+
+static finding read_picture(struct jpeg_decompress_struct *decoder, const coded_layer *layer,
+                            uint8_t *samples, uint32_t *rows)
+{
+    jpeg_read_header(decoder, TRUE);
+    finding judged = judge_header(decoder, layer);
+    if (judged != LAYER_READ) {
+        return judged;
+    }
+    decoder->jpeg_color_space = decoder->out_color_space = layer->grey ? JCS_GRAYSCALE : JCS_YCbCr;
     jpeg_start_decompress(decoder);
     while (decoder->output_scanline < decoder->output_height) {
-        read_row(decoder, samples + (size_t)3 * layer->width * decoder->output_scanline);
+        JSAMPROW row = samples + sample_octets(layer) * layer->width * decoder->output_scanline;
+        jpeg_read_scanlines(decoder, &row, 1);
         *rows = decoder->output_scanline;
     }
     bool whole = all_came(decoder);

@@ -11,10 +11,16 @@
 /* A coded layer: what its record says of it, and its data. */
 typedef struct {
     uint32_t coder, width, height;
-    bool mask;
+    bool mask, grey; /* grey: an image of one component, the lightness */
     const uint8_t *octets;
     size_t length;
 } coded_layer;
+
+/* Octets of a sample, as the library takes them. */
+static inline size_t sample_octets(const coded_layer *layer)
+{
+    return layer->mask || layer->grey ? 1 : 3;
+}
 
 /* Read, or why not: then no one may look at the samples. */
 typedef enum {
@@ -22,6 +28,7 @@ typedef enum {
     /* what a decoder finds */
     LAYER_DAMAGED,
     LAYER_OTHER_SIZE,
+    LAYER_OTHER_COLOURS,
     LAYER_NO_DECODER,
     LAYER_MANY_SCANS,
     LAYER_NO_MEMORY,
@@ -48,8 +55,8 @@ finding decode_fax(const coded_layer *layer, uint8_t *samples, uint32_t *rows);
 /* JBIG as T.85 has it (coder 8), the same. */
 finding decode_t85(const coded_layer *layer, uint8_t *samples, uint32_t *rows);
 
-/* JPEG: three octets a sample, the codes as they stand.  `memory` bounds what libjpeg may take
- * besides. */
+/* JPEG: the codes as they stand, three octets a sample or, where the layer is grey, one.  `memory`
+ * bounds what libjpeg may take besides. */
 finding decode_jpeg(const coded_layer *layer, uint8_t *samples, size_t memory, uint32_t *rows);
 
 /* Called outside the sandbox, before a JPEG is decoded inside it: libjpeg asks what the processor

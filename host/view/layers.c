@@ -116,6 +116,7 @@ static finding read_layer(const options *asked, const book *opened, size_t strip
                          .width = spirerook_record_width(record),
                          .height = spirerook_record_height(record),
                          .mask = spirerook_record_mask(record),
+                         .grey = spirerook_record_grey(record) == 1,
                          .length = part.count,
                          .octets = (part.source == SPIREROOK_FROM_PENCIL ? opened->pencil.octets
                                                                          : opened->page.octets) +
@@ -166,6 +167,7 @@ static void tell_why(const options *asked, finding found, int fault, const uint8
     case LAYER_READ: break;
     case LAYER_DAMAGED: add_words("its decoder finds the data damaged"); break;
     case LAYER_OTHER_SIZE: add_words("its data has another size"); break;
+    case LAYER_OTHER_COLOURS: add_words("its data has another number of components"); break;
     case LAYER_NO_DECODER: add_words("no decoder here reads this kind of data"); break;
     case LAYER_MANY_SCANS: add_words("it has over %d scans", MOST_SCANS); break;
     case LAYER_NO_MEMORY: add_words("its decoder has not enough memory"); break;
@@ -219,8 +221,9 @@ void tell_layers(const options *asked, const book *opened, size_t stripe, const 
             tell_uncoded(opened, stripe, k);
             continue;
         }
-        add_words("%s, %u by %u at %u to the inch", coder_name(r), spirerook_record_width(r),
-                  spirerook_record_height(r), spirerook_record_resolution(r));
+        add_words("%s, %u by %u at %u to the inch%s", coder_name(r), spirerook_record_width(r),
+                  spirerook_record_height(r), spirerook_record_resolution(r),
+                  spirerook_record_grey(r) == 1 ? ", grey" : "");
         if (read == NULL) {
             say_line(", %u right and %u down, %u octets from octet %u", spirerook_record_x(r),
                      spirerook_record_y(r), spirerook_record_length(r), spirerook_record_start(r));
