@@ -1,5 +1,8 @@
 """One picture in every kind of file that spirerook-make reads."""
 
+# how the names of those kinds begin that hold no colours
+GREY = ("grey", "P1", "P2", "P4", "P5")
+
 import make_kit
 from make_kit import png
 

@@ -28,11 +28,11 @@ int main(void)
     jpeg_create_decompress(&jpeg);
     jpeg_stdio_src(&jpeg, stdin);
     jpeg_read_header(&jpeg, TRUE);
-    jpeg.jpeg_color_space = jpeg.out_color_space = JCS_YCbCr;
+    jpeg.jpeg_color_space = jpeg.out_color_space = jpeg.num_components == 1 ? JCS_GRAYSCALE : JCS_YCbCr;
     jpeg_start_decompress(&jpeg);
     while (jpeg.output_scanline < jpeg.output_height) {
         jpeg_read_scanlines(&jpeg, &row, 1);
-        fwrite(samples, 3, jpeg.output_width, stdout);
+        fwrite(samples, (size_t)jpeg.num_components, jpeg.output_width, stdout);
     }
     return errors.num_warnings != 0;
 }
@@ -174,7 +174,7 @@ def decoded_image(folder, octets):
 
 
 def codes(folder, octets):
-    """The samples of a JPEG as they stand, by libjpeg."""
+    """The samples of a JPEG as they stand, by libjpeg: three octets each, or one."""
     program = os.path.join(folder, "codes")
     if not os.path.exists(program):
         subprocess.run(["cc", "-x", "c", "-", "-o", program, "-ljpeg"], check=True,

@@ -18,7 +18,7 @@ import make_kit
 import make_mistakes
 import make_notes
 import reference_run
-from make_kinds import kinds
+from make_kinds import GREY, kinds
 from make_kit import CODERS, SHOWN, make, read, write
 from page_making import ROOM
 
@@ -45,8 +45,8 @@ def layer_sizes(told):
 
 
 def due_records(stripes, told):
-    """The records due: each stripe is three rows of coder, x, y, width, height, resolution and base;
-    lengths are as told, and starts follow: mask, background, foreground."""
+    """The records due: each stripe is three rows of coder, x, y, width, height, resolution, base and
+    whether it is grey; lengths are as told, and starts follow: mask, background, foreground."""
     sizes, at, records = layer_sizes(told), 22, []
     for number, rows in enumerate(stripes):
         at += 39
@@ -55,17 +55,17 @@ def due_records(stripes, told):
             starts[layer] = at if sizes[number, layer] else 0
             at += sizes[number, layer]
         for layer in (1, 2, 3):
-            *box, base = rows[layer - 1]
-            records.append([number, layer, *box, *base, starts[layer], sizes[number, layer]])
+            *box, base, grey = rows[layer - 1]
+            records.append([number, layer, *box, *base, starts[layer], sizes[number, layer], grey])
     return records, at + 4
 
 
 def uncoded(main, base):
-    return (0, 0, 0, 0, 0, main, base)
+    return (0, 0, 0, 0, 0, main, base, 0)
 
 
 def mask_record(coder, width, height, main):
-    return (coder, 0, 0, width, height, main, (0, 0, 0))
+    return (coder, 0, 0, width, height, main, (0, 0, 0), 0)
 
 
 def check_page(tally, reader, folder, what, plan, stripes, words=()):
@@ -116,7 +116,7 @@ def check_images(tally, reader, folder):
         plan = ("resolution 400\nwidth 500\nstripe\nheight 300\n"
                 "foreground i.ppm %s resolution 200 at 31 7 lab 1 2 3\n" % words)
         page, got = check_page(tally, reader, folder, "JPEG " + words, plan, [
-            [uncoded(400, WHITE), mask_record(0, 500, 300, 400), (1, 31, 7, *size, 200, (1, 2, 3))]])
+            [uncoded(400, WHITE), mask_record(0, 500, 300, 400), (1, 31, 7, *size, 200, (1, 2, 3), 0)]])
         if page is None:
             continue
         jpeg = part_of(page, got[2])
@@ -141,12 +141,17 @@ def lab_of(srgb):
     return [min(max(value, 0), 255) for value in exact]
 
 
-def check_colours(tally, folder, rng):
-    """Blocks of one colour each come back as the nearest codes: at quality 100 JPEG keeps them."""
+def block_colours(rng):
+    """Colours of 64 blocks, and the blocks as a picture: at quality 100 JPEG keeps them."""
     colours = [(255, 255, 255), (0, 0, 0), (255, 0, 0), (0, 255, 0), (0, 0, 255), (10, 11, 12)]
     colours += [tuple(rng.randbytes(3)) for _ in range(58)]
-    write(os.path.join(folder, "blocks.ppm"), make_kit.ppm(
-        64, 64, lambda x, y: colours[y // 8 * 8 + x // 8]))
+    return colours, make_kit.ppm(64, 64, lambda x, y: colours[y // 8 * 8 + x // 8])
+
+
+def check_colours(tally, folder, rng):
+    """Blocks of one colour each come back as the nearest codes."""
+    colours, picture = block_colours(rng)
+    write(os.path.join(folder, "blocks.ppm"), picture)
     status, _, wrong = make(folder, "resolution 200\nwidth 64\nstripe\nheight 64\n"
                             "background blocks.ppm quality 100\n")
     tally.check(status == 0, "blocks of colours: %s" % wrong)
@@ -157,6 +162,34 @@ def check_colours(tally, folder, rng):
         due = lab_of(colour)
         tally.check(all(abs(a - b) < 0.501 for a, b in zip(got[at:at + 3], due)),
                     "colour %s: codes %s, not %s" % (colour, list(got[at:at + 3]), due))
+
+
+def check_grey(tally, reader, folder, rng):
+    """Of colours the lightness alone, one component and no other, whatever words stand beside."""
+    colours, picture = block_colours(rng)
+    write(os.path.join(folder, "blocks.ppm"), picture)
+    for words, mark in (("grey", b"\xff\xc0"), ("half grey", b"\xff\xc0"),
+                        ("grey progressive", b"\xff\xc2")):
+        plan = ("resolution 200\nwidth 64\nstripe\nheight 64\n"
+                "background blocks.ppm quality 100 %s base 8B0000\n" % words)
+        base = [round(part) for part in lab_of((0x8B, 0, 0))]
+        page, got = check_page(tally, reader, folder, words, plan, [
+            [(1, 0, 0, 64, 64, 200, base, 1), mask_record(0, 64, 64, 200), uncoded(200, BLACK)]])
+        if page is None:
+            continue
+        jpeg = part_of(page, got[0])
+        frame = jpeg.find(mark)
+        tally.check(frame > 0 and jpeg[frame + 9:frame + 12] == b"\x01\x01\x11",
+                    "%s: the frame is %s" % (words, jpeg[frame:frame + 13].hex()))
+        octets = make_kit.codes(folder, jpeg)
+        tally.check(len(octets) == 64 * 64, "%s: %d octets" % (words, len(octets)))
+        for k, colour in enumerate(colours if len(octets) == 64 * 64 else []):
+            lightness = octets[k // 8 * 8 * 64 + k % 8 * 8]
+            tally.check(abs(lightness - lab_of(colour)[0]) < 0.501, "%s: colour %s has the lightness %d"
+                        % (words, colour, lightness))
+        told = make(folder, plan)[1]
+        tally.check("stripe 0, layer 1: blocks.ppm, JPEG, 64 by 64 at 200, grey, %d octets" % len(jpeg)
+                    in told.splitlines(), "%s: it tells %s" % (words, told))
 
 
 def check_time(tally, folder, rng):
@@ -173,21 +206,29 @@ def check_time(tally, folder, rng):
     os.remove(os.path.join(folder, "big.ppm"))
 
 
+def page_of(folder, plan, picture):
+    """The page of a plan's picture `pic`, or what is wrong."""
+    write(os.path.join(folder, "pic"), picture)
+    status, _, wrong = make(folder, plan)
+    return read(os.path.join(folder, "p.page")) if status == 0 else wrong
+
+
 def check_kinds(tally, folder):
-    """Each kind of file gives the page of the same picture in P6, and as a mask that of a P4."""
-    image = "resolution 200\nwidth 30\nstripe\nheight 20\nbackground pic\n"
+    """Each kind of file gives the page of the same picture in P6, and as a mask that of a P4. Kinds
+    that hold no colours are grey, and all are what the plan says where it says something."""
+    image = "resolution 200\nwidth 30\nstripe\nheight 20\nbackground pic "
     for name, octets, colour in kinds():
         rows = [[int(2 * sum(colour(x, y)) < 765) for x in range(19)] for y in range(11)]
-        for what, plan, plain in (("image", image, make_kit.ppm(19, 11, colour)),
-                                  ("mask", "resolution 200\nstripe\nmask pic\n",
-                                   make_kit.pbm(rows))):
-            pages = []
-            for each in (plain, octets):
-                write(os.path.join(folder, "pic"), each)
-                status, _, wrong = make(folder, plan)
-                pages.append(read(os.path.join(folder, "p.page")) if status == 0 else wrong)
-            tally.check(pages[0] == pages[1] and isinstance(pages[0], bytes),
-                        "%s as %s gives another page: %s" % (name, what, pages[1][:200]))
+        plain, mask = make_kit.ppm(19, 11, colour), "resolution 200\nstripe\nmask pic\n"
+        coloured, grey = (page_of(folder, image + word, plain) for word in ("", "grey"))
+        tally.check(len(coloured) > len(grey) > 100, "%s: no two pages: %s" % (name, coloured[:200]))
+        for what, plan, due in (
+                ("image", image, grey if name.startswith(GREY) else coloured),
+                ("grey image", image + "grey", grey), ("coloured image", image + "coloured", coloured),
+                ("mask", mask, page_of(folder, mask, make_kit.pbm(rows)))):
+            got = page_of(folder, plan, octets)
+            tally.check(got == due and isinstance(due, bytes),
+                        "%s as %s gives another page: %s" % (name, what, got[:200]))
 
 
 def check_stripes(tally, reader, folder):
@@ -203,7 +244,7 @@ stripe
   mask "m #1.pbm"
 stripe
 \tforeground none base FFFFFF
-background i.ppm at 65535 3 resolution 300
+background i.ppm at 65535 3 grey resolution 300
 mask "m #1.pbm"
 height 9
 stripe
@@ -213,8 +254,8 @@ foreground "%s/i.ppm" base 000000
 height 65000
 stripe
 mask "m #1.pbm"
-foreground "i.ppm" resolution 100
-background i.ppm base ffffff
+foreground "i.ppm" resolution 100 grey
+background i.ppm base ffffff coloured
 """ % os.path.abspath(sub))
     status, told, wrong = make_kit.run(folder, "a b/p.plan", "-o", "p.page")
     tally.check(status == 0 and wrong == "", "stripes: status %d, %s" % (status, wrong))
@@ -222,9 +263,9 @@ background i.ppm base ffffff
         return
     mask, back = mask_record(2, 40, 9, 600), uncoded(600, WHITE)
     stripes = [[back, mask, uncoded(600, BLACK)],
-               [(1, 65535, 3, 10, 6, 300, WHITE), mask, uncoded(600, WHITE)],
-               [uncoded(600, (9, 8, 7)), mask_record(0, 40, 65000, 600), (1, 0, 0, 10, 6, 600, BLACK)],
-               [(1, 0, 0, 10, 6, 600, WHITE), mask, (1, 0, 0, 10, 6, 100, BLACK)]]
+               [(1, 65535, 3, 10, 6, 300, WHITE, 1), mask, uncoded(600, WHITE)],
+               [uncoded(600, (9, 8, 7)), mask_record(0, 40, 65000, 600), (1, 0, 0, 10, 6, 600, BLACK, 0)],
+               [(1, 0, 0, 10, 6, 600, WHITE, 0), mask, (1, 0, 0, 10, 6, 100, BLACK, 1)]]
     due, size = due_records(stripes, told)
     page = read(os.path.join(folder, "p.page"))
     tally.check(listing(reader, page) == due and len(page) == size, "stripes: another page")
@@ -245,7 +286,7 @@ def pencil_plan(folder, pairs):
             masks[stripe, 4 + 2 * pair] = (coder, rows)
             plan += "pencil-mask %s %s at %d %d resolution 200\npencil-image %s base FFFFFF\n" % (
                 name, "" if coder == "mh" else "coder " + coder, pair, stripe,
-                "i.ppm resolution 100" if pair % 2 else "none")
+                ("none", "i.ppm resolution 100", "none grey", "i.ppm resolution 100 grey")[pair % 4])
     return plan, masks
 
 
@@ -256,8 +297,9 @@ def pencil_record(masks, place, start, length):
         coder, rows = masks[place]
         box = (CODERS[coder], layer // 2 - 2, stripe, len(rows[0]), len(rows), 200, 0, 0, 0)
     else:
-        box = (1, 0, 0, 12, 9, 100, *WHITE) if length else (*uncoded(400, WHITE)[:6], *WHITE)
-    return [stripe, layer, *box, start if length else 0, length]
+        box = (1, 0, 0, 12, 9, 100, *WHITE) if length else (0, 0, 0, 0, 0, 400, *WHITE)
+    grey = int(length > 0 and layer % 8 == 3)    # of layers 5, 7, 9 and on, 11 is the fourth
+    return [stripe, layer, *box, start if length else 0, length, grey]
 
 
 def check_pencil_records(tally, masks, sheet, page_records, sizes):
@@ -339,6 +381,7 @@ def main():
             check_masks(tally, reader, folder, random.Random(seed))
             check_images(tally, reader, folder)
             check_colours(tally, folder, random.Random(seed))
+            check_grey(tally, reader, folder, random.Random(seed))
             check_time(tally, folder, random.Random(seed))
             check_kinds(tally, folder)
             check_stripes(tally, reader, folder)

@@ -62,19 +62,19 @@ static void last_chunk(j_compress_ptr coder)
     take_chunk(writer, CHUNK - writer->destination.free_in_buffer);
 }
 
-/* YCbCr in and out: no conversion, and nothing in the file that would tell of another colour
+/* The same in and out: no conversion, and nothing in the file that would tell of another colour
  * space. */
 static void set_options(j_compress_ptr coder, const picture *image, const jpeg_wish *wish)
 {
     coder->image_width = image->width;
     coder->image_height = image->height;
-    coder->input_components = 3;
-    coder->in_color_space = JCS_YCbCr;
+    coder->input_components = wish->grey ? 1 : 3;
+    coder->in_color_space = wish->grey ? JCS_GRAYSCALE : JCS_YCbCr;
     jpeg_set_defaults(coder);
     jpeg_set_quality(coder, wish->quality, TRUE);
     coder->write_JFIF_header = FALSE;
-    coder->comp_info[0].h_samp_factor = wish->half ? 2 : 1;
-    coder->comp_info[0].v_samp_factor = wish->half ? 2 : 1;
+    coder->comp_info[0].h_samp_factor = wish->half && !wish->grey ? 2 : 1;
+    coder->comp_info[0].v_samp_factor = wish->half && !wish->grey ? 2 : 1;
     if (wish->progressive) {
         jpeg_simple_progression(coder);
     }

@@ -17,6 +17,7 @@ typedef struct {
     int quality;         /* 1 to 100 */
     bool progressive;
     bool half; /* the colour components have half the samples both ways */
+    bool grey; /* one component, the lightness */
 } jpeg_wish;
 
 /* A mask, by MH, MR or MMR (T.4, T.6). */
@@ -25,7 +26,7 @@ bool code_fax(const picture *mask, uint32_t coder, octet_list *coded, trouble *w
 /* A mask, by JBIG as T.85 has it. */
 bool code_t85(const picture *mask, octet_list *coded, trouble *what);
 
-/* An image whose samples are CIELAB codes (T.42). */
+/* An image whose samples are CIELAB codes (T.42), or where it is grey lightness alone. */
 bool code_jpeg(const picture *image, const jpeg_wish *wish, octet_list *coded, trouble *what);
 
 #endif

@@ -66,11 +66,25 @@ static bool code_mask(const picture *mask, const plan_layer *layer, octet_list *
                                      : code_fax(mask, layer->coder, to, what);
 }
 
+/* As the plan says, or the picture's kind where it says nothing. */
+static bool is_grey(const picture *from, const plan_layer *layer)
+{
+    return from->use == AS_IMAGE &&
+           (layer->kind == LIKE_PICTURE ? from->is_grey : layer->kind == GREY);
+}
+
 static bool code_image(layer_coder *coder, picture *image, const plan_layer *layer, octet_list *to,
                        trouble *what)
 {
-    const jpeg_wish wish = {layer->resolution, layer->quality, layer->progressive, layer->half};
-    return turn_to_lab(&coder->known, image, what) && code_jpeg(image, &wish, to, what);
+    const jpeg_wish wish = {layer->resolution, layer->quality, layer->progressive, layer->half,
+                            is_grey(image, layer)};
+    if (!turn_to_lab(&coder->known, image, what)) {
+        return false;
+    }
+    if (wish.grey) {
+        keep_lightness(image);
+    }
+    return code_jpeg(image, &wish, to, what);
 }
 
 /* Codes a picture into the list that its layer belongs to, and sets what the record has of it. */
@@ -99,6 +113,7 @@ static bool code_picture(layer_coder *coder, picture *from, const plan_layer *la
     record->resolution = layer->resolution;
     record->start = (uint32_t)start;
     record->length = (uint32_t)(to->length - start);
+    record->grey = is_grey(from, layer);
     return true;
 }
 

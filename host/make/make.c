@@ -29,13 +29,14 @@ static const char help[] =
     "  width 2336           of the page, needed where no stripe has a mask\n"
     "  stripe               begins a stripe; the lines of its layers follow, in any order\n"
     "  height 700           of the stripe, needed where it has no mask\n"
-    "  background FILE|none [resolution R] [at X Y] [base RRGGBB | lab L A B] [quality Q] [progressive] [half]\n"
+    "  background FILE|none [resolution R] [at X Y] [base RRGGBB | lab L A B] [quality Q] [progressive] [half] [grey | coloured]\n"
     "  mask FILE|none\n"
     "  foreground FILE|none [as background]\n"
     "  pencil-mask FILE|none [coder C] [resolution R] [at X Y]\n"
     "  pencil-image FILE|none [as background]      behind its pencil-mask; up to six pairs a stripe\n"
     "\n"
     "PNG files are read in a sandbox; where the system has none, --no-sandbox reads them without.\n"
+    "An image of a picture that holds no colours is coded as lightness alone; grey and coloured say otherwise.\n"
     "Dark samples of a mask are 1.  Where a layer is none its base colour counts, and nothing else.  File names are seen from the plan's folder.\n"
     "Exit status: 0 done; 1 refused, or a file cannot be read or written; 2 a bad option.\n";
 
@@ -166,9 +167,9 @@ static void list_layer(const plan_layer *layer, const spirerook_record *record)
         say_line("not coded");
         return;
     }
-    say_line("%s, %s, %u by %u at %u, %u octets", layer->name, coder_name(record),
+    say_line("%s, %s, %u by %u at %u%s, %u octets", layer->name, coder_name(record),
              (unsigned)record->width, (unsigned)record->height, (unsigned)record->resolution,
-             (unsigned)record->length);
+             record->grey == 1 ? ", grey" : "", (unsigned)record->length);
 }
 
 static void list_layers(const plan *from, const coded_layers *layers)

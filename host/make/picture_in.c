@@ -95,7 +95,7 @@ static bool read_known(const char *name, whole_file *file, trouble *what)
 bool read_picture(const char *name, picture_use use, picture *made, trouble *what)
 {
     whole_file file;
-    *made = (picture){use, 0, 0, 0, NULL};
+    *made = (picture){.use = use};
     if (!read_known(name, &file, what)) {
         return false;
     }

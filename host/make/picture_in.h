@@ -16,6 +16,7 @@ typedef enum { AS_MASK, AS_IMAGE } picture_use;
 
 typedef struct {
     picture_use use;
+    bool is_grey; /* the file is of a kind that holds no colours */
     uint32_t width, height;
     size_t row_octets;
     uint8_t *samples; /* row by row */

@@ -30,7 +30,7 @@ typedef struct {
     trouble *what;
 } png_reader;
 
-enum { MOST_CHUNK = 8000000, CHUNKS_KEPT = 16, SIDES_AT = 16, HEAD = 24 };
+enum { MOST_CHUNK = 8000000, CHUNKS_KEPT = 16, SIDES_AT = 16, KIND_AT = 25, HEAD = 26 };
 
 static const uint64_t most_rows = UINT64_C(1) << 30;
 static const double most_seconds = 60, most_clock = 360;
@@ -244,7 +244,7 @@ static uint32_t side_at(const uint8_t *octets)
            octets[3];
 }
 
-/* The sides stand in the header, always the first chunk. */
+/* The sides and the kind stand in the header, always the first chunk. */
 bool read_png(const uint8_t *octets, size_t length, picture_use use, picture *made, trouble *what)
 {
     png_reader reader = {.octets = octets, .length = length, .made = made};
@@ -261,6 +261,7 @@ bool read_png(const uint8_t *octets, size_t length, picture_use use, picture *ma
                       what)) {
         return false;
     }
+    made->is_grey = (octets[KIND_AT] & ~PNG_COLOR_MASK_ALPHA) == PNG_COLOR_TYPE_GRAY;
     apart_end end = do_apart(read_apart, &reader, &bounds, made->row_octets * made->height, &filled,
                              &report);
     if (end == APART_DONE && report.found == 0 && report.rows == made->height) {

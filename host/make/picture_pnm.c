@@ -162,6 +162,7 @@ bool read_pnm(const uint8_t *octets, size_t length, picture_use use, picture *ma
     if (!begin_picture(made, use, pnm.width, pnm.height, what)) {
         return false;
     }
+    made->is_grey = colours(&pnm) == 1;
     uint8_t *row = malloc((size_t)pnm.width * 3);
     bool done = row != NULL || tell_no_memory(what);
     for (uint32_t y = 0; done && y < pnm.height; y++) {

@@ -9,6 +9,9 @@
 #include "plan_words.h"
 #include "trouble.h"
 
+/* Whether an image has colours: as its picture has them, if the plan says nothing. */
+typedef enum { LIKE_PICTURE, GREY, COLOURED } image_kind;
+
 typedef struct {
     unsigned line; /* of the plan; 0 where it says nothing of the layer */
     /* of the picture: as the plan has it, and from where the program runs; null where there is none */
@@ -20,6 +23,7 @@ typedef struct {
     uint8_t srgb[3];
     int quality;
     bool progressive, half;
+    image_kind kind;
 } plan_layer;
 
 typedef struct {

@@ -6,9 +6,18 @@
 #include "names.h"
 #include "plan.h"
 
-enum { RESOLUTION = 1, AT = 2, COLOUR = 4, QUALITY = 8, PROGRESSIVE = 16, HALF = 32, CODER = 64 };
 enum {
-    OF_IMAGE = RESOLUTION | AT | COLOUR | QUALITY | PROGRESSIVE | HALF,
+    RESOLUTION = 1,
+    AT = 2,
+    COLOUR = 4,
+    QUALITY = 8,
+    PROGRESSIVE = 16,
+    HALF = 32,
+    CODER = 64,
+    KIND = 128
+};
+enum {
+    OF_IMAGE = RESOLUTION | AT | COLOUR | QUALITY | PROGRESSIVE | HALF | KIND,
     OF_PENCIL_MASK = CODER | RESOLUTION | AT,
     OF_MASK = 0
 };
@@ -24,6 +33,8 @@ static const struct {
                {"quality", QUALITY},
                {"progressive", PROGRESSIVE},
                {"half", HALF},
+               {"grey", KIND},
+               {"coloured", KIND},
                {"coder", CODER}};
 
 static int options_of(unsigned layer_number)
@@ -60,6 +71,7 @@ static bool take_option(plan_line *line, const char *name, int option, plan_laye
     case QUALITY: return take_quality(line, &layer->quality);
     case PROGRESSIVE: return layer->progressive = true;
     case HALF: return layer->half = true;
+    case KIND: layer->kind = strcmp(name, "grey") == 0 ? GREY : COLOURED; return true;
     default: return take_coder(line, &layer->coder);
     }
 }
@@ -90,6 +102,7 @@ static bool take_options(plan_line *line, int allowed, plan_layer *layer)
         if ((option & seen) != 0) {
             return wrong(line,
                          option == COLOUR ? "a base colour is given twice ('%s')"
+                         : option == KIND ? "grey or coloured is given twice ('%s')"
                                           : "'%s' is given twice",
                          word->text);
         }

@@ -35,6 +35,15 @@ bool turn_to_lab(lab_table *known, picture *image, trouble *what)
     return true;
 }
 
+void keep_lightness(picture *image)
+{
+    size_t count = (size_t)image->width * image->height;
+    for (size_t k = 1; k < count; k++) {
+        image->samples[k] = image->samples[3 * k];
+    }
+    image->row_octets = image->width;
+}
+
 void free_table(lab_table *known)
 {
     free(known->codes);

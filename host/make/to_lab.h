@@ -13,6 +13,9 @@ typedef struct {
 /* In place. */
 bool turn_to_lab(lab_table *known, picture *image, trouble *what);
 
+/* Of codes only the first of each sample, one octet a sample from then on; in place. */
+void keep_lightness(picture *image);
+
 void free_table(lab_table *known);
 
 #endif
