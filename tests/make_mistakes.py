@@ -210,7 +210,7 @@ def check_options(tally, folder):
     check_refusal(tally, folder, "no such plan", run(folder, "no.plan", "-o", "x"), 1,
                   "spirerook-make: no.plan: No such file")
     for word, due in (("--help", "use: spirerook-make PLAN -o PAGE [--pencil SHEET FILE] [--no-sandbox]\n"),
-                      ("--version", "spirerook-make 1.")):
+                      ("--version", "spirerook-make 2.")):
         status, told, wrong = run(folder, word)
         tally.check((status, wrong) == (0, "") and told.startswith(due), "%s: %s" % (word, told))
     write(os.path.join(folder, "-o"), BACK)

@@ -2,7 +2,7 @@
 
 `make demo`'s script is run; then each stripe is composed by pamcomp from the pictures that
 examples/promptbook/render drew, as page.plan has them, and compared with what the viewer showed: images
-went through JPEG, so they are near, not the same. The pages with a layer unread must be the whole page
+went through JPEG, so they are near, not the same. The grey layer is seen in its colours. The pages with a layer unread must be the whole page
 but for the pattern, and nothing but the layer's own area may have it.
 """
 
@@ -152,6 +152,18 @@ def check_unread(tally, whole, name, area):
     tally.check(unseen == told > 0, "%s: %d pixels of the pattern, %d told" % (name, unseen, told))
 
 
+def check_grey(tally, whole):
+    """One layer is grey, the graphite of stripe 1, layer 9: no other dark pixel of its area is neutral."""
+    with open(os.path.join(OUT, "whole.txt"), encoding="utf-8") as file:
+        told = re.findall(r"stripe (\d+), layer (\d+): JPEG, (\d+) by (\d+) at 100 to the inch, grey: read\n", file.read())
+    tally.check(len(told) == 1 and told[0][:2] == ("1", "9"), "grey layers: %s" % told)
+    across, down = (4 * int(each) for each in told[0][2:]) if told else (0, 0)
+    area = [line[3 * 24:3 * (24 + across)] for line in whole[672 + 96:672 + 96 + down]]
+    dark = [line[x:x + 3] for line in area for x in range(0, len(line), 3) if max(line[x:x + 3]) < 120]
+    neutral = sum(max(pixel) - min(pixel) <= 1 for pixel in dark)
+    tally.check(1000 < neutral < len(dark) / 2, "%d of %d dark pixels are neutral" % (neutral, len(dark)))
+
+
 def main():
     tally = reference_run.Tally()
     done = subprocess.run(["bash", "examples/promptbook/demo", "build/demo"], cwd=reference_run.ROOT, check=False, stdout=subprocess.PIPE,
@@ -165,6 +177,7 @@ def main():
         tally.check(near > NEAR, "the whole page is not as netpbm composes it")
         tally.check(other < NEAR - 3, "a page with the pencils in another order cannot be told from it")
         whole = rows_of("whole.png")
+        check_grey(tally, whole)
         check_unread(tally, whole, "strike-unread", (1396, 672 + 792, 1396 + 908, 672 + 792 + 244))
         check_unread(tally, whole, "picture-unread", (568, 28, 568 + 1200, 28 + 416))
     return tally.end()
