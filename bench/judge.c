@@ -34,6 +34,12 @@ static bool coder_ok(uint32_t layer, uint32_t coder)
     return coder == 1 || (layer % 2 == 0 && (coder == 2 || coder == 4 || coder == 8));
 }
 
+// Octet 17: 1 may stand in a coded image layer, and nowhere else.
+static bool grey_ok(const struct record *r)
+{
+    return r->at[17] <= (r->len != 0 && r->layer % 2 == 1);
+}
+
 static bool data_ok(const struct record *r)
 {
     const uint8_t *p = r->at;
@@ -98,7 +104,7 @@ static bool layer_ok(const struct state *st, const struct record *r)
 static bool keeps_rules(const struct state *st, const struct record *r)
 {
     const uint8_t *p = r->at;
-    return (p[17] | p[26] | p[27]) == 0 && placed(st, r) && data_ok(r) && listed(r->res) &&
+    return (p[26] | p[27]) == 0 && placed(st, r) && grey_ok(r) && data_ok(r) && listed(r->res) &&
            base_ok(r) && layer_ok(st, r);
 }
 

@@ -1,6 +1,7 @@
 #define _POSIX_C_SOURCE 199309L
 #include "kit.h"
 
+#include <stdio.h>
 #include <time.h>
 
 uint32_t any(uint32_t below)
@@ -42,7 +43,8 @@ static double mean(side *f, const void *work, unsigned calls)
 }
 
 // The best of each side counts: other work on the machine slows all of them, and none makes one
-// faster.
+// faster. Each round another side is first and the order turns round, since what a side leaves in the
+// caches serves the next.
 void take_turns(side *const sides[], size_t count, const void *work, double round_ns, int rounds,
                 double best[])
 {
@@ -50,8 +52,52 @@ void take_turns(side *const sides[], size_t count, const void *work, double roun
     if (mean(sides[count - 1], work, 1) < round_ns)
         calls += (unsigned)(round_ns / (mean(sides[count - 1], work, 10) + 1));
     for (int i = 0; i < rounds; i++)
-        for (size_t k = 0; k < count; k++) {
+        for (size_t j = 0; j < count; j++) {
+            size_t turn = ((size_t)i + j) % count,
+                   k = i / (int)count % 2 == 0 ? turn : count - 1 - turn;
             double t = mean(sides[k], work, calls);
             best[k] = t < best[k] ? t : best[k];
         }
+}
+
+static uint64_t proved_coloured(const void *work)
+{
+    const struct pair *p = work;
+    return p->proved(p->coloured);
+}
+
+static uint64_t proved_grey(const void *work)
+{
+    const struct pair *p = work;
+    return p->proved(p->grey);
+}
+
+static uint64_t c_coloured(const void *work)
+{
+    const struct pair *p = work;
+    return p->c(p->coloured);
+}
+
+static uint64_t c_grey(const void *work)
+{
+    const struct pair *p = work;
+    return p->c(p->grey);
+}
+
+void take_pair(const struct pair *p, double round_ns, int rounds, double best[OF_PAIR])
+{
+    static side *const sides[OF_PAIR] = {proved_coloured, proved_grey, c_coloured, c_grey};
+    take_turns(sides, OF_PAIR, p, round_ns, rounds, best);
+}
+
+void print_pair(const char *name, const double best[OF_PAIR])
+{
+    printf("%s: grey layers take %.2f times what coloured ones take; in C %.2f\n", name,
+           best[1] / best[0], best[3] / best[2]);
+}
+
+void forget(double *times, size_t count)
+{
+    for (size_t k = 0; k < count; k++)
+        times[k] = NO_TIME;
 }

@@ -20,4 +20,19 @@ typedef uint64_t side(const void *work);
 void take_turns(side *const sides[], size_t count, const void *work, double round_ns, int rounds,
                 double best[]);
 
+// The same work with coloured layers and with grey ones, for the proved side and for one in C.
+struct pair {
+    side *proved, *c;
+    const void *coloured, *grey;
+};
+
+// In turns, as above; of each side first coloured, then grey.
+#define OF_PAIR 4
+void take_pair(const struct pair *p, double round_ns, int rounds, double best[OF_PAIR]);
+
+void print_pair(const char *name, const double best[OF_PAIR]);
+
+// Sets times to NO_TIME.
+void forget(double *times, size_t count);
+
 #endif

@@ -99,7 +99,7 @@ static struct marker behind_scan(const uint8_t *page, size_t at, size_t size)
 
 // What is known of a layer so far: 0 is not known.
 struct layer {
-    uint32_t res, width, height;
+    uint32_t res, width, height, components;
     bool scanned;
 };
 
@@ -120,7 +120,10 @@ static bool read_frame(const struct walk *w, struct layer *l, size_t body)
     if (l->height == 0)
         return fail(w, SPIREROOK_BAD_LAYER, body + 1);
     l->width = be16(w->page + body + 3);
-    return l->width != 0 || fail(w, SPIREROOK_BAD_LAYER, body + 3);
+    if (l->width == 0)
+        return fail(w, SPIREROOK_BAD_LAYER, body + 3);
+    l->components = w->page[body + 5];
+    return l->components == 1 || l->components == 3 || fail(w, SPIREROOK_BAD_LAYER, body + 5);
 }
 
 // The first G3FAX0 counts.
@@ -158,6 +161,7 @@ static void put_layer(const struct layer *l, size_t begin, size_t end, uint8_t *
     put16(record + 8, l->width);
     put16(record + 10, l->height);
     put16(record + 12, l->res);
+    record[17] = l->components == 1;
     put32(record + 18, (uint32_t)begin);
     put32(record + 22, (uint32_t)(end - begin));
 }
@@ -166,7 +170,7 @@ size_t WALK(const uint8_t *page, size_t size, size_t begin, uint32_t main, uint8
             struct fault *fault)
 {
     const struct walk w = {page, size, main, fault};
-    struct layer l = {0, 0, 0, false};
+    struct layer l = {0, 0, 0, 0, false};
     struct marker m;
     if (size - begin < 2)
         return fail(&w, SPIREROOK_SHORT, begin);

@@ -21,6 +21,7 @@
 struct layer {
     const uint8_t *samples; // null: none were read
     bool coded;
+    uint32_t size; // octets of a sample: one of a mask and of a grey layer, else three
     uint32_t x, y, width, height, k;
     uint32_t outside; // the value where the layer is not: its base colour, or a bit
 #ifdef BY_ROWS
@@ -41,10 +42,16 @@ static uint32_t colour(const uint8_t *p)
     return SEEN | (uint32_t)p[0] << 16 | (uint32_t)p[1] << 8 | p[2];
 }
 
+static uint32_t grey(uint8_t lightness)
+{
+    return SEEN | (uint32_t)lightness << 16 | 128 << 8 | 96;
+}
+
 static void decode(struct layer *l, const uint8_t *p, uint32_t main)
 {
     l->samples = NULL;
     l->coded = be32(p + 22) != 0;
+    l->size = p[2] % 2 == 0 || p[17] == 1 ? 1 : 3;
     l->x = be16(p + 4);
     l->y = be16(p + 6);
     l->width = be16(p + 8);
@@ -81,7 +88,7 @@ static size_t take_planes(struct stripe *s, const uint8_t *planes, size_t count,
         if (number <= last || number > s->layers || !s->layer[number].coded)
             return i;
         struct layer *l = &s->layer[number];
-        if (start + (uint64_t)l->width * l->height * (number % 2 == 0 ? 1 : 3) > samples_len)
+        if (start + (uint64_t)l->width * l->height * l->size > samples_len)
             return i;
         l->samples = samples + start;
         last = number;
@@ -98,7 +105,7 @@ static void find_rows(struct stripe *s, uint32_t y)
         struct layer *l = &s->layer[n];
         l->crossed = l->coded && y >= l->y && y - l->y < l->height * l->k;
         if (l->crossed && l->samples != NULL)
-            l->row = l->samples + (size_t)((y - l->y) / l->k) * l->width * (n % 2 == 0 ? 1 : 3);
+            l->row = l->samples + (size_t)((y - l->y) / l->k) * l->width * l->size;
     }
 }
 
@@ -142,7 +149,7 @@ static uint32_t colour_at(const struct layer *l, uint32_t x, uint32_t y)
         return l->outside;
     if (l->samples == NULL)
         return 0;
-    return colour(sample(l, x, y, 3));
+    return l->size == 1 ? grey(*sample(l, x, y, 1)) : colour(sample(l, x, y, 3));
 }
 
 // Two colours that are not known are 0 both, and stay so.

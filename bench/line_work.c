@@ -40,6 +40,7 @@ static void add_stripe(struct work *w, uint32_t stripe, const struct shape *s)
     for (uint32_t layer = 1; layer <= s->layers; layer++) {
         uint8_t *p = add_record(w, stripe, layer, MAIN);
         code(p);
+        p[17] = s->grey && layer % 2 == 1;
         if (layer == 2) {
             put_area(p, 0, 0, s->width, s->height);
             continue;
@@ -61,10 +62,20 @@ static void fill_mask(uint8_t *p, size_t count, uint32_t run, uint32_t ones)
     }
 }
 
-static void fill_image(uint8_t *p, size_t count)
+static void fill_image(uint8_t *p, size_t octets)
 {
-    for (size_t i = 0; i < 3 * count; i++)
+    for (size_t i = 0; i < octets; i++)
         p[i] = (uint8_t)any(2);
+}
+
+static size_t sample_size(const uint8_t *record)
+{
+    return record[2] % 2 == 0 || record[17] == 1 ? 1 : 3;
+}
+
+static size_t sample_count(const uint8_t *record)
+{
+    return (size_t)be16(record + 8) * be16(record + 10);
 }
 
 static bool is_unread(const struct shape *s, uint32_t layer)
@@ -85,7 +96,8 @@ static void read_layer(struct work *w, const struct shape *s, const uint8_t *rec
                        size_t starts[3])
 {
     uint32_t layer = record[2], run = layer == 2 ? s->run : s->run / s->k;
-    size_t count = (size_t)be16(record + 8) * be16(record + 10), kind = layer == 2 ? 2 : layer % 2;
+    size_t count = sample_count(record), size = sample_size(record),
+           kind = layer == 2 ? 2 : layer % 2;
     if (s->shared && starts[kind] != SIZE_MAX) {
         list(w, layer, starts[kind]);
         return;
@@ -95,8 +107,8 @@ static void read_layer(struct work *w, const struct shape *s, const uint8_t *rec
     if (layer % 2 == 0)
         fill_mask(w->samples + w->samples_size, count, run == 0 ? 1 : run, layer > 8 ? s->ones : 0);
     else
-        fill_image(w->samples + w->samples_size, count);
-    w->samples_size += count * (layer % 2 == 0 ? 1 : 3);
+        fill_image(w->samples + w->samples_size, count * size);
+    w->samples_size += count * size;
 }
 
 static void clear(struct work *w)
@@ -129,6 +141,46 @@ void make_behind(struct work *w, const struct shape *s, uint32_t stripes, uint32
     read_last(w, s);
 }
 
+// ---- the same in colour
+
+// A grey layer's samples become those of greys as any image layer has them.
+static void read_coloured(struct work *w, const struct work *grey, const uint8_t *entry,
+                          const uint8_t *record)
+{
+    const uint8_t *from = grey->samples + be32(entry + 1);
+    size_t count = sample_count(record);
+    uint8_t *to = w->samples + w->samples_size;
+    list(w, entry[0], w->samples_size);
+    if (record[17] == 0) {
+        memcpy(to, from, count * sample_size(record));
+        w->samples_size += count * sample_size(record);
+        return;
+    }
+    for (size_t k = 0; k < count; k++, to += 3) {
+        to[0] = from[k];
+        to[1] = 128;
+        to[2] = 96;
+    }
+    w->samples_size += 3 * count;
+}
+
+void make_coloured(struct work *w, const struct work *grey)
+{
+    uint8_t *samples = w->samples;
+    *w = *grey;
+    w->samples = samples;
+    w->planes_size = w->samples_size = 0;
+    const uint8_t *first = grey->sheet;
+    while (be16(first) != grey->stripe)
+        first += RECORD_SIZE;
+    for (size_t k = 0; k < grey->planes_size; k += 5) {
+        const uint8_t *entry = grey->planes + k;
+        read_coloured(w, grey, entry, first + (size_t)(entry[0] - 1) * RECORD_SIZE);
+    }
+    for (size_t k = 0; k < w->sheet_size; k += RECORD_SIZE)
+        w->sheet[k + 17] = 0;
+}
+
 // ---- small calls, good and damaged
 
 static void code_small(uint8_t *p, uint32_t layer, uint32_t width, uint32_t height)
@@ -151,8 +203,10 @@ static void add_small(struct work *w, uint32_t stripe, uint32_t width)
         uint8_t *p = add_record(w, stripe, layer, MAIN);
         if (layer == 2)
             put_area(p, 0, 0, width, height);
-        if (layer <= 3 ? type >> (layer - 1) & 1 : any(4) != 0)
+        if (layer <= 3 ? type >> (layer - 1) & 1 : any(4) != 0) {
             code_small(p, layer, width, height);
+            p[17] = layer % 2 == 1 && any(3) == 0;
+        }
     }
 }
 

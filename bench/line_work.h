@@ -27,12 +27,18 @@ struct shape {
     uint32_t ones; // of 16 runs in the masks of the highest pairs, above layer 8; 0: eight
     bool half;     // layers 3, 4, 7, 8, 11, 12 and 15 are not read
     bool shared;   // one stretch of samples for all image layers, one for all masks
+    bool grey;     // all image layers have one component
 };
 
 // A stripe of this shape behind others of as many layers, so high each; all that the shape has read
 // is listed.
 void make_behind(struct work *w, const struct shape *s, uint32_t stripes, uint32_t height);
 
+// The same page with the grey layers coloured: three octets a sample. The samples are the caller's,
+// and have room.
+void make_coloured(struct work *w, const struct work *grey);
+
+// Small calls, good and damaged; some layers are grey.
 void make_small(struct work *w);
 void damage(struct work *w);
 

@@ -44,10 +44,19 @@ static spirerook_answer call(composer *f, const struct work *w, uint8_t *out)
              w->stripe, w->line, w->unseen[0], w->unseen[1], w->unseen[2], out, w->room);
 }
 
+// The library before knows no grey layers.
+static int sides_for(const struct work *w)
+{
+    for (size_t k = 0; k + RECORD_SIZE <= w->sheet_size; k += RECORD_SIZE)
+        if (w->sheet[k + 17] != 0)
+            return 3;
+    return SIDES;
+}
+
 static uint32_t agreed(const char *what, const struct work *w)
 {
     spirerook_answer a[SIDES];
-    for (int k = 0; k < SIDES; k++) {
+    for (int k = 0; k < sides_for(w); k++) {
         memset(lines[k], 0xA5, w->room);
         a[k] = call(composers[k], w, lines[k]);
         if (a[k].number != a[0].number || a[k].place != a[0].place || a[k].count != a[0].count ||
@@ -277,9 +286,7 @@ int main(void)
         return 1;
     }
     agree_on_small(&w);
-    for (size_t i = 0; i < PIXEL_ROWS + OTHERS; i++)
-        for (size_t k = 0; k < SIDES; k++)
-            best[i][k] = NO_TIME;
+    forget(best[0], (PIXEL_ROWS + OTHERS) * SIDES);
     for (int pass = 0; pass < PASSES; pass++)
         time_all(&w);
     print_pixels();

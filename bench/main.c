@@ -27,6 +27,7 @@ static void put_coded(uint8_t *p, unsigned layer, uint32_t main)
 {
     static const uint8_t coders[] = {1, 2, 4, 8};
     p[3] = layer % 2 == 0 ? coders[any(4)] : 1;
+    p[17] = layer % 2 == 1 && any(2) == 0;
     put32(p + 18, any(1u << 24));
     put32(p + 22, 1 + any(1u << 20));
     if (layer == 2)
@@ -72,11 +73,11 @@ static void make_good(struct sheet *s, unsigned stripes, unsigned layers)
 
 // ---- faults
 
-// Octet 17 is 0 in every record, so that a 1 there is a fault wherever it stands.
+// Octet 26 is 0 in every record, so that a 1 there is a fault wherever it stands.
 static void make_bad(struct sheet *s, unsigned stripes, unsigned layers, size_t record)
 {
     make_good(s, stripes, layers);
-    s->octets[record * RECORD_SIZE + 17] = 1;
+    s->octets[record * RECORD_SIZE + 26] = 1;
 }
 
 static void damage(struct sheet *s)

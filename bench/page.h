@@ -38,7 +38,8 @@ struct fault {
 };
 
 // The walk over the JPEG layer that begins at `begin`, under a main resolution: where it ends, with
-// width, height, resolution, start and length in their places of a record; or 0, with the fault.
+// width, height, resolution, octet 17, start and length in their places of a record; or 0, with the
+// fault.
 size_t c_walk_by_octets(const uint8_t *page, size_t size, size_t begin, uint32_t main,
                         uint8_t *record, struct fault *fault);
 size_t c_walk_by_memchr(const uint8_t *page, size_t size, size_t begin, uint32_t main,

@@ -1,9 +1,10 @@
-// Times the proved reading of a page beside two readers in C, on the same pages in one run. First
-// the three must agree, answer and sheet octet for octet, on the pages that are timed and on
-// damaged ones: a fast wrong answer is no result.
-#include "fillers.h"
+// Times the proved reading of a page beside two readers in C, and with BEFORE beside an earlier
+// library, on the same pages in one run. First all must agree, answer and sheet octet for octet, on
+// the pages that are timed, and all but the earlier one on damaged ones: a fast wrong answer is no
+// result.
 #include "kit.h"
 #include "page.h"
+#include "page_work.h"
 
 #include <inttypes.h>
 #include <stdbool.h>
@@ -11,9 +12,6 @@
 #include <stdlib.h>
 #include <string.h>
 
-#define MB 1048576
-#define LONGEST (16 * MB - 1)
-#define ENDS 256 // octets of a page besides what fills it
 #define DAMAGED 20000
 #define PASSES 6 // over all rows, since a machine can be slow for seconds
 #define ROUNDS 12
@@ -21,146 +19,27 @@
 #define GROWTH_LIMIT 1.3
 #define SHEET_SIZE (64 * 3 * RECORD_SIZE)
 
-struct page {
-    uint8_t octets[LONGEST + 1];
-    size_t size;
-    size_t start, end; // of the layer, where there is one only
-};
-
-// ---- pages
-
-static void add(struct page *p, const void *octets, size_t size)
-{
-    memcpy(p->octets + p->size, octets, size);
-    p->size += size;
-}
-
-static void add_start(struct page *p)
-{
-    static const uint8_t start[] = {0xFF, 0xD8, 0xFF, 0xED, 0,    16, 'M', 'R',  'C',  0,    0,
-                                    1,    4,    1,    0x01, 0x90, 0,  0,   0x13, 0x60, 0xFF, 0xD9};
-    p->size = 0;
-    add(p, start, sizeof start);
-}
-
-static void add_stripe(struct page *p, unsigned type, uint32_t mask)
-{
-    uint8_t s[39] = {0xFF, 0xED, 0, 37, 'M', 'R', 'C', 1, (uint8_t)type, 255, 128, 96, 0, 128, 96};
-    for (int i = 15; i < 31; i += 4)
-        put32(s + i, any(1000));
-    put32(s + 31, 1 + any(1000));
-    put32(s + 35, mask);
-    add(p, s, sizeof s);
-    for (; mask != 0; mask--)
-        p->octets[p->size++] = (uint8_t)any(256);
-}
-
-static void put(struct page *p, filler *f, size_t size)
-{
-    p->size = f(p->octets, p->size, size);
-}
-
-static void add_resolution(struct page *p)
-{
-    add(p, "\xff\xe1\0\14G3FAX\0\7\xca\0\xc8", 14);
-}
-
-static void add_frame(struct page *p)
-{
-    add(p, "\xff\xc0\0\13\10\2\0\3\0\1\1\21\0", 13);
-}
-
-static void add_scan(struct page *p)
-{
-    add(p, "\xff\xda\0\10\1\1\0\0\77\0", 10);
-}
-
-// One stripe with a background alone; one of the four places of the page is filled, the others get
-// `nothing`.
-static void make_large(struct page *p, size_t size, filler *optionals, filler *segments,
-                       filler *data, filler *behind)
-{
-    size_t full = size - ENDS;
-    add_start(p);
-    put(p, optionals, full);
-    add_stripe(p, 1, 0);
-    p->start = p->size;
-    add(p, "\xff\xd8", 2);
-    add_resolution(p);
-    put(p, segments, full);
-    add_frame(p);
-    add_scan(p);
-    put(p, data, full);
-    add(p, "\xff\xd9", 2);
-    p->end = p->size;
-    add(p, "\xff\xd9\xff\xd9", 4);
-    put(p, behind, full);
-}
-
-// Before a third of the markers.
-static void add_fill(struct page *p, bool filled)
-{
-    if (filled && any(3) == 0)
-        put(p, fill_octets, p->size + 1 + any(8));
-}
-
-static void add_layer(struct page *p, bool filled)
-{
-    add(p, "\xff\xd8", 2);
-    add_fill(p, filled);
-    add_resolution(p);
-    for (uint32_t k = any(4); k != 0; k--) {
-        add_fill(p, filled);
-        put(p, tables_of_9, p->size + 1);
-    }
-    add_fill(p, filled);
-    add_frame(p);
-    add_fill(p, filled);
-    add_scan(p);
-    put(p, filled && any(2) == 0 ? dense_restarts : random_scan, p->size + any(90));
-    add_fill(p, filled);
-    add(p, "\xff\xd9", 2);
-}
-
-// A few stripes of small layers, as most damage wants them.
-static void make_small(struct page *p, unsigned stripes, bool filled)
-{
-    static const uint8_t types[] = {1, 2, 3, 4, 6, 7};
-    add_start(p);
-    for (uint32_t k = any(3); k != 0; k--)
-        put(p, optional_segments, p->size + 1);
-    while (stripes-- != 0) {
-        unsigned type = types[any(6)];
-        add_stripe(p, type, type & 2 ? 1 + any(40) : 0);
-        for (unsigned layers = (type & 1) + (type >> 2); layers != 0; layers--)
-            add_layer(p, filled);
-    }
-    add(p, "\xff\xd9\xff\xd9\0\0", 4 + any(3));
-}
-
-static void damage(struct page *p)
-{
-    size_t at = any((uint32_t)p->size);
-    if (any(4) == 0) // a code behind an FF
-        while (at > 0 && p->octets[at - 1] != 0xFF)
-            at--;
-    switch (any(8)) {
-    case 0: p->size = at; break;
-    case 1: // an FF more
-        memmove(p->octets + at + 1, p->octets + at, p->size++ - at);
-        p->octets[at] = 0xFF;
-        break;
-    default: p->octets[at] = octet_near(p->octets[at]);
-    }
-}
-
 // ---- all must agree
 
 typedef spirerook_answer reader(const uint8_t *page, size_t page_len, uint8_t *sheet,
                                 size_t sheet_len);
 
-static reader *const readers[] = {spirerook_read, c_read_by_octets, c_read_by_memchr};
-static const char *const names[] = {"Rattle", "C by octets", "C by memchr"};
+#ifdef BEFORE
+reader before_read; // the call of that library, renamed
+#define SIDES 4
+#else
+#define SIDES 3
+#endif
+
+static reader *const readers[SIDES] = {
+    spirerook_read,
+    c_read_by_octets,
+    c_read_by_memchr,
+#ifdef BEFORE
+    before_read,
+#endif
+};
+static const char *const names[] = {"Rattle", "C by octets", "C by memchr", "before"};
 
 static void differ(const char *what, size_t k, spirerook_answer one, spirerook_answer other)
 {
@@ -172,14 +51,14 @@ static void differ(const char *what, size_t k, spirerook_answer one, spirerook_a
     exit(1);
 }
 
-// Answers what all three answer; the sheet is theirs.
+// Answers what all answer, so many of them; the sheet is theirs.
 static spirerook_answer agreed(const char *what, const struct page *p, size_t room,
-                               uint8_t sheet[SHEET_SIZE])
+                               uint8_t sheet[SHEET_SIZE], size_t sides)
 {
     uint8_t other[SHEET_SIZE];
     memset(sheet, 0xA5, SHEET_SIZE);
     spirerook_answer first = spirerook_read(p->octets, p->size, sheet, room);
-    for (size_t k = 1; k < 3; k++) {
+    for (size_t k = 1; k < sides; k++) {
         memset(other, 0xA5, SHEET_SIZE);
         spirerook_answer a = readers[k](p->octets, p->size, other, room);
         if (a.number != first.number || a.place != first.place || a.count != first.count)
@@ -190,11 +69,11 @@ static spirerook_answer agreed(const char *what, const struct page *p, size_t ro
     return first;
 }
 
-// Against what the maker knows, so that three wrong readers do not pass.
+// Against what the maker knows, so that wrong readers do not pass together.
 static void expect(const char *what, const struct page *p)
 {
     uint8_t sheet[SHEET_SIZE];
-    spirerook_answer a = agreed(what, p, SHEET_SIZE, sheet);
+    spirerook_answer a = agreed(what, p, SHEET_SIZE, sheet, SIDES);
     if (a.number != SPIREROOK_DONE || a.count != 3 || be32(sheet + 18) != p->start ||
         be32(sheet + 22) != p->end - p->start) {
         fprintf(stderr, "bench: %s: not the records that were made\n", what);
@@ -209,9 +88,17 @@ static void expect_small(const struct page *p, uint32_t stripes, size_t room,
     uint32_t number = stripes > 64                   ? SPIREROOK_BAD_STRIPE
                       : room < records * RECORD_SIZE ? SPIREROOK_NO_ROOM
                                                      : SPIREROOK_DONE;
-    spirerook_answer a = agreed("a small page", p, room, sheet);
+    spirerook_answer a = agreed("a small page", p, room, sheet, 3);
     if (a.number != number || a.count != (number == SPIREROOK_DONE ? records : 0))
         differ("a small page, against what was made", 0, a, (spirerook_answer){number, 0, records});
+    unsigned layers = 0;
+    for (size_t k = 0; k < a.count; k++) {
+        const uint8_t *record = sheet + k * RECORD_SIZE;
+        bool image = k % 3 != 1 && be32(record + 22) != 0;
+        if (record[17] != (image && p->octets[p->counts[layers]] == 1))
+            differ("octet 17, against what was made", 0, a, a);
+        layers += image;
+    }
 }
 
 static void agree_on_damaged(struct page *p)
@@ -225,7 +112,7 @@ static void agree_on_damaged(struct page *p)
         expect_small(p, stripes, room, sheet);
         for (uint32_t times = 1 + any(2); times != 0 && p->size != 0; times--)
             damage(p);
-        good += agreed("a damaged page", p, SHEET_SIZE, sheet).number == SPIREROOK_DONE;
+        good += agreed("a damaged page", p, SHEET_SIZE, sheet, 3).number == SPIREROOK_DONE;
     }
     printf(
         "Rattle and both in C agree on %d pages and on each once damaged: %u still good, %u refused\n\n",
@@ -255,6 +142,12 @@ static uint64_t by_memchr(const void *work)
 {
     return timed(c_read_by_memchr, work);
 }
+#ifdef BEFORE
+static uint64_t before(const void *work)
+{
+    return timed(before_read, work);
+}
+#endif
 
 static unsigned over;
 
@@ -302,15 +195,38 @@ static const struct row rows[] = {
 // The first of the rows of one kind, by size.
 enum { RANDOM, FILL_IN_SCAN = 3, FILL_OUTSIDE = 5 };
 
-static double best[ROWS + 1][3]; // of each side; the last row is the small page
+static double best[ROWS + 1][SIDES]; // of each side; the last row is the small page
 static size_t sizes[ROWS + 1];
 
 static void time_page(size_t row, const struct page *p)
 {
-    side *const sides[] = {rattle, by_octets, by_memchr};
+    static side *const sides[SIDES] = {
+        rattle,
+        by_octets,
+        by_memchr,
+#ifdef BEFORE
+        before,
+#endif
+    };
     sizes[row] = p->size;
-    take_turns(sides, 3, p, ROUND_NS, ROUNDS, best[row]);
+    take_turns(sides, SIDES, p, ROUND_NS, ROUNDS, best[row]);
 }
+
+// ---- grey layers beside coloured ones
+
+static double best_of_pair[2][OF_PAIR]; // of small layers; of scan data
+
+// The same page with layers of three components, and with each of one.
+static void time_pair(const struct page *p, double pair_best[OF_PAIR])
+{
+    static struct page other;
+    other = *p;
+    for (unsigned k = 0; k < other.layers; k++)
+        make_grey(&other, k);
+    take_pair(&(struct pair){rattle, by_octets, p, &other}, ROUND_NS, ROUNDS, pair_best);
+}
+
+// ---- all rows
 
 static void time_all(struct page *p)
 {
@@ -322,6 +238,9 @@ static void time_all(struct page *p)
     }
     make_small(p, 64, false);
     time_page(ROWS, p);
+    time_pair(p, best_of_pair[0]);
+    make_large(p, MB, nothing, nothing, random_scan, nothing);
+    time_pair(p, best_of_pair[1]);
 }
 
 static void print_row(size_t row, const char *name, double octets_limit, double memchr_limit)
@@ -330,8 +249,22 @@ static void print_row(size_t row, const char *name, double octets_limit, double 
     printf("%-34s %10.1f %10.1f %10.1f", name, t[0] / 1e3, t[1] / 1e3, t[2] / 1e3);
     print_ratio(t[0] / t[1], octets_limit);
     print_ratio(t[0] / t[2], memchr_limit);
-    printf(" %7.2f\n", (double)sizes[row] / t[0]);
+    printf(" %7.2f", (double)sizes[row] / t[0]);
+#ifdef BEFORE
+    printf(" %9.2f", t[0] / t[SIDES - 1]);
+#endif
+    putchar('\n');
 }
+
+#ifdef BEFORE
+static void print_before(void)
+{
+    double worst = 0;
+    for (size_t i = 0; i <= ROWS; i++)
+        worst = best[i][0] / best[i][SIDES - 1] > worst ? best[i][0] / best[i][SIDES - 1] : worst;
+    printf("reading beside the library before: of %zu rows the worst is %.2f\n", ROWS + 1, worst);
+}
+#endif
 
 // Fill is walked once: an octet of it takes as long in 16 MB as in 4 MB, as far as the machine's
 // memory lets it, which the C side shows too.
@@ -351,13 +284,13 @@ int main(void)
 {
     static struct page p;
     agree_on_damaged(&p);
-    for (size_t i = 0; i <= ROWS; i++)
-        for (size_t k = 0; k < 3; k++)
-            best[i][k] = NO_TIME;
+    forget(best[0], (ROWS + 1) * SIDES);
+    forget(best_of_pair[0], 2 * OF_PAIR);
     for (int pass = 0; pass < PASSES; pass++)
         time_all(&p);
-    printf("%-34s %10s %10s %10s %17s %17s %6s\n", "best of many rounds, microseconds", "Rattle",
-           "C octets", "C memchr", "/ octets  limit", "/ memchr  limit", "GB/s");
+    printf("%-34s %10s %10s %10s %17s %17s %6s %s\n", "best of many rounds, microseconds", "Rattle",
+           "C octets", "C memchr", "/ octets  limit", "/ memchr  limit", "GB/s",
+           SIDES > 3 ? " / before" : "");
     for (size_t i = 0; i < ROWS; i++)
         print_row(i, rows[i].name, rows[i].octets_limit, rows[i].memchr_limit);
     print_row(ROWS, "64 stripes of small layers", 0, 0);
@@ -365,6 +298,11 @@ int main(void)
            best[RANDOM + 1][0] / best[RANDOM][0], best[RANDOM + 2][0] / best[RANDOM][0]);
     print_growth("FF before the end of image", FILL_IN_SCAN);
     print_growth("FF before the frame", FILL_OUTSIDE);
+    print_pair("64 stripes of small layers", best_of_pair[0]);
+    print_pair("random scan data, 1 MB", best_of_pair[1]);
+#ifdef BEFORE
+    print_before();
+#endif
     printf(
         "ratios: Rattle / C, below 1 is faster than C; %u over their limits, marked !; GB/s: octets of the page that the Rattle call reads\n",
         over);

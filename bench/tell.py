@@ -46,23 +46,45 @@ def judge(lines):
           [(name, numbers[2]) for name, numbers in rows])
 
 
+BEFORE = "beside the library before"
+
+
+def has_before(lines):
+    """Whether BEFORE named an archive: then a ratio more stands at the end of each row."""
+    return any(BEFORE in line for line in lines)
+
+
+def tell_lines(lines, begin, *words):
+    """The lines behind a heading, up to the next, that have one of these words: as sentences."""
+    at = next(k for k, line in enumerate(lines) if begin in line) + 1
+    end = next((k for k in range(at, len(lines)) if "best of many rounds" in lines[k]), len(lines))
+    told = [line.strip().replace("!", "") for line in lines[at:end] if any(word in line for word in words)]
+    if told:
+        print("\n" + wrapped(" ".join("%s%s." % (line[0].upper(), line[1:]) for line in told)))
+
+
+GREY = ": grey layers take "
+
+
 def pages(lines):
-    rows = []
-    for line in block(lines, "/ octets  limit"):
+    rows, begin = [], "/ octets  limit"
+    for line in block(lines, begin):
         name, numbers = line[:36].strip(), line[36:].replace("!", " ")
-        rows.append((name, numbers[33:42].strip(), numbers[49:60].strip()))
-    table("Reading a page", "Beside C that looks at each octet, and C that finds FF by memchr.", ("page", "beside C by octets", "beside C by memchr"), rows)
-    growth = [line.rstrip().replace("!", "") for line in lines if ": an octet of 16 MB takes " in line]
-    print("\n" + wrapped(" ".join("%s." % line for line in growth)))
+        rows.append((name, numbers[33:42].strip(), numbers[49:60].strip(), *(numbers.split()[-1:] if has_before(lines) else ())))
+    columns = ("page", "beside C by octets", "beside C by memchr", BEFORE)
+    table("Reading a page", "Beside C that looks at each octet, and C that finds FF by memchr.", columns[:len(rows[0])], rows)
+    tell_lines(lines, begin, ": an octet of 16 MB takes ")
+    tell_lines(lines, begin, GREY)
 
 
 def writes(lines):
-    rows = []
-    for line in block(lines, "copy + read  / octets"):
+    rows, begin = [], "copy + read  / octets"
+    for line in block(lines, begin):
         name, numbers = line[:36].strip(), line[36:].split()
-        rows.append((name, *(numbers[4:7] if numbers[3] != "-" else [*numbers[4:6], ""])))
-    table("Writing a page", "Beside the same in C, and beside one memcpy of the page and one proved reading of it.",
-          ("page", "beside C by octets", "beside C by memchr", "beside copy and read"), rows)
+        rows.append((name, *(numbers[4:7] if numbers[3] != "-" else [*numbers[4:6], ""]), *(numbers[-1:] if has_before(lines) else ())))
+    columns = ("page", "beside C by octets", "beside C by memchr", "beside copy and read", BEFORE)
+    table("Writing a page", "Beside the same in C, and beside one memcpy of the page and one proved reading of it.", columns[:len(rows[0])], rows)
+    tell_lines(lines, begin, GREY)
 
 
 def line_ratios(line):
@@ -72,9 +94,9 @@ def line_ratios(line):
 
 
 def lines_of_pixels(lines):
-    beside = ("beside literal C", "beside C by rows", "beside the library before")
+    beside = ("beside literal C", "beside C by rows", BEFORE)
     groups = {}
-    for line in block(lines, "nanoseconds a pixel"):
+    for line in block(lines, "nanoseconds a pixel, best"):
         name, ratios = line_ratios(line)
         groups.setdefault(int(name.split()[0]), []).append([float(ratio) for ratio in ratios])
     rows = [("%d layers, %d rows" % (layers, len(ratios)), *("%.2f to %.2f" % (min(column), max(column)) for column in zip(*ratios)))
@@ -85,8 +107,21 @@ def lines_of_pixels(lines):
     others = [line_ratios(line) for line in block(lines, "microseconds a line")]
     table("Lines of other kinds", "The same, a line each. The library before is that whose archive BEFORE named." if len(rows[0]) > 3 else "The same, a line each.", ("line", *beside[:len(rows[0]) - 1]), [(name, *ratios) for name, ratios in others])
     for line in lines:
-        if line.startswith("beside the library before"):
+        if line.startswith(BEFORE):
             print("\n" + wrapped("B%s." % line[1:].rstrip()))
+
+
+def greys(lines):
+    groups, begin = {}, "grey layers, nanoseconds a pixel"
+    for line in block(lines, begin):
+        numbers = re.findall(r"\d+\.\d+", line[46:])
+        groups.setdefault(int(line.split()[0]), []).append([float(ratio) for ratio in numbers[2:5]])
+    rows = [("%d layers, %d rows" % (layers, len(ratios)), *("%.2f to %.2f" % (min(column), max(column)) for column in zip(*ratios)))
+            for layers, ratios in sorted(groups.items())]
+    table("A line of grey layers", "All image layers grey, one octet a sample, beside the same greys as coloured layers, three octets a sample: the "
+          "same page, the same line octet for octet, in turns. Then beside the composers in C, which are lent the grey layers too.",
+          ("stripe", "beside coloured", "beside literal C", "beside C by rows"), rows)
+    tell_lines(lines, begin, "lines of grey layers take ")
 
 
 def viewer(lines):
@@ -98,12 +133,13 @@ def viewer(lines):
     ratio = re.search(r"literal C composer: ([\d.]+), limit ([\d.]+)", lines[at + 6])
     print("\n" + wrapped("Composing through the library takes %s of what the same viewer takes with the literal C composer in "
                          "its place; the limit is %s. The picture is the same, octet for octet." % ratio.groups()))
+    tell_lines(lines, "composing through the library", "a grey page of ")
 
 
 def main():
     lines = sys.stdin.read().splitlines()
     print(HEAD, end="")
-    for part in (judge, pages, writes, lines_of_pixels, viewer):
+    for part in (judge, pages, writes, lines_of_pixels, greys, viewer):
         part(lines)
 
 

@@ -1,8 +1,10 @@
-"""The viewer's profile on an A4 page at 300 to the inch, and its composing beside the literal C composer.
+"""The viewer's profile on an A4 page at 300 to the inch, its composing beside the literal C composer,
+and a grey page beside the same page in colour.
 
 A page of text on paper with coloured words and two passes of pencil is made by spirerook-make. The
 viewer is built twice, over the library and over bench/line.c in the place of spirerook_line_unseen;
-both show the page in turns, their pictures must be the same, and medians are told.
+both show the page in turns, their pictures must be the same, and medians are told. Then text on a grey
+scan at the page's resolution, made with a grey layer and with a coloured one, is shown in turns.
 """
 
 import os
@@ -16,6 +18,7 @@ ROOT = os.path.dirname(os.path.dirname(os.path.abspath(__file__)))
 FOLDER = os.path.join(ROOT, "build", "bench_view")
 WIDTH, STRIPES, HEIGHT = 2480, 4, 877
 ROUNDS, LIMIT, ELSE_LIMIT = 15, 1.3, 0.1
+GREY_ROUNDS, GREY_LIMIT = 9, 1.1       # of the time; memory must be less
 PARTS = ("decoding", "composing", "colour", "PNG", "all else")
 
 
@@ -86,6 +89,51 @@ def make_page():
     return [page, "--pencil", sheet, pencil]
 
 
+def grey_scan():
+    """Samples about a light grey, one for each pixel of the page, as a PGM."""
+    shades = bytes(200 + value % 32 for value in range(256))
+    size = (WIDTH, STRIPES * HEIGHT)
+    return b"P5 %d %d 255\n" % size + random.Random(HEIGHT).randbytes(size[0] * size[1]).translate(shades)
+
+
+def make_scan(kind):
+    """The text on a scan, a page of one stripe; the scan's layer is of this kind: grey or coloured."""
+    keep("scan.pgm", grey_scan())
+    keep("text.pbm", run(["pnmcat", "-tb", *(os.path.join(FOLDER, "text%d.pbm" % stripe) for stripe in range(STRIPES))]))
+    keep(kind + ".plan", b"resolution 300\nstripe\nbackground scan.pgm %s\nmask text.pbm\n" % kind.encode())
+    page = os.path.join(FOLDER, kind + ".page")
+    run(["build/spirerook-make", os.path.join(FOLDER, kind + ".plan"), "-o", page])
+    return page
+
+
+def shown(page, out):
+    """Seconds of all and of decoding and composing, and the most memory that a process of it had, in KiB."""
+    program = "import os, resource, subprocess, sys; subprocess.run(sys.argv[1:], check=True); " \
+              "print(resource.getrusage(resource.RUSAGE_CHILDREN).ru_maxrss)"
+    told = run([sys.executable, "-c", program, "build/spirerook-view", page, "--times", "-o", out]).decode()
+    found = re.search(r"^([\d.]+) s: decoding ([\d.]+), composing ([\d.]+), .*$", told, re.M)
+    return [*(float(each) for each in found.groups()), int(told.split()[-1])]
+
+
+def tell_grey():
+    """A grey page beside the same in colour."""
+    pages = {kind: make_scan(kind) for kind in ("grey", "coloured")}
+    outs = {kind: os.path.join(FOLDER, kind + ".png") for kind in pages}
+    found = {kind: [] for kind in pages}
+    for _ in range(GREY_ROUNDS):
+        for kind, page in pages.items():
+            found[kind].append(shown(page, outs[kind]))
+    pictures = [open(out, "rb").read() for out in outs.values()]
+    if pictures[0] != pictures[1]:
+        sys.exit("bench: the grey page and the coloured one show different pictures")
+    medians = {kind: [statistics.median(column) for column in zip(*rows)] for kind, rows in found.items()}
+    whole, decoding, composing, memory = (a / b for a, b in zip(medians["grey"], medians["coloured"]))
+    octets = os.path.getsize(pages["grey"]) / os.path.getsize(pages["coloured"])
+    print("a grey page of %d by %d samples beside the same in colour, medians of %d runs: time %.2f, decoding %.2f, composing %.2f, "
+          "memory %.2f, octets of the page %.2f" % (WIDTH, STRIPES * HEIGHT, GREY_ROUNDS, whole, decoding, composing, memory, octets))
+    return whole <= GREY_LIMIT and memory < 1
+
+
 def build_literal():
     """The viewer with the C composer where it calls the library's."""
     objects = ["build/host/%s.o" % name for name in run(["make", "-s", "view-objects"]).decode().split() if name != "view/view"]
@@ -127,6 +175,7 @@ def main():
     ratio = medians["library"][2] / medians["C"][2]
     print("composing through the library beside the literal C composer: %.2f, limit %.1f" % (ratio, LIMIT))
     good = ratio <= LIMIT and parts[-1] / whole <= ELSE_LIMIT
+    good = tell_grey() and good
     print("within the limits" if good else "OVER A LIMIT")
     sys.exit(not good)
 

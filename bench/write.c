@@ -34,7 +34,8 @@ static bool agrees(const struct writer *w, const uint8_t *record)
     uint32_t main = be16(w->sheet + RECORD_SIZE + 12); // layer 2's, the same in all stripes
     if (WALK(w->data + be32(record + 18), be32(record + 22), 0, main, found, &fault) == 0)
         return false;
-    return memcmp(found + 8, record + 8, 6) == 0 && memcmp(found + 22, record + 22, 4) == 0;
+    return memcmp(found + 8, record + 8, 6) == 0 && found[17] == record[17] &&
+           memcmp(found + 22, record + 22, 4) == 0;
 }
 
 // The number of a record's fault, or Done.
