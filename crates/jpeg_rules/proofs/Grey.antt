@@ -1,7 +1,7 @@
 -- What a layer says of itself and what its record says are the same: octet 17 keeps the count of components, and nothing else does.
 -- Assumes nothing.
 use Prim.Native.Nat.{ℕ}
-use mathlib.Core.Path.{_≡_, refl, sym, ap, _∙_}
+use mathlib.Core.Path.{_≡_, sym, ap, _∙_}
 use mathlib.Core.Logic.{_⊎_, inl, inr}
 use mathlib.Core.Bool.{cond}
 use lib.Dec.{eqb}

@@ -13,7 +13,7 @@ use Rattle.octets.proofs.Laws.{put-put}
 use Rattle.octets.specs.Entries.{joined}
 use Rattle.sheet_rules.specs.declared.Colour.{Colour}
 use Rattle.sheet_rules.specs.declared.Record.{Record}
-use Rattle.sheet_rules.specs.Record.{encode, sheetOf, recordSize}
+use Rattle.sheet_rules.specs.Record.{marked, encode, sheetOf, recordSize}
 use Rattle.sheet_rules.proofs.Cut.{length-encode}
 use Rattle.start_rules.specs.declared.Head.{Head}
 use Rattle.mode1_rules.specs.declared.Fields.{Fields}
@@ -58,24 +58,7 @@ module _ (c : LayerData) (x y : ℕ) (p : Placed c x y) {start size : ℕ} {said
 
 module _ (hd : Head) (k layer : ℕ) (base : Colour) (x y : ℕ) (c : LayerData) where
   pub image-there : {start size u v g : ℕ} {said : Said} → c ≡ There start size said → u ≡ x → v ≡ y → g ≡ greyOctet (said .components)
-      → record {
-        stripe = k;
-        layer = layer;
-        coder = 1;
-        x = u;
-        y = v;
-        width = said .width;
-        height = said .height;
-        res = said .res;
-        base0 = base .c0;
-        base1 = base .c1;
-        base2 = base .c2;
-        octet17 = g;
-        start = start;
-        len = size;
-        octets26 = 0;
-      }
-      ≡ imageRecord hd k layer base x y c
+      → marked g (imageRecord hd k layer base u v (There start size said)) ≡ imageRecord hd k layer base x y c
   unfolding imageRecord
   image-there z d f h = rw (z, d, f, h) refl
 

@@ -1,5 +1,6 @@
 use Rattle.read_records.proofs.Laws.{image-laws}
 use borrow.Author.Needs.{needs}
+use Rattle.mode1_rules.specs.Kinds as Kinds
 use Rattle.read_records.proofs.image_record.Statement.{statement}
 use Rattle.read_records.proofs.image_record.Tie as tie
 
@@ -22,6 +23,7 @@ absent-record-requires : tie.Need-absent-record-requires
 absent-record-requires c κs = search needs
 
 returns : tie.Need-returns
+unfolding Kinds.imageRecord
 returns c = search image-laws
 
 returns-2 : tie.Need-returns-2
