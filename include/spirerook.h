@@ -225,8 +225,9 @@ spirerook_answer spirerook_line(const uint8_t *sheet, size_t sheet_len, const ui
 /* The same with another colour for unseen pixels: they are u0 u1 u2 0, whatever three octets these
  * are.  Answers, places and all seen pixels are those of spirerook_line, which is this call with
  * SPIREROOK_UNSEEN.
- * With 0, 0, 0 it is spirerook_line as it was before version 1.2.0, for all that may be lent.  So a
- * program that looks for 0 0 0 0 calls this one, or goes by the fourth octet. */
+ * With 0, 0, 0 it is spirerook_line as it was before version 1.2.0, for all that may be lent but
+ * sheets with grey layers, which were BadSheet then.  So a program that looks for 0 0 0 0 calls this
+ * one, or goes by the fourth octet. */
 spirerook_answer spirerook_line_unseen(const uint8_t *sheet, size_t sheet_len,
                                        const uint8_t *planes, size_t planes_len,
                                        const uint8_t *samples, size_t samples_len, uint32_t stripe,

@@ -1,7 +1,7 @@
 -- The line call as it was before the unseen colour became the caller's (02, 2026-01), frozen under its own names for those who look for 0 0 0 0.
 -- `line-before` (proofs/Before.antt) says that a line with the unseen colour 0 0 0 is this one, for every input, and `lined-before` of `call_rules` says
 -- it of the calls. It stays as it is when the line of today changes. What both share lies below a call: the judge and the stripe table of the sheet,
--- what a layer's samples take, and the picture of a pixel.
+-- what a layer's samples take, and the picture of a pixel. So a sheet with a grey layer (02, 2026-07), which was BadSheet then, is one to both.
 --
 --   baseFour p        the colour and 1 for seen, or 0 0 0 0 for unseen
 --   basePixels f n    the octets of the first n pixels of a line
