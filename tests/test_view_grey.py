@@ -130,27 +130,24 @@ def check_pencil_data(tally, coders, rng):
 
 
 def check_pencil_sheet(tally, coders, rng):
-    """Octet 17 of layers 1 to 3 is the page's own; a sheet of before has 0 over one component."""
-    for number, grey, why in (
-            (1, (1,), "octet 17 must be 1, since the page's layer is grey; sheets made before version 2.0.0 have 0"),
-            (3, (3,), "octet 17 must be 1, since the page's layer is grey; sheets made before version 2.0.0 have 0"),
-            (3, (1,), "layers 1 to 3 are not the page's own")):
+    """Octet 17 of layers 1 to 3 is the page's own; a sheet of before has 0 over one component. One that
+    differs besides is another page's."""
+    before = "octet 17 must be 1, since the page's layer is grey; sheets made before version 2.0.0 have 0"
+    other = "layers 1 to 3 are not the page's own"
+    for number, grey, width, why in ((1, (1,), None, before), (3, (3,), None, before), (3, (1,), None, other),
+                                     (1, (1,), 56, other), (3, (3,), 28, other)):
         words, _ = test_view.words_for(coders, some_page(coders, rng, grey))
         sheet, pencil = words[words.index("--pencil") + 1:][:2]
         octets = bytearray(view_making.read(sheet))
         octets[28 * (number - 1) + GREY_AT] ^= 1
+        if width is not None:
+            sheet_making.put(octets, number - 1, "width", width)
         write(sheet, octets)
         view_making.write_side(words[0], sheet, pencil)
         shown = Shown(words)
         due = "%s: refused at record %d: %s\n" % (sheet, number - 1, why)
         tally.check((shown.status, shown.told, shown.wrong) == (1, "", due), "layer %d of a sheet, grey %s: %s%s"
                     % (number, grey, shown.told, shown.wrong))
-    sheet_making.put(octets, 2, "width", 28)
-    octets[2 * 28 + GREY_AT] ^= 1
-    write(sheet, octets)
-    view_making.write_side(words[0], sheet, pencil)
-    due = "%s: refused at record 2: layers 1 to 3 are not the page's own\n" % sheet
-    tally.check(Shown(words).wrong == due, "another width: %s" % Shown(words).wrong)
 
 
 def check_counts(tally, coders, rng):
