@@ -3,7 +3,7 @@
 use Prim.Native.Nat.{ℕ, _+_}
 use mathlib.Core.Bool.{Bool, true, false}
 use mathlib.Core.List.{List}
-use mathlib.Core.Path.{_≡_, refl, sym, subst, _∙_}
+use mathlib.Core.Path.{_≡_, refl, sym, ap, subst, _∙_}
 use lib.ListN.{getD}
 use borrow.Author.Needs.{needs}
 use borrow.Author.Tests.{eq-eqb, ne-eqb}
@@ -38,14 +38,17 @@ module _ (s : List ℕ) (st : Reach) (n next : ℕ) {h : ℕ} (e : h ≡ be16At 
     unfolding frameBodyOf
     no-width z = simp (ne-eqb (be16At s (n + 3)) 0 (rw e at d), eq-eqb (be16At s (n + 5)) 0 (sym f ∙ z))
 
-    module _ (m : w ≡ 0 → ⊥) {b : Bool} (g : b ≡ componentsOk (getD s (n + 7) 0)) where
+    module _ (m : w ≡ 0 → ⊥) {v : ℕ} (q : v ≡ getD s (n + 7) 0) {b : Bool} (g : b ≡ componentsOk v) where
+      taken : b ≡ componentsOk (getD s (n + 7) 0)
+      taken = g ∙ ap componentsOk q
+
       pub other-count : b ≡ false → refused (BadLayer (n + 7)) ≡ frameBodyOf s st n next
       unfolding frameBodyOf
-      other-count z = simp (ne-eqb (be16At s (n + 3)) 0 (rw e at d), ne-eqb (be16At s (n + 5)) 0 (rw f at m), sym g ∙ z)
+      other-count z = simp (ne-eqb (be16At s (n + 3)) 0 (rw e at d), ne-eqb (be16At s (n + 5)) 0 (rw f at m), sym taken ∙ z)
 
-      pub whole-frame : b ≡ true → Go (framed st next (record { width = w; height = h; res = st .said .res; components = getD s (n + 7) 0 })) ≡ frameBodyOf s st n next
+      pub whole-frame : b ≡ true → Go (framed st next (record { width = w; height = h; res = st .said .res; components = v })) ≡ frameBodyOf s st n next
       unfolding frameBodyOf
-      whole-frame z = rw (e, f) (simp (ne-eqb (be16At s (n + 3)) 0 (rw e at d), ne-eqb (be16At s (n + 5)) 0 (rw f at m), sym g ∙ z))
+      whole-frame z = rw (e, f, q) (simp (ne-eqb (be16At s (n + 3)) 0 (rw e at d), ne-eqb (be16At s (n + 5)) 0 (rw f at m), sym taken ∙ z))
 
 pub ruleset frame-body-laws = (needs, no-height, no-width, other-count, whole-frame)
 

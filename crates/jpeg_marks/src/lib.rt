@@ -13,8 +13,14 @@ use jpeg_rules::Turn;
 use jpeg_rules::Walk;
 use jpeg_scan::Next;
 
+fn count_of(octet: u8) -> u32
+    ensures { λ r. ⌜ r ≡ octet ⌝ }
+{
+    octet as u32
+}
+
 // 02, 2026-07: lightness alone, or lightness and chroma.
-fn components_ok(n: u8) -> bool
+fn components_ok(n: u32) -> bool
     ensures { λ b. ⌜ b ≡ componentsOk n ⌝ }
 {
     (n == 1) | (n == 3)
@@ -33,7 +39,7 @@ fn frame_body(s: &[u8], st: Reach, n: usize, next: usize) -> Turn
     if width == 0 {
         return Turn::Stop(Walk::Refused(Fault::BadLayer(n + 5)));
     }
-    let components = s[n + 7];
+    let components = count_of(s[n + 7]);
     if components_ok(components) {
         Turn::Go(Reach {
             at: next,

@@ -46,12 +46,13 @@ pub enum Tag {
     Plain,
 }
 
-// What a JPEG layer says of itself: its size, its resolution, and how many components its frame has.
+// What a JPEG layer says of itself: its size, its resolution, and how many components its frame has. The count is no octet, since a struct of eight
+// octets is copied as one number that its fields are then cut out of: pages of many small segments were read at half the speed.
 pub struct Said {
     pub width: u16,
     pub height: u16,
     pub res: u16,
-    pub components: u8,
+    pub components: u32,
 }
 
 // What is known where a marker is due, at `at`. A resolution of 0 is none yet.

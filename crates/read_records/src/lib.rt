@@ -50,7 +50,7 @@ fn absent_record(hd: Head, k: u16, layer: u8, base: Colour) -> Record
 }
 
 // 02, 2026-07: octet 17 tells a layer of lightness alone.
-fn grey_octet(components: u8) -> u8
+fn grey_octet(components: u32) -> u8
     ensures { λ r. ⌜ r ≡ greyOctet components ⌝ }
 {
     if components == 1 { 1 } else { 0 }

@@ -10,7 +10,7 @@ use jpeg_rules::Walk;
 use sheet_rules::Record;
 
 // 02, 2026-07: what octet 17 tells of the layer's data.
-fn components_of(octet17: u8) -> u8
+fn components_of(octet17: u8) -> u32
     ensures { λ n. ⌜ n ≡ cond (eqb octet17 1) 1 3 ⌝ }
 {
     if octet17 == 1 { 1 } else { 3 }

@@ -27,11 +27,14 @@ add-t13 c = search needs
 returns-2 : tie.Need-returns-2
 returns-2 c = search frame-body-laws
 
-add-components : tie.Need-add-components
-add-components c = search needs
+add-count-of : tie.Need-add-count-of
+add-count-of c = search needs
 
-shared-slice-read-components : tie.Need-shared-slice-read-components
-shared-slice-read-components c = search needs
+shared-slice-read-count-of : tie.Need-shared-slice-read-count-of
+shared-slice-read-count-of c = search needs
+
+count-of-requires : tie.Need-count-of-requires
+count-of-requires c κs = search needs
 
 components-ok-requires : tie.Need-components-ok-requires
 components-ok-requires c κs = search needs
@@ -44,8 +47,9 @@ returns-3 c = search frame-body-laws
 
 returns-4 : tie.Need-returns-4
 returns-4 c =
-    other-count _ _ _ _ (c .before .before .before .before .before .before .be16 .ensures) (c .before .before .before .before .before .if1 .left) (c .before .before .before .before .be162 .ensures)
-    (c .before .before .before .if2 .left) (c .before .components-ok .ensures) (c .if3 .left)
+    other-count _ _ _ _ (c .before .before .before .before .before .before .before .be16 .ensures) (c .before .before .before .before .before .before .if1 .left)
+    (c .before .before .before .before .before .be162 .ensures) (c .before .before .before .before .if2 .left) (c .before .before .count-of .ensures)
+    (c .before .components-ok .ensures) (c .if3 .left)
 
 pub frame-body-spec : {M : Type 1} → statement M
 frame-body-spec =
@@ -59,8 +63,9 @@ frame-body-spec =
     be16-requires-2
     add-t13
     returns-2
-    add-components
-    shared-slice-read-components
+    add-count-of
+    shared-slice-read-count-of
+    count-of-requires
     components-ok-requires
     add-t22
     returns-3
