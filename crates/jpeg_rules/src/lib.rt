@@ -46,13 +46,14 @@ pub enum Tag {
     Plain,
 }
 
-// What a JPEG layer says of itself: its size, its resolution, and how many components its frame has. The count is no octet, since a struct of eight
-// octets is copied as one number that its fields are then cut out of: pages of many small segments were read at half the speed.
+// What a JPEG layer says of itself: how many components its frame has, its size and its resolution. The count is no octet and stands first: a struct
+// of eight octets is copied as one number that its fields are then cut out of, and one with a gap in it is copied otherwise; pages of many small
+// segments were read at half and at two thirds of the speed.
 pub struct Said {
+    pub components: u32,
     pub width: u16,
     pub height: u16,
     pub res: u16,
-    pub components: u32,
 }
 
 // What is known where a marker is due, at `at`. A resolution of 0 is none yet.
