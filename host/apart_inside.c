@@ -110,7 +110,8 @@ static rlim_t address_space(void)
     return high;
 }
 
-/* The processor's time ends the process by a signal: to a microsecond, and again by the second. */
+/* The processor's time ends the process by a signal: to a microsecond, and again by the second.  That
+ * one kills, which tells nothing of time, and so must not come at the same tick. */
 static void bound_work(const apart_bounds *bounds)
 {
     double whole = floor(bounds->seconds);
@@ -120,7 +121,7 @@ static void bound_work(const apart_bounds *bounds)
     lower(RLIMIT_CORE, 0);
     lower(RLIMIT_FSIZE, 0);
     lower(RLIMIT_NPROC, 0);
-    lower(RLIMIT_CPU, (rlim_t)whole + 1);
+    lower(RLIMIT_CPU, (rlim_t)whole + 2);
     setitimer(ITIMER_PROF, &alarm, NULL);
 }
 

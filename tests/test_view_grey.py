@@ -111,13 +111,20 @@ def check_memory(tally, coders, rng):
 
 # Disagreement
 
+def shown_without_5(coders, rng, grey):
+    """A page on which layer 5 shows somewhere, with it and as if it could not be read."""
+    while True:
+        words, out = test_view.words_for(coders, some_page(coders, rng, grey))
+        good = show(words, out)
+        due = show([*words, "--unread", "0:5"], out)
+        if due.out != good.out:
+            return words, out, good, due
+
+
 def check_pencil_data(tally, coders, rng):
     """Octet 17 of a pencil layer against its data, both ways: unread, as if it was asked for."""
     for grey in ((5,), ()):
-        page = some_page(coders, rng, grey)
-        words, out = test_view.words_for(coders, page)
-        good = show(words, out)
-        due = show([*words, "--unread", "0:5"], out)
+        words, out, good, due = shown_without_5(coders, rng, grey)
         sheet, pencil = words[words.index("--pencil") + 1:][:2]
         octets = bytearray(view_making.read(sheet))
         tally.check(octets[4 * 28 + GREY_AT] == int(bool(grey)) and good.is_read(0, 5), "no good sheet: %s" % good.told)
