@@ -43,9 +43,19 @@ def page_of(coders, masks, rows, grey):
     return Page(WIDTH, MAIN, 4).add(layers, HEIGHT)
 
 
+def mixed_masks(rng):
+    """Masks of layers 2 and 4, so that each layer shows somewhere: a fifth of each at least is 1, and
+    a fifth 0."""
+    masks = {}
+    while len(masks) < 2:
+        mask = random_mask(rng, WIDTH, HEIGHT)
+        if 0.2 <= sum(map(sum, mask)) / (WIDTH * HEIGHT) <= 0.8:
+            masks[2 * len(masks) + 2] = mask
+    return masks
+
+
 def some_page(coders, rng, grey):
-    masks = {number: random_mask(rng, WIDTH, HEIGHT) for number in (2, 4)}
-    return page_of(coders, masks, grey_rows(rng), grey)
+    return page_of(coders, mixed_masks(rng), grey_rows(rng), grey)
 
 
 def show(words, out):
@@ -59,7 +69,7 @@ def show(words, out):
 def check_pair(tally, coders, rng):
     """Grey layers beside the coloured ones of the same greys: all choices of layers that are unread,
     and the ways of drawing them."""
-    masks, rows = {number: random_mask(rng, WIDTH, HEIGHT) for number in (2, 4)}, grey_rows(rng)
+    masks, rows = mixed_masks(rng), grey_rows(rng)
     pages = [page_of(coders, masks, rows, grey) for grey in ((), (1, 3, 5))]
     files = []
     for k, page in enumerate(pages):
