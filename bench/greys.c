@@ -13,20 +13,11 @@
 #define ROUND_NS 20000.0
 #define SMALL 20000
 #define LIMIT 1.1 // of a row; the mean of all should be 1 at most
-#define WIDTH 4096
-#define LINES 16
 #define MOST_OCTETS (15 * 3 * (WIDTH + 12) * (LINES + 12)) // of the samples of a page in colour
-#define ROWS (3 * 6 * 2 * 2)
 
 static composer *const composers[] = {spirerook_line_unseen, c_line, c_line_by_rows};
 
 #define COMPOSERS (sizeof composers / sizeof composers[0])
-
-static spirerook_answer call(composer *f, const struct work *w, uint8_t *out)
-{
-    return f(w->sheet, w->sheet_size, w->planes, w->planes_size, w->samples, w->samples_size,
-             w->stripe, w->line, w->unseen[0], w->unseen[1], w->unseen[2], out, w->room);
-}
 
 // ---- the same line
 
@@ -38,7 +29,7 @@ static void expect_same(const char *name, const struct work *grey, const struct 
         const struct work *sides[] = {grey, coloured};
         for (int j = 0; j < 2; j++) {
             memset(lines[j], 0xA5, sizeof lines[j]);
-            spirerook_answer a = call(composers[k], sides[j], lines[j]);
+            spirerook_answer a = composed(composers[k], sides[j], lines[j]);
             if (a.number != SPIREROOK_DONE || a.count != due) {
                 fprintf(stderr, "bench: %s: composer %zu refuses\n", name, k);
                 exit(1);
@@ -68,7 +59,7 @@ static uint8_t out[4 * WIDTH];
 
 static uint64_t timed(size_t k, const void *work)
 {
-    spirerook_answer a = call(composers[k], work, out);
+    spirerook_answer a = composed(composers[k], work, out);
     return a.count + a.number;
 }
 
@@ -85,36 +76,22 @@ static uint64_t by_rows(const void *work)
     return timed(2, work);
 }
 
-static struct shape shape_of(size_t i)
+static struct shape shape_of(size_t row)
 {
-    static const uint32_t layer_counts[] = {3, 9, 15}, ks[] = {1, 2, 3, 4, 6, 12};
-    return (struct shape){.width = WIDTH,
-                          .height = LINES,
-                          .layers = layer_counts[i / 24],
-                          .k = ks[i / 4 % 6],
-                          .run = i / 2 % 2 == 0 ? 64 : 0,
-                          .half = i % 2 == 1,
-                          .grey = true};
+    struct shape s = pixel_shape(row);
+    s.grey = true;
+    return s;
 }
 
-static const char *name_of(const struct shape *s)
-{
-    static char name[80];
-    snprintf(name, sizeof name, "%2u layers, k %2u, masks %s, %s", (unsigned)s->layers,
-             (unsigned)s->k, s->run != 0 ? "in runs  " : "at random",
-             s->half ? "half unread" : "all read");
-    return name;
-}
-
-static double beside_literal[ROWS][OF_PAIR], beside_rows[ROWS][OF_PAIR];
+static double beside_literal[PIXEL_ROWS][OF_PAIR], beside_rows[PIXEL_ROWS][OF_PAIR];
 
 static void time_all(struct work *grey, struct work *coloured)
 {
-    for (size_t i = 0; i < ROWS; i++) {
+    for (size_t i = 0; i < PIXEL_ROWS; i++) {
         struct shape s = shape_of(i);
         make_behind(grey, &s, 0, 0);
         make_coloured(coloured, grey);
-        expect_same(name_of(&s), grey, coloured);
+        expect_same(pixel_name(&s), grey, coloured);
         take_pair(&(struct pair){rattle, literal, coloured, grey}, ROUND_NS, ROUNDS,
                   beside_literal[i]);
         take_pair(&(struct pair){rattle, by_rows, coloured, grey}, ROUND_NS, ROUNDS,
@@ -132,20 +109,20 @@ static void print_rows(void)
     double sum = 0, worst = 0;
     printf("%-46s %10s %10s %14s %9s %9s\n", "grey layers, nanoseconds a pixel", "coloured", "grey",
            "grey/coloured", "/ C", "/ by rows");
-    for (size_t i = 0; i < ROWS; i++) {
+    for (size_t i = 0; i < PIXEL_ROWS; i++) {
         struct shape s = shape_of(i);
         double coloured = least(beside_literal[i][0], beside_rows[i][0]),
                grey = least(beside_literal[i][1], beside_rows[i][1]), ratio = grey / coloured;
         sum += ratio;
         worst = ratio > worst ? ratio : worst;
-        printf("%-46s %10.2f %10.2f %14.2f %9.2f %9.2f%s\n", name_of(&s), coloured / WIDTH,
+        printf("%-46s %10.2f %10.2f %14.2f %9.2f %9.2f%s\n", pixel_name(&s), coloured / WIDTH,
                grey / WIDTH, ratio, grey / beside_literal[i][3], grey / beside_rows[i][3],
                ratio > LIMIT ? "  over the limit" : "");
     }
     printf(
         "\nlines of grey layers take %.2f of what coloured ones of the same greys take, the mean "
         "of %d rows; the worst is %.2f, limit %.1f\n",
-        sum / ROWS, ROWS, worst, LIMIT);
+        sum / PIXEL_ROWS, PIXEL_ROWS, worst, LIMIT);
 }
 
 int main(void)
@@ -158,8 +135,8 @@ int main(void)
         return 1;
     }
     agree_on_small(&grey, &coloured);
-    forget(beside_literal[0], ROWS * OF_PAIR);
-    forget(beside_rows[0], ROWS * OF_PAIR);
+    forget(beside_literal[0], PIXEL_ROWS * OF_PAIR);
+    forget(beside_rows[0], PIXEL_ROWS * OF_PAIR);
     for (int pass = 0; pass < PASSES; pass++)
         time_all(&grey, &coloured);
     print_rows();

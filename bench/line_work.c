@@ -1,9 +1,38 @@
 #include "line_work.h"
 #include "kit.h"
 
+#include <stdio.h>
 #include <string.h>
 
 #define MAIN 1200
+
+// ---- rows
+
+struct shape pixel_shape(size_t row)
+{
+    static const uint32_t layer_counts[] = {3, 9, 15}, ks[] = {1, 2, 3, 4, 6, 12};
+    return (struct shape){.width = WIDTH,
+                          .height = LINES,
+                          .layers = layer_counts[row / 24],
+                          .k = ks[row / 4 % 6],
+                          .run = row / 2 % 2 == 0 ? 64 : 0,
+                          .half = row % 2 == 1};
+}
+
+const char *pixel_name(const struct shape *s)
+{
+    static char name[80];
+    snprintf(name, sizeof name, "%2u layers, k %2u, masks %s, %s", (unsigned)s->layers,
+             (unsigned)s->k, s->run != 0 ? "in runs  " : "at random",
+             s->half ? "half unread" : "all read");
+    return name;
+}
+
+spirerook_answer composed(composer *f, const struct work *w, uint8_t *out)
+{
+    return f(w->sheet, w->sheet_size, w->planes, w->planes_size, w->samples, w->samples_size,
+             w->stripe, w->line, w->unseen[0], w->unseen[1], w->unseen[2], out, w->room);
+}
 
 // ---- sheets
 

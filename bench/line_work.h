@@ -7,6 +7,8 @@
 
 #include <stdbool.h>
 
+#define WIDTH 4096 // of a line, and
+#define LINES 16   // of a stripe, where a row says nothing else
 #define MOST_SHEET (64 * 15 * RECORD_SIZE)
 #define MOST_SAMPLES (256u << 20)
 
@@ -30,6 +32,12 @@ struct shape {
     bool grey;     // all image layers have one component
 };
 
+// The rows of every number of layers, ratio, kind of masks and share of what is read.
+#define PIXEL_ROWS (3 * 6 * 2 * 2)
+
+struct shape pixel_shape(size_t row);
+const char *pixel_name(const struct shape *s);
+
 // A stripe of this shape behind others of as many layers, so high each; all that the shape has read
 // is listed.
 void make_behind(struct work *w, const struct shape *s, uint32_t stripes, uint32_t height);
@@ -41,5 +49,8 @@ void make_coloured(struct work *w, const struct work *grey);
 // Small calls, good and damaged; some layers are grey.
 void make_small(struct work *w);
 void damage(struct work *w);
+
+// The line that a composer makes of it.
+spirerook_answer composed(composer *f, const struct work *w, uint8_t *out);
 
 #endif

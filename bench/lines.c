@@ -15,8 +15,6 @@
 #define SMALL 20000
 #define ROUND_NS 20000.0
 #define LIMIT 1.3
-#define WIDTH 4096
-#define LINES 16 // of a stripe, where a row says nothing else
 #define MOST_OUT (4 * 32768)
 
 #ifdef BEFORE
@@ -38,12 +36,6 @@ static composer *const composers[SIDES] = {
 #endif
 };
 
-static spirerook_answer call(composer *f, const struct work *w, uint8_t *out)
-{
-    return f(w->sheet, w->sheet_size, w->planes, w->planes_size, w->samples, w->samples_size,
-             w->stripe, w->line, w->unseen[0], w->unseen[1], w->unseen[2], out, w->room);
-}
-
 // The library before knows no grey layers.
 static int sides_for(const struct work *w)
 {
@@ -58,7 +50,7 @@ static uint32_t agreed(const char *what, const struct work *w)
     spirerook_answer a[SIDES];
     for (int k = 0; k < sides_for(w); k++) {
         memset(lines[k], 0xA5, w->room);
-        a[k] = call(composers[k], w, lines[k]);
+        a[k] = composed(composers[k], w, lines[k]);
         if (a[k].number != a[0].number || a[k].place != a[0].place || a[k].count != a[0].count ||
             memcmp(lines[k], lines[0], w->room) != 0) {
             fprintf(stderr,
@@ -98,7 +90,7 @@ static void agree_on_small(struct work *w)
 
 static uint64_t timed(int k, const void *work)
 {
-    spirerook_answer a = call(composers[k], work, lines[k]);
+    spirerook_answer a = composed(composers[k], work, lines[k]);
     return a.count + a.number;
 }
 
@@ -133,29 +125,6 @@ static void time_work(const char *name, const struct work *w, double best[])
     };
     expect_done(name, w);
     take_turns(sides, SIDES, w, ROUND_NS, ROUNDS, best);
-}
-
-static const uint32_t layer_counts[] = {3, 9, 15}, ks[] = {1, 2, 3, 4, 6, 12};
-
-#define PIXEL_ROWS (3 * 6 * 2 * 2)
-
-static struct shape pixel_shape(size_t i)
-{
-    return (struct shape){.width = WIDTH,
-                          .height = LINES,
-                          .layers = layer_counts[i / 24],
-                          .k = ks[i / 4 % 6],
-                          .run = i / 2 % 2 == 0 ? 64 : 0,
-                          .half = i % 2 == 1};
-}
-
-static const char *pixel_name(const struct shape *s)
-{
-    static char name[80];
-    snprintf(name, sizeof name, "%2u layers, k %2u, masks %s, %s", (unsigned)s->layers,
-             (unsigned)s->k, s->run != 0 ? "in runs  " : "at random",
-             s->half ? "half unread" : "all read");
-    return name;
 }
 
 // Lines that differ in what should not matter, and the shortest one.
