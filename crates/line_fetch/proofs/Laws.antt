@@ -1,6 +1,7 @@
 -- One law for each way out of the functions of a layer's row: its premises are what is known there.
 -- Assumes nothing.
 use Prim.Native.Nat.{ℕ, _+_, _-_, _*_, _≤_, _<_}
+use native.Mathlib.Nat.{div-le-self}
 use native.Mathlib.Omega.{arith}
 use mathlib.Core.Path.{_≡_, refl}
 use mathlib.Core.Logic.{_≢_}
@@ -19,20 +20,30 @@ use Rattle.pixel_rules.specs.declared.Mask.the-variants.{Hidden}
 use Rattle.pixel_rules.specs.Place.{scale}
 use Rattle.pixel_rules.specs.Samples.{bitOf, colourIn}
 use Rattle.sheet_rules.specs.Record.{colourAt}
+use Rattle.line_sample.specs.Factor.{Steps}
 use Rattle.line_fetch.specs.declared.Row.{Row}
-use Rattle.line_fetch.specs.Rows.{rowSize, rowAt, rowMask, rowImage, MaskFits, ImageFits}
+use Rattle.line_fetch.specs.Rows.{rowSize, rowAt, rowMask, rowImage, Turns, MaskFits, ImageFits}
 
 pub row-read : (ns : List ℕ) (l : ℕ)
     → record {
       from = getD ns ((l - 1) * rowSize) 0;
       to = getD ns ((l - 1) * rowSize + 1) 0;
-      ratio = getD ns ((l - 1) * rowSize + 2) 0;
+      factor = getD ns ((l - 1) * rowSize + 2) 0;
       read = getD ns ((l - 1) * rowSize + 3) 0;
       at = getD ns ((l - 1) * rowSize + 4) 0;
       other = getD ns ((l - 1) * rowSize + 5) 0;
+      ratio = getD ns ((l - 1) * rowSize + 6) 0;
     } ≡ rowAt ns l
 unfolding rowAt
 row-read ns l = refl
+
+-- ---- the scaling step: a place is no nearer than its sample
+
+row-steps : (r : Row) (x : MainPos) → Turns r → x .0 < 65536 → r .from ≤ x .0 → Steps (r .ratio) (r .factor) (r .from) x
+unfolding scale
+row-steps r x t h a =
+    let d = div-le-self (x .0 - r .from) (r .ratio) in
+    record { some = t .some; small = t .small; factor = t .factor; past = a; near = omega arith }
 
 -- ---- a mask's sample, an image layer's
 
@@ -58,6 +69,9 @@ module _ (d : List ℕ) (r : Row) (x : MainPos) where
   unfolding rowMask
   mask-read m p a b n e f = simp (le-leb (r .from) (x .0) a, lt-ltb (x .0) (r .to) b, ne-eqb (r .read) 0 n, f, e)
 
+  pub mask-steps : MaskFits d r → x .0 < 65536 → r .from ≤ x .0 → Steps (r .ratio) (r .factor) (r .from) x
+  mask-steps g h a = row-steps r x (g .turns) h a
+
   pub mask-there : (p : SamplePos) → MaskFits d r → r .from ≤ x .0 → x .0 < r .to → r .read ≢ 0 → p ≡ scale (r .ratio) (r .from) x → r .at + p .0 < length d
   mask-there p g a b n e = rw e (g .there x a b n)
 
@@ -79,6 +93,9 @@ module _ (s d : List ℕ) (r : Row) (x : MainPos) where
   unfolding rowImage
   image-read c p a b n e f = simp (le-leb (r .from) (x .0) a, lt-ltb (x .0) (r .to) b, ne-eqb (r .read) 0 n, f, e)
 
+  pub image-steps : ImageFits s d r → x .0 < 65536 → r .from ≤ x .0 → Steps (r .ratio) (r .factor) (r .from) x
+  image-steps g h a = row-steps r x (g .turns) h a
+
   pub image-there : (p : SamplePos) → ImageFits s d r → r .from ≤ x .0 → x .0 < r .to → r .read ≢ 0 → p ≡ scale (r .ratio) (r .from) x
       → r .at + p .0 * r .read + r .read ≤ length d
   image-there p g a b n e = rw e (g .there x a b n)
@@ -88,4 +105,4 @@ read-some n d = omega arith
 
 pub ruleset rows = (needs, row-read)
 
-pub ruleset fetching = (needs, mask-before, mask-after, mask-unread, mask-read, mask-there, image-before, image-after, image-unread, image-read, image-there, read-some)
+pub ruleset fetching = (needs, mask-before, mask-after, mask-unread, mask-read, mask-steps, mask-there, image-before, image-after, image-unread, image-read, image-steps, image-there, read-some)

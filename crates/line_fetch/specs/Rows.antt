@@ -5,8 +5,10 @@
 --   numbersOf        the numbers of a row
 --   across r x       the place lies in the row's main pixels
 --   rowMask          a mask's sample in its row; rowImage: that of an image layer, whose base colour stands in the sheet
+--   Turns            the row's two numbers for the scaling step belong together
 --   MaskFits         the samples that the row of a mask names are in the buffer; ImageFits: the same of an image layer, and its base colour in the sheet
 use Prim.Native.Nat.{ℕ, _+_, _-_, _*_, _≤_, _<_}
+use mathlib.Core.Path.{_≡_}
 use mathlib.Core.Logic.{_≢_}
 use mathlib.Core.Bool.{Bool, _&&_, cond}
 use mathlib.Core.List.{List, [], _∷_}
@@ -20,10 +22,11 @@ use Rattle.pixel_rules.specs.declared.Mask.the-variants.{Hidden}
 use Rattle.pixel_rules.specs.Place.{scale}
 use Rattle.pixel_rules.specs.Samples.{bitOf, colourIn}
 use Rattle.sheet_rules.specs.Record.{colourAt}
+use Rattle.line_sample.specs.Factor.{factorOf}
 use Rattle.line_fetch.specs.declared.Row.{Row}
 
 abbrev pub rowSize : ℕ
-rowSize = 6
+rowSize = 7
 
 abbrev pub rowsSize : ℕ
 rowsSize = 15 * rowSize
@@ -34,14 +37,15 @@ rowAt ns l =
     record {
       from = getD ns ((l - 1) * rowSize) 0;
       to = getD ns ((l - 1) * rowSize + 1) 0;
-      ratio = getD ns ((l - 1) * rowSize + 2) 0;
+      factor = getD ns ((l - 1) * rowSize + 2) 0;
       read = getD ns ((l - 1) * rowSize + 3) 0;
       at = getD ns ((l - 1) * rowSize + 4) 0;
       other = getD ns ((l - 1) * rowSize + 5) 0;
+      ratio = getD ns ((l - 1) * rowSize + 6) 0;
     }
 
 abbrev pub numbersOf : Row → List ℕ
-numbersOf r = r .from ∷ r .to ∷ r .ratio ∷ r .read ∷ r .at ∷ r .other ∷ []
+numbersOf r = r .from ∷ r .to ∷ r .factor ∷ r .read ∷ r .at ∷ r .other ∷ r .ratio ∷ []
 
 abbrev pub across : Row → MainPos → Bool
 across r x = leb (r .from) (x .0) && ltb (x .0) (r .to)
@@ -59,11 +63,17 @@ rowImage s d r x =
     (cond (eqb (r .read) 0) Unknown (Known (colourIn (r .read) d (r .at + scale (r .ratio) (r .from) x .0 * r .read))))
     (Known (colourAt s (r .other)))
 
+-- its factor divides by its ratio
+pub record Turns (r : Row) : Type 0 where
+  pub some : 0 < r .ratio
+  pub small : r .ratio < 65536
+  pub factor : r .factor ≡ factorOf (r .ratio)
+
 pub record MaskFits (d : List ℕ) (r : Row) : Type 0 where
-  pub turns : 0 < r .ratio
+  pub turns : Turns r
   pub there : (x : MainPos) → r .from ≤ x .0 → x .0 < r .to → r .read ≢ 0 → r .at + scale (r .ratio) (r .from) x .0 < length d
 
 pub record ImageFits (s d : List ℕ) (r : Row) : Type 0 where
-  pub turns : 0 < r .ratio
+  pub turns : Turns r
   pub there : (x : MainPos) → r .from ≤ x .0 → x .0 < r .to → r .read ≢ 0 → r .at + scale (r .ratio) (r .from) x .0 * r .read + r .read ≤ length d
   pub base : r .other + 3 ≤ length s

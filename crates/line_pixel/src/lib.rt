@@ -1,6 +1,6 @@
 // One pixel of a line, from the highest pair down (02, 2026-06): an image layer's sample is fetched only where it may show.
 ghost use mathlib.Core.Path.{_≡_};
-ghost use Prim.Native.Nat.{_+_, _*_};
+ghost use Prim.Native.Nat.{_+_, _*_, _<_};
 ghost use Rattle.pixel_rules.specs.Decide.{decide};
 ghost use Rattle.pixel_rules.specs.Down.{candidates, MayShow};
 ghost use Rattle.line_fetch.specs.Rows.{rowAt, rowImage};
@@ -18,7 +18,7 @@ pub struct Candidate {
 
 // The first candidate from a pair down: masks known to be 0 are passed.
 pub fn candidate_from(d: &[u8], rows: &[usize], from: usize, x: MainPos) -> Candidate
-    requires { ⌜ MasksFit (now d) (now rows) from ⌝ }
+    requires { ⌜ MasksFit (now d) (now rows) from × (x .0 < 65536) ⌝ }
     ensures { λ r. ⌜ candidates (rowMasks (now (d .entry)) (now (rows .entry)) x) from ≡ wayFrom (rowMasks (now (d .entry)) (now (rows .entry)) x) r ⌝ }
 {
     let mut j = from;
@@ -49,7 +49,7 @@ pub fn candidate_from(d: &[u8], rows: &[usize], from: usize, x: MainPos) -> Cand
 
 // The sample of pair j's image layer, for which only those may ask where it may show: `pairs` is there to say so.
 pub fn image_of(s: &[u8], d: &[u8], rows: &[usize], pairs: usize, j: usize, x: MainPos) -> Sample
-    requires { ⌜ RowsFit (now s) (now d) (now rows) pairs × MayShow (rowMasks (now d) (now rows) x) pairs j ⌝ }
+    requires { ⌜ RowsFit (now s) (now d) (now rows) pairs × MayShow (rowMasks (now d) (now rows) x) pairs j × (x .0 < 65536) ⌝ }
     ensures { λ r. ⌜ r ≡ rowImage (now (s .entry)) (now (d .entry)) (rowAt (now (rows .entry)) (j * 2 + 1)) x ⌝ }
 {
     line_fetch::image_at(s, d, line_fetch::row_at(rows, j * 2 + 1), x)
@@ -57,7 +57,7 @@ pub fn image_of(s: &[u8], d: &[u8], rows: &[usize], pairs: usize, j: usize, x: M
 
 // What pixel x shows: what all candidates down to the first sure one agree on. Where two differ, or one is not known, those below alter nothing.
 pub fn pixel(s: &[u8], d: &[u8], rows: &[usize], pairs: usize, x: MainPos) -> Sample
-    requires { ⌜ RowsFit (now s) (now d) (now rows) pairs ⌝ }
+    requires { ⌜ RowsFit (now s) (now d) (now rows) pairs × (x .0 < 65536) ⌝ }
     ensures { λ r. ⌜ r ≡ decide (rowStack (now (s .entry)) (now (d .entry)) (now (rows .entry)) x) pairs ⌝ }
 {
     let mut c = candidate_from(d, rows, pairs, x);

@@ -53,7 +53,7 @@ pub fn put_pixels(
     width: usize,
     unseen: Colour,
 )
-    requires { ⌜ RowsFit (now s) (now d) (now rows) pairs × (width * 4 ≤ length (now out)) ⌝ }
+    requires { ⌜ RowsFit (now s) (now d) (now rows) pairs × (width * 4 ≤ length (now out)) × (width ≤ 65536) ⌝ }
     ensures { λ _.
         ⌜ now (out .exit) ≡ putAt (now (out .entry)) 0 (pixels unseen (λ (x : MainPos). decide (rowStack (now (s .entry)) (now (d .entry)) (now (rows .entry)) x) pairs) width) ⌝ }
 {

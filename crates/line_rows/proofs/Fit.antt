@@ -7,6 +7,7 @@ use mathlib.Core.Path.{_≡_, refl, sym, ap, ap₂, subst, _∙_}
 use mathlib.Core.Bool.{true, _&&_}
 use mathlib.Core.List.{List}
 use lib.ListN.{length}
+use lib.Dec.{lit<}
 use Rattle.laws.proofs.Cases.{cond-with}
 use Rattle.laws.proofs.Says.{says-and, says-true}
 use Rattle.octets.specs.Octets.{putAt}
@@ -23,22 +24,30 @@ use Rattle.pixel_rules.specs.Planes.{PlaneList, planeStart}
 use Rattle.pixel_rules.specs.Samples.{Scene, recordOf, mainOf, indexOf, maskAt, imageAt, depth, pairsOf}
 use Rattle.pixel_rules.specs.Decide.{pairStep, decide, stackAt, pixelAt}
 use Rattle.pixel_rules.proofs.Division.{says-covers, says-inside, depth-mask}
-use Rattle.picture_rules.proofs.Scenes.{Stage, stage-layers, stage-placed, scene-ratio-some}
+use Rattle.picture_rules.proofs.Scenes.{Stage, stage-layers, stage-placed, ratio-most, scene-ratio, scene-ratio-some}
 use Rattle.picture_rules.proofs.Within.{sample-there}
 use Rattle.line_fetch.specs.declared.Row.{Row}
-use Rattle.line_fetch.specs.Rows.{rowSize, rowAt, rowMask, rowImage, MaskFits, ImageFits}
+use Rattle.line_fetch.specs.Rows.{rowSize, rowAt, rowMask, rowImage, Turns, MaskFits, ImageFits}
 use Rattle.line_pixel.specs.Rows.{rowStack, RowsFit}
-use Rattle.line_rows.specs.Rows.{rowIn, rowBy, otherOf, rowOf, rowsOf}
+use Rattle.line_rows.specs.Rows.{rowIn, rowOut, rowBy, otherOf, rowOf, rowsOf}
 use Rattle.line_rows.proofs.Laws.{length-rows}
 use Rattle.line_rows.proofs.Same.{row-among, mask-same, image-same, other-image}
 
 -- ---- one row: what it names is there, if the samples of a start are
 
-module _ (r : Record) (k : ℕ) (y : MainPos) (p : Start) (other : ℕ) (turns : 0 < k) where
+module _ (r : Record) (k : ℕ) (y : MainPos) (p : Start) (other : ℕ) (some : 0 < k) (small : k < 65536) where
   -- the samples of the layer in this line are in the buffer
   abbrev There : List ℕ → Type 0
   There d = (a : ℕ) → p ≡ From a → (x : MainPos) → covers (r .x) (r .width) k x ≡ true → covers (r .y) (r .height) k y ≡ true
       → a + (scale k (r .y) y .0 * r .width + scale k (r .x) x .0) * depth r + depth r ≤ length d
+
+  turns-in : (q : Start) → Turns (rowIn r k y q other)
+  unfolding rowIn
+  turns-in Unread = record { some = some; small = small; factor = refl }
+  turns-in (From i) = record { some = some; small = small; factor = refl }
+
+  turns-out : Turns (rowOut other)
+  turns-out = record { some = lit< tt; small = lit< tt; factor = refl }
 
   crossed : coded r && covers (r .y) (r .height) k y ≡ true → covers (r .y) (r .height) k y ≡ true
   crossed t = says-and (says-true (coded r)) (says-true (covers (r .y) (r .height) k y)) .told t .1
@@ -52,10 +61,10 @@ module _ (r : Record) (k : ℕ) (y : MainPos) (p : Start) (other : ℕ) (turns :
 
   mask-in : (d : List ℕ) → depth r ≡ 1 → There d → covers (r .y) (r .height) k y ≡ true → (q : Start) → p ≡ q → MaskFits d (rowIn r k y q other)
   unfolding rowIn
-  mask-in d e f t Unread z = record { turns = turns; there = λ x a b n. absurd (n refl) }
+  mask-in d e f t Unread z = record { turns = turns-in Unread; there = λ x a b n. absurd (n refl) }
   mask-in d e f t (From i) z =
       record {
-        turns = turns;
+        turns = turns-in (From i);
         there = λ x a b n.
             let h = each-there d f t i z x (over x a b) in
             let g : scale k (r .x) x .0 * depth r ≡ scale k (r .x) x .0 * 1 = ap (λ (m : ℕ). scale k (r .x) x .0 * m) e in
@@ -66,18 +75,18 @@ module _ (r : Record) (k : ℕ) (y : MainPos) (p : Start) (other : ℕ) (turns :
   unfolding rowBy
   mask-fits d e f =
       cond-with (MaskFits d) (coded r && covers (r .y) (r .height) k y) (λ t. mask-in d e f (crossed t) p refl)
-      (λ t. record { turns = omega arith; there = λ x a b n. absurd (n refl) })
+      (λ t. record { turns = turns-out; there = λ x a b n. absurd (n refl) })
 
   image-in : (s d : List ℕ) → other + 3 ≤ length s → There d → covers (r .y) (r .height) k y ≡ true → (q : Start) → p ≡ q → ImageFits s d (rowIn r k y q other)
   unfolding rowIn
-  image-in s d o f t Unread z = record { turns = turns; there = λ x a b n. absurd (n refl); base = o }
-  image-in s d o f t (From i) z = record { turns = turns; there = λ x a b n. each-there d f t i z x (over x a b); base = o }
+  image-in s d o f t Unread z = record { turns = turns-in Unread; there = λ x a b n. absurd (n refl); base = o }
+  image-in s d o f t (From i) z = record { turns = turns-in (From i); there = λ x a b n. each-there d f t i z x (over x a b); base = o }
 
   pub image-fits : (s d : List ℕ) → other + 3 ≤ length s → There d → ImageFits s d (rowBy r k y p other)
   unfolding rowBy
   image-fits s d o f =
       cond-with (ImageFits s d) (coded r && covers (r .y) (r .height) k y) (λ t. image-in s d o f (crossed t) p refl)
-      (λ t. record { turns = omega arith; there = λ x a b n. absurd (n refl); base = o })
+      (λ t. record { turns = turns-out; there = λ x a b n. absurd (n refl); base = o })
 
 -- ---- the rows of a scene that is shown
 
@@ -90,17 +99,20 @@ module _ (v : Scene) (pl : PlaneList) (k n : ℕ) (y : MainPos) (g : Stage (v .s
         → covers (recordOf v l .y) (recordOf v l .height) (ratio (mainOf v) (recordOf v l)) y ≡ true → inside (mainOf v) (recordOf v l) x y ≡ true
     within x p q = says-inside (mainOf v) (recordOf v l) x y .shown (p, q)
 
+    ratio-small : ratio (mainOf v) (recordOf v l) < 65536
+    ratio-small = let m = ratio-most (ratio (mainOf v) (recordOf v l)) (scene-ratio g l a b .0) in omega arith
+
     pub scene-mask : l % 2 ≡ 0 → MaskFits (v .samples) (rowOf (v .sheet) (v .extent) (v .planes) y l)
     unfolding rowOf layerRecord indexOf
     scene-mask e =
         mask-fits (recordOf v l) (ratio (mainOf v) (recordOf v l)) y (planeStart (v .planes) l) (otherOf (coded (recordOf v 3)) (recordOf v l) (v .extent .first + (l - 1)) l)
-        (scene-ratio-some g l a b) (v .samples) (mask-depth e) (λ i z x p q. sample-there g l i z x y (within x p q))
+        (scene-ratio-some g l a b) ratio-small (v .samples) (mask-depth e) (λ i z x p q. sample-there g l i z x y (within x p q))
 
     pub scene-image : l % 2 ≡ 1 → ImageFits (v .sheet) (v .samples) (rowOf (v .sheet) (v .extent) (v .planes) y l)
     unfolding rowOf layerRecord indexOf
     scene-image e =
         image-fits (recordOf v l) (ratio (mainOf v) (recordOf v l)) y (planeStart (v .planes) l) (otherOf (coded (recordOf v 3)) (recordOf v l) (v .extent .first + (l - 1)) l)
-        (scene-ratio-some g l a b) (v .sheet) (v .samples)
+        (scene-ratio-some g l a b) ratio-small (v .sheet) (v .samples)
         (let o = other-image (coded (recordOf v 3)) (recordOf v l) (v .extent .first + (l - 1)) l e in omega arith)
         (λ i z x p q. sample-there g l i z x y (within x p q))
 

@@ -30,6 +30,7 @@ use Rattle.pixel_rules.specs.Planes.{planeStart}
 use Rattle.pixel_rules.specs.Place.{scale, covers}
 use Rattle.pixel_rules.specs.Samples.{depth}
 use Rattle.pixel_rules.proofs.Division.{says-covers, scale-within}
+use Rattle.line_sample.specs.Factor.{factorOf, Steps}
 use Rattle.line_sample.proofs.Laws.{product-small}
 use Rattle.line_planes.specs.declared.Listing.{Listing}
 use Rattle.line_planes.specs.Listing.{entriesOf}
@@ -54,19 +55,28 @@ start-made a width each down w n ew en = ap (λ (i : ℕ). a + i) (en ∙ ap (λ
 -- ---- a layer that the line crosses
 
 module _ (r : Record) (k : ℕ) (y : MainPos) where
-  pub in-unread : (other : ℕ) (p : Start) (from w to : ℕ) → p ≡ Unread → from ≡ r .x → w ≡ r .width → to ≡ from + w * k
-      → record { from = from; to = to; ratio = k; read = 0; at = 0; other = other } ≡ rowIn r k y p other
+  pub in-unread : (other : ℕ) (p : Start) (from w to m : ℕ) → p ≡ Unread → from ≡ r .x → w ≡ r .width → to ≡ from + w * k → m ≡ factorOf k
+      → record { from = from; to = to; factor = m; read = 0; at = 0; other = other; ratio = k } ≡ rowIn r k y p other
   unfolding rowIn
-  in-unread other p from w to e f g h = rw (e, h, f, g)
+  in-unread other p from w to m e f g h em = rw (e, h, f, g, em)
 
-  pub in-read : (other : ℕ) (p : Start) (a from w to each o at : ℕ) (q : SamplePos) → p ≡ From a → from ≡ r .x → w ≡ r .width → to ≡ from + w * k → (each ≡ depth r) × (each ≤ 3)
-      → o ≡ r .y → q ≡ scale k o y → at ≡ a + q .0 * r .width * each
-      → record { from = from; to = to; ratio = k; read = each; at = at; other = other } ≡ rowIn r k y p other
+  pub in-read : (other : ℕ) (p : Start) (a from w to m each o at : ℕ) (q : SamplePos) → p ≡ From a → from ≡ r .x → w ≡ r .width → to ≡ from + w * k → m ≡ factorOf k
+      → (each ≡ depth r) × (each ≤ 3) → o ≡ r .y → q ≡ scale k o y → at ≡ a + q .0 * r .width * each
+      → record { from = from; to = to; factor = m; read = each; at = at; other = other; ratio = k } ≡ rowIn r k y p other
   unfolding rowIn
-  in-read other p a from w to each o at q e f g h en eo eq ea = rw (e, h, f, g, ea, eq, eo, en .0)
+  in-read other p a from w to m each o at q e f g h em en eo eq ea = rw (e, h, f, g, em, ea, eq, eo, en .0)
 
-  pub in-above : (o : ℕ) → Covered r k y → o ≡ r .y → o ≤ y .0
-  in-above o c e = subst (λ (i : ℕ). i ≤ y .0) (sym e) (says-covers (r .y) (r .height) k y .told (c .within) .0)
+  pub in-steps : (o m : ℕ) → Covered r k y → m ≡ factorOf k → o ≡ r .y → Steps k m o y
+  in-steps o m c em e =
+      let w = scale-within (r .y) (r .height) k y (c .within) in
+      let h = c .high in
+      record {
+        some = c .some;
+        small = c .small;
+        factor = em;
+        past = subst (λ (i : ℕ). i ≤ y .0) (sym e) (says-covers (r .y) (r .height) k y .told (c .within) .0);
+        near = subst (λ (i : ℕ). scale k i y .0 < 65536) (sym e) (omega arith);
+      }
 
   pub in-down : (o : ℕ) (q : SamplePos) → Covered r k y → o ≡ r .y → q ≡ scale k o y → q .0 < 65536
   in-down o q c e f =
@@ -76,6 +86,9 @@ module _ (r : Record) (k : ℕ) (y : MainPos) where
       omega arith
 
 -- ---- a layer
+
+pub out-made : (other m : ℕ) → m ≡ factorOf 1 → record { from = 0; to = 0; factor = m; read = 0; at = 0; other = other; ratio = 1 } ≡ rowOut other
+out-made other m e = rw e
 
 module _ (r : Record) (k : ℕ) (y : MainPos) (p : Start) (other : ℕ) where
   pub by-uncoded : (w : Row) → r .len ≡ 0 → w ≡ rowOut other → w ≡ rowBy r k y p other
@@ -136,18 +149,19 @@ module _ (s : List ℕ) (extent : Extent) (m : ℕ) (c : Bool) (y : MainPos) (l 
   layer-turns r k g e f = subst (λ (n : ℕ). 0 < n) (sym (f ∙ ap₂ (λ (a : ℕ) (q : Record). a / q .res) (g .main) e)) (g .turns)
 
 pub stores-row : (d : List ℕ) (l : ℕ) (w : Row) → 1 ≤ l → l * rowSize ≤ length d
-    → set (set (set (set (set (set d ((l - 1) * rowSize) (w .from)) ((l - 1) * rowSize + 1) (w .to)) ((l - 1) * rowSize + 2) (w .ratio)) ((l - 1) * rowSize + 3) (w .read)) ((l - 1) * rowSize + 4) (w .at)) ((l - 1) * rowSize + 5) (w .other)
+    → set (set (set (set (set (set (set d ((l - 1) * rowSize) (w .from)) ((l - 1) * rowSize + 1) (w .to)) ((l - 1) * rowSize + 2) (w .factor)) ((l - 1) * rowSize + 3) (w .read)) ((l - 1) * rowSize + 4) (w .at)) ((l - 1) * rowSize + 5) (w .other)) ((l - 1) * rowSize + 6) (w .ratio)
     ≡ putAt d ((l - 1) * rowSize) (numbersOf w)
-stores-row d l w g h = six d ((l - 1) * rowSize) (omega arith)
+stores-row d l w g h = all d ((l - 1) * rowSize) (omega arith)
   where
-    six : (d : List ℕ) (b : ℕ) → b + 6 ≤ length d → set (set (set (set (set (set d b (w .from)) (b + 1) (w .to)) (b + 2) (w .ratio)) (b + 3) (w .read)) (b + 4) (w .at)) (b + 5) (w .other) ≡ putAt d b (numbersOf w)
-    six d b h =
+    all : (d : List ℕ) (b : ℕ) → b + rowSize ≤ length d → set (set (set (set (set (set (set d b (w .from)) (b + 1) (w .to)) (b + 2) (w .factor)) (b + 3) (w .read)) (b + 4) (w .at)) (b + 5) (w .other)) (b + 6) (w .ratio) ≡ putAt d b (numbersOf w)
+    all d b h =
         let a : b + 1 ≡ suc b = omega arith in
         let c : b + 2 ≡ suc (suc b) = omega arith in
         let e : b + 3 ≡ suc (suc (suc b)) = omega arith in
         let f : b + 4 ≡ suc (suc (suc (suc b))) = omega arith in
         let g : b + 5 ≡ suc (suc (suc (suc (suc b)))) = omega arith in
-        rw (a, c, e, f, g) (sets-put d b (numbersOf w) h)
+        let i : b + 6 ≡ suc (suc (suc (suc (suc (suc b))))) = omega arith in
+        rw (a, c, e, f, g, i) (sets-put d b (numbersOf w) h)
 
 -- ---- the loop over the layers
 
@@ -157,7 +171,7 @@ row-own s t i j e =
     let a : i + 1 - 1 ≡ i = omega arith in
     let b : j + 1 - 1 ≡ j = omega arith in
     let z : getD s (i * rowSize) 0 ≡ getD t (j * rowSize) 0 = simp add-zero at (e 0 (lit< tt)) in
-    rw (a, b) (cc (z, e 1 (lit< tt), e 2 (lit< tt), e 3 (lit< tt), e 4 (lit< tt), e 5 (lit< tt)))
+    rw (a, b) (cc (z, e 1 (lit< tt), e 2 (lit< tt), e 3 (lit< tt), e 4 (lit< tt), e 5 (lit< tt), e 6 (lit< tt)))
 
 row-back : (w : Row) (s : List ℕ) → rowAt (numbersOf w ++ s) (0 + 1) ≡ w
 unfolding rowAt
@@ -256,6 +270,6 @@ pub ruleset filling = (needs, stores-row, filling-none, filling-layer, filling-r
 
 pub ruleset areas = (needs, end-small, covers-made, product-small, start-made)
 
-pub ruleset crossing = (needs, in-unread, in-read, in-above, in-down, by-uncoded, by-in, by-out, by-covered)
+pub ruleset crossing = (needs, in-unread, in-read, in-steps, in-down, out-made, by-uncoded, by-in, by-out, by-covered)
 
 pub ruleset others = (needs, other-one, other-zero, other-base)

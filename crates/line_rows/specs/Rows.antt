@@ -27,17 +27,18 @@ use Rattle.pixel_rules.specs.declared.Start.the-variants.{From, Unread}
 use Rattle.pixel_rules.specs.Place.{ratio, scale, covers}
 use Rattle.pixel_rules.specs.Planes.{planeStart}
 use Rattle.pixel_rules.specs.Samples.{depth}
+use Rattle.line_sample.specs.Factor.{factorOf}
 use Rattle.line_fetch.specs.declared.Row.{Row}
 use Rattle.line_fetch.specs.Rows.{numbersOf}
 
 abbrev pub rowOut : ℕ → Row
-rowOut other = record { from = 0; to = 0; ratio = 1; read = 0; at = 0; other = other }
+rowOut other = record { from = 0; to = 0; factor = factorOf 1; read = 0; at = 0; other = other; ratio = 1 }
 
 unfoldable pub rowIn : Record → ℕ → MainPos → Start → ℕ → Row
 rowIn r q y Unread other =
-    record { from = r .x; to = r .x + r .width * q; ratio = q; read = 0; at = 0; other = other }
+    record { from = r .x; to = r .x + r .width * q; factor = factorOf q; read = 0; at = 0; other = other; ratio = q }
 rowIn r q y (From a) other =
-    record { from = r .x; to = r .x + r .width * q; ratio = q; read = depth r; at = a + scale q (r .y) y .0 * r .width * depth r; other = other }
+    record { from = r .x; to = r .x + r .width * q; factor = factorOf q; read = depth r; at = a + scale q (r .y) y .0 * r .width * depth r; other = other; ratio = q }
 
 unfoldable pub rowBy : Record → ℕ → MainPos → Start → ℕ → Row
 unfolding rowIn

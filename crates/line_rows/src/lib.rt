@@ -50,25 +50,28 @@ pub fn row_in(r: Record, ratio: usize, y: MainPos, p: Start, other: usize) -> Ro
 {
     let from = octets_get::wide16(r.x);
     let to = area_end(from, octets_get::wide16(r.width), ratio);
+    let factor = line_sample::factor_of(ratio);
     match p {
         Start::Unread => Row {
             from: from,
             to: to,
-            ratio: ratio,
+            factor: factor,
             read: 0,
             at: 0,
             other: other,
+            ratio: ratio,
         },
         Start::From(a) => {
             let each = line_sample::depth_of(r);
-            let down = line_sample::scale_pos(ratio, octets_get::wide16(r.y), y);
+            let down = line_sample::scale_pos(ratio, factor, octets_get::wide16(r.y), y);
             Row {
                 from: from,
                 to: to,
-                ratio: ratio,
+                factor: factor,
                 read: each,
                 at: row_start(a, r.width, each, down),
                 other: other,
+                ratio: ratio,
             }
         }
     }
@@ -81,10 +84,11 @@ pub fn row_out(other: usize) -> Row
     Row {
         from: 0,
         to: 0,
-        ratio: 1,
+        factor: line_sample::factor_of(1),
         read: 0,
         at: 0,
         other: other,
+        ratio: 1,
     }
 }
 
@@ -159,10 +163,11 @@ pub fn put_row(rows: &mut [usize], l: usize, w: Row)
     let b = (l - 1) * ROW_SIZE;
     rows[b] = w.from;
     rows[b + 1] = w.to;
-    rows[b + 2] = w.ratio;
+    rows[b + 2] = w.factor;
     rows[b + 3] = w.read;
     rows[b + 4] = w.at;
     rows[b + 5] = w.other;
+    rows[b + 6] = w.ratio;
 }
 
 // The rows of all layers, one after the other.

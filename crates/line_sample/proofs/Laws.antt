@@ -3,7 +3,7 @@
 use Prim.Native.Nat.{ℕ, _+_, _-_, _*_, _/_, _%_, _≤_, _<_}
 use native.Mathlib.Nat.{mul-le-mul}
 use native.Mathlib.Omega.{arith}
-use mathlib.Core.Path.{_≡_, refl, sym, ap}
+use mathlib.Core.Path.{_≡_, refl, sym, ap, _∙_}
 use mathlib.Core.Bool.{true, false, _||_, cond}
 use mathlib.Core.List.{List}
 use lib.ListN.{getD}
@@ -12,26 +12,38 @@ use mathlib.Core.Logic.{_≢_}
 use borrow.Author.Tests.{eq-eqb, ne-eqb}
 use borrow.Author.Needs.{needs}
 use Rattle.pixel_rules.specs.declared.MainPos.{MainPos}
+use Rattle.pixel_rules.specs.declared.SamplePos.{SamplePos}
 use Rattle.pixel_rules.specs.declared.Mask.the-variants.{Zero, One}
 use Rattle.pixel_rules.specs.Place.{scale}
 use Rattle.pixel_rules.specs.Samples.{bitOf, colourIn, depth}
 use Rattle.sheet_rules.specs.declared.Record.{Record}
 use Rattle.sheet_rules.specs.Record.{isGrey}
+use Rattle.line_sample.specs.Factor.{factorOf, Steps}
+use Rattle.line_sample.proofs.Factor.{factor-fits, factor-divides}
 
--- ---- the scaling step: division by a constant, and by k itself
+-- ---- the scaling step: each constant is the factor of its ratio, and the product with it is divided as the place is
 
-module _ (k o : ℕ) (p : MainPos) where
-  pub scale-one : k ≡ 1 → record { 0 = p .0 - o } ≡ scale k o p
+module _ (k : ℕ) where
+  pub factor-is : (c f : ℕ) → k ≡ c → f ≡ factorOf c → f ≡ factorOf k
+  factor-is c f e z = z ∙ ap factorOf (sym e)
+
+  pub factor-any : (281474976710655 + k) / k ≡ factorOf k
+  unfolding factorOf
+  factor-any = refl
+
+module _ (k f o : ℕ) (p : MainPos) (g : Steps k f o p) where
+  place-near : (p .0 - o) / k < 65536
   unfolding scale
-  scale-one e = let z : p .0 - o ≡ (p .0 - o) / 1 = omega arith in rw (e, ← z)
+  place-near = g .near
 
-  pub scale-by : (c : ℕ) → k ≡ c → record { 0 = (p .0 - o) / c } ≡ scale k o p
-  unfolding scale
-  scale-by c e = rw e
+  pub place-fits : (p .0 - o) * f < 18446744073709551616
+  place-fits = rw (g .factor) (factor-fits k (p .0 - o) (g .some) (g .small) place-near)
 
-  pub scale-any : record { 0 = (p .0 - o) / k } ≡ scale k o p
+  pub place-scaled : record { 0 = (p .0 - o) * f / 281474976710656 } ≡ scale k o p
   unfolding scale
-  scale-any = refl
+  place-scaled =
+      ap (λ (i : ℕ). let q : SamplePos = record { 0 = i } in q)
+      (ap (λ (i : ℕ). (p .0 - o) * i / 281474976710656) (g .factor) ∙ factor-divides k (p .0 - o) (g .some) (g .small) place-near)
 
 -- ---- a bit
 
@@ -43,7 +55,7 @@ pub bit-one : (v : ℕ) → v ≢ 0 → One ≡ bitOf v
 unfolding bitOf
 bit-one v d = simp (ne-eqb v 0 d)
 
-pub ruleset scaling = (needs, scale-one, scale-by, scale-any)
+pub ruleset scaling = (needs, factor-is, factor-any, place-fits, place-scaled)
 
 pub ruleset bits = (needs, bit-zero, bit-one)
 

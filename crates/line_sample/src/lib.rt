@@ -5,30 +5,37 @@ ghost use lib.ListN.{length, getD};
 ghost use Rattle.pixel_rules.specs.Place.{scale};
 ghost use Rattle.pixel_rules.specs.Samples.{bitOf, colourIn, depth};
 ghost use Rattle.sheet_rules.specs.Record.{colourAt};
+ghost use Rattle.line_sample.specs.Factor.{factorOf, Steps};
 use pixel_rules::MainPos;
 use pixel_rules::Mask;
 use pixel_rules::SamplePos;
 use sheet_rules::Colour;
 use sheet_rules::Record;
 
-// The one step from a main place to a sample's. It divides by constants: a division by the ratio would cost more than all else of a pixel.
-pub fn scale_pos(ratio: usize, o: usize, p: MainPos) -> SamplePos
-    requires { ⌜ (0 < ratio) × (o ≤ p .0) ⌝ }
+// What a place is multiplied with to be divided by k. The ratios that accepted sheets have are constants: a line's rows need no division for it.
+pub fn factor_of(k: usize) -> usize
+    requires { ⌜ (0 < k) × (k < 65536) ⌝ }
+    ensures { λ f. ⌜ f ≡ factorOf k ⌝ }
+{
+    match k {
+        1 => 281474976710656,
+        2 => 140737488355328,
+        3 => 93824992236886,
+        4 => 70368744177664,
+        6 => 46912496118443,
+        12 => 23456248059222,
+        _ => (281474976710655 + k) / k,
+    }
+}
+
+// The one step from a main place to a sample's. A division by the ratio would cost more than all else of a pixel, and with a choice among constants
+// a line took a quarter longer; the ratio is there to say what the factor divides by.
+pub fn scale_pos(ratio: usize, factor: usize, o: usize, p: MainPos) -> SamplePos
+    requires { ⌜ Steps ratio factor o p ⌝ }
     ensures { λ r. ⌜ r ≡ scale ratio o p ⌝ }
 {
     let d = p.0 - o;
-    match ratio {
-        1 => SamplePos(d),
-        2 => SamplePos(d / 2),
-        3 => SamplePos(d / 3),
-        4 => SamplePos(d / 4),
-        6 => SamplePos(d / 6),
-        12 => SamplePos(d / 12),
-        _ => {
-            let i = d / ratio;
-            SamplePos(i)
-        }
-    }
+    SamplePos(d * factor / 281474976710656)
 }
 
 pub fn bit_of(v: u8) -> Mask

@@ -19,7 +19,7 @@ returns-3 : tie.Need-returns-3
 returns-3 c = search fetching
 
 scale-pos-requires : tie.Need-scale-pos-requires
-scale-pos-requires c κs = search needs
+scale-pos-requires c κs = search fetching
 
 image-colour-requires : tie.Need-image-colour-requires
 image-colour-requires c κs = search fetching

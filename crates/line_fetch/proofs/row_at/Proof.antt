@@ -60,6 +60,15 @@ mul-t24 c = search needs
 shared-slice-read-t26 : tie.Need-shared-slice-read-t26
 shared-slice-read-t26 c = search needs
 
+add-t27 : tie.Need-add-t27
+add-t27 c = search needs
+
+mul-t28 : tie.Need-mul-t28
+mul-t28 c = search needs
+
+shared-slice-read-t30 : tie.Need-shared-slice-read-t30
+shared-slice-read-t30 c = search needs
+
 returns : tie.Need-returns
 returns c = search rows
 
@@ -86,4 +95,7 @@ row-at-spec =
     add-t23
     mul-t24
     shared-slice-read-t26
+    add-t27
+    mul-t28
+    shared-slice-read-t30
     returns)

@@ -23,8 +23,10 @@ row-at-requires : tie.Need-row-at-requires Inv-loop μ-loop
 row-at-requires c κs = search leading
 
 mask-at-requires : tie.Need-mask-at-requires Inv-loop μ-loop
-mask-at-requires c κs =
-    fits-mask _ _ _ _ _ (c .before .before .before .before .before .pre) (c .before .before .loop .inv .0) (c .before .loop-test .taken) (c .row-at .ensures)
+mask-at-requires c κs = (
+  fits-mask _ _ _ _ _ (c .before .before .before .before .before .pre .0) (c .before .before .loop .inv .0) (c .before .loop-test .taken) (c .row-at .ensures),
+  c .before .before .before .before .before .pre .1,
+)
 
 enum-told : tie.Need-enum-told Inv-loop μ-loop
 enum-told c = search leading

@@ -13,7 +13,11 @@ candidate-from-requires : tie.Need-candidate-from-requires Inv-loop μ-loop
 candidate-from-requires c κs = search showing
 
 image-of-requires : tie.Need-image-of-requires Inv-loop μ-loop
-image-of-requires c κs = (c .before .before .before .before .pre, first-shows _ _ _ _ _ (c .candidate-from .ensures))
+image-of-requires c κs = (
+  c .before .before .before .before .pre .0,
+  first-shows _ _ _ _ _ (c .candidate-from .ensures),
+  c .before .before .before .before .pre .1,
+)
 
 loop-holds : tie.Need-loop-holds Inv-loop μ-loop
 loop-holds c = show-begins _ _ _ _ _ _ _ (c .before .candidate-from .ensures) (c .image-of .ensures)
@@ -29,8 +33,9 @@ candidate-from-requires-2 c κs = search showing
 
 image-of-requires-2 : tie.Need-image-of-requires-2 Inv-loop μ-loop
 image-of-requires-2 c κs = (
-  c .before .before .before .before .before .before .before .before .before .before .before .pre,
+  c .before .before .before .before .before .before .before .before .before .before .before .pre .0,
   next-shows _ _ _ _ _ _ _ _ _ (c .before .before .before .before .before .loop .inv) (c .before .before .if1 .taken) (c .candidate-from2 .ensures),
+  c .before .before .before .before .before .before .before .before .before .before .before .pre .1,
 )
 
 agreed-requires : tie.Need-agreed-requires Inv-loop μ-loop

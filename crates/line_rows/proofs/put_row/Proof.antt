@@ -61,6 +61,15 @@ mul-rows-6 c = search filling
 slice-write-rows-6 : tie.Need-slice-write-rows-6
 slice-write-rows-6 c = simp length-set (omega arith)
 
+add-rows-6 : tie.Need-add-rows-6
+add-rows-6 c = search filling
+
+mul-rows-7 : tie.Need-mul-rows-7
+mul-rows-7 c = search filling
+
+slice-write-rows-7 : tie.Need-slice-write-rows-7
+slice-write-rows-7 c = simp length-set (omega arith)
+
 same-length : tie.Need-same-length
 same-length c = search filling
 
@@ -90,5 +99,8 @@ put-row-spec =
     add-rows-5
     mul-rows-6
     slice-write-rows-6
+    add-rows-6
+    mul-rows-7
+    slice-write-rows-7
     same-length
     returns)

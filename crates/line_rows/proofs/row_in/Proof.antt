@@ -12,6 +12,9 @@ wide16-requires-2 c κs = search needs
 area-end-requires : tie.Need-area-end-requires
 area-end-requires c κs = search needs
 
+factor-of-requires : tie.Need-factor-of-requires
+factor-of-requires c κs = search crossing
+
 enum-told : tie.Need-enum-told
 enum-told c = search needs
 
@@ -43,6 +46,7 @@ row-in-spec =
     wide16-requires
     wide16-requires-2
     area-end-requires
+    factor-of-requires
     enum-told
     enum-known-p
     depth-of-requires
