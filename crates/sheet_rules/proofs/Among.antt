@@ -5,8 +5,8 @@ use native.Mathlib.Omega.{arith}
 use native.Mathlib.Nat.{add-assoc}
 use mathlib.Core.Path.{_≡_, refl, sym, ap, subst, _∙_}
 use mathlib.Core.Logic.{⊎-elim}
-use mathlib.Core.List.{List, [], _∷_, _++_, List·Memᴰ·head, List·Memᴰ·tail, Memᴰ·append-left, Memᴰ·append-right, List·Memᴰ·append-cases, List·Memᴰ·eq-of-singleton}
-use lib.ListN.{length, length-append, List·getD-append}
+use mathlib.Core.List.{List, [], _∷_, _++_, List·Memᴰ, List·Memᴰ·head, List·Memᴰ·tail, Memᴰ·append-left, Memᴰ·append-right, List·Memᴰ·append-cases, List·Memᴰ·eq-of-singleton}
+use lib.ListN.{length, getD, length-append, List·getD-append}
 use lib.Seq.{getD-at}
 use Rattle.sheet_rules.specs.declared.Record.{Record}
 use Rattle.sheet_rules.specs.Record.{blank, nth, sumOf, heightIn}
@@ -21,10 +21,14 @@ pub heights-append : (ps qs : List Record) → heights (ps ++ qs) ≡ heights ps
 unfolding heights
 heights-append ps qs = sum-append heightIn ps qs
 
+-- what stands at a place of a list is among it, of records and of all else
+pub getD-among : {A : Type 0} (z : A) (l : List A) (i : ℕ) → i < length l → List·Memᴰ (getD l i z) l
+getD-among z [] i h = absurd (omega arith)
+getD-among z (a ∷ l) zero h = List·Memᴰ·head refl
+getD-among z (a ∷ l) (suc i) h = List·Memᴰ·tail (getD-among z l i (omega arith))
+
 pub nth-among : (rs : List Record) (i : ℕ) → i < length rs → Among (nth rs i) rs
-nth-among [] i h = absurd (omega arith)
-nth-among (r ∷ rs) zero h = List·Memᴰ·head refl
-nth-among (r ∷ rs) (suc i) h = List·Memᴰ·tail (nth-among rs i (omega arith))
+nth-among rs i h = getD-among blank rs i h
 
 module _ (rs : List Record) (r : Record) where
   pub length-more : length (rs ++ (r ∷ [])) ≡ length rs + 1
