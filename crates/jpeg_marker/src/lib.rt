@@ -26,7 +26,7 @@ fn marker_behind(s: &[u8], i: usize) -> Marker
     requires { ⌜ i ≤ length (now s) ⌝ }
     ensures { λ r. ⌜ r ≡ codeFrom (drop i (now (s .entry))) i ⌝ }
 {
-    let e = jpeg_fill::fill_end(s, i);
+    let e = octets_run::run_end(s, 0xFF, i);
     if e < s.len() {
         return Marker::Code {
             code: s[e],

@@ -11,6 +11,7 @@ use lib.ListN.{length, getD, drop}
 use lib.Dec.{eqb, ltb}
 use borrow.Author.Tests.{eq-eqb, ne-eqb, eqb-true, ltb-false}
 use Rattle.octets.proofs.Laws.{drop-octet}
+use Rattle.octets.proofs.Runs.{end-over, end-here}
 use Rattle.laws.specs.Tests.{within}
 use Rattle.laws.proofs.Cases.{cond-with, cond-both, clash}
 use Rattle.laws.proofs.Says.{Says, says-eq, says-and, says-or, says-not, says-within, says-else}
@@ -31,7 +32,6 @@ use Rattle.jpeg_rules.specs.declared.Turn.the-variants.{Go, Stop}
 use Rattle.jpeg_rules.specs.Marker.{classOf, codeFrom, markerOf}
 use Rattle.jpeg_rules.specs.Grammar.{DataRun}
 use Rattle.jpeg_rules.specs.Walk.{segOf, scanOf, tagOf, passed, onBody, onFound, componentsOk, frameBodyOf, frameOf, scanStepOf, segmentOf, endOf, markOf, onMarker, turnOf, onTurn, walkFrom, begun, walkOf}
-use Rattle.jpeg_rules.proofs.Runs.{fill-over, fill-here}
 use Rattle.jpeg_rules.proofs.Scans.{scan-over, plain-next, run-over, run-next, run-here}
 use Rattle.jpeg_padding.specs.Frozen.{frozenClassOf, frozenMarkerOf, frozenSegOf, frozenStopsOf, frozenScanFrom, frozenScanOf, frozenTagOf, frozenOnBody, frozenOnFound, frozenFrameBodyOf, frozenFrameOf, frozenScanStepOf, frozenSegmentOf, frozenEndOf, frozenMarkOf, frozenOnMarker, frozenTurnOf, frozenOnTurn, frozenWalkFrom, frozenWalkOf}
 
@@ -100,7 +100,7 @@ module _ (s : List ℕ) (i : ℕ) (h : i + 1 < length s) where
       ⊎-elim
       (λ (k : DataCode (getD s (i + 1) 0)).
       let d = code-other (getD s (i + 1) 0) k in
-      run-next s i (i + 1) ff (fill-here s (i + 1) h d) h (code-run k) ∙ sym (plain-next s (i + 1) d))
+      run-next s i (i + 1) ff (end-here 0xFF s (i + 1) h d) h (code-run k) ∙ sym (plain-next s (i + 1) d))
       (λ (k : DataCode (getD s (i + 1) 0) → ⊥). absurd (false≢true (sym e ∙ says-stops (getD s i 0) (getD s (i + 1) 0) .shown (ff, k))))
       (says-else (says-code (getD s (i + 1) 0))))
       (λ (d : getD s i 0 ≢ 0xFF). plain-next s i d)
@@ -110,12 +110,12 @@ module _ (s : List ℕ) (i : ℕ) (h : i + 1 < length s) where
   pair-here : frozenStopsOf (getD s i 0) (getD s (i + 1) 0) ≡ true → LoneAt s i → scanOf s i ≡ At i
   pair-here e d =
       let k = says-stops (getD s i 0) (getD s (i + 1) 0) .told e in
-      run-here s i (i + 1) (k .0) (fill-here s (i + 1) h (d (k .0))) h (λ q. k .1 (run-code q))
+      run-here s i (i + 1) (k .0) (end-here 0xFF s (i + 1) h (d (k .0))) h (λ q. k .1 (run-code q))
 
 -- from the last octet on nothing is found
 past-last : (s : List ℕ) (i : ℕ) → length s ≤ i + 1 → scanOf s i ≡ Nothing
 past-last s i h =
-    ⊎-elim (λ (ff : getD s i 0 ≡ 0xFF). run-over s i (i + 1) ff (fill-over s (i + 1) h) h)
+    ⊎-elim (λ (ff : getD s i 0 ≡ 0xFF). run-over s i (i + 1) ff (end-over 0xFF s (i + 1) h) h)
     (λ (d : getD s i 0 ≢ 0xFF). plain-next s i d ∙ scan-over s (i + 1) h)
     (says-else (says-eq (getD s i 0) 0xFF))
 

@@ -11,9 +11,9 @@ use lib.Dec.{ltb}
 use borrow.Author.Tests.{eq-eqb, ne-eqb, le-leb, lt-leb, lt-ltb, le-ltb}
 use borrow.Author.Needs.{needs}
 use Rattle.laws.proofs.Says.{Says, says-eq, says-le, says-true, says-and, says-or, says-not, says-else}
+use Rattle.octets.proofs.Runs.{end-here}
 use Rattle.jpeg_rules.specs.Grammar.{DataRun}
 use Rattle.jpeg_rules.specs.Walk.{scanOf}
-use Rattle.jpeg_rules.proofs.Runs.{fill-here}
 use Rattle.jpeg_rules.proofs.Scans.{plain-next, run-next}
 use Rattle.jpeg_pairs.specs.Pairs.{codes, plainPair, Suspect}
 
@@ -37,7 +37,7 @@ module _ (s : List ℕ) (i : ℕ) (h : i + 1 < length s) where
       λ q. ⊎-elim (λ (e : getD s (i + 1) 0 ≡ 0x00). omega arith) (λ (e : (0xD0 ≤ getD s (i + 1) 0) × (getD s (i + 1) 0 ≤ 0xD7)). omega arith) k in
       let d : DataRun (i + 1 - (i + 1)) (getD s (i + 1) 0) =
       ⊎-elim (λ (e : getD s (i + 1) 0 ≡ 0x00). inl (e, z)) (λ (e : (0xD0 ≤ getD s (i + 1) 0) × (getD s (i + 1) 0 ≤ 0xD7)). inr e) k in
-      run-next s i (i + 1) ff (fill-here s (i + 1) h n) h d ∙ sym (plain-next s (i + 1) n)
+      run-next s i (i + 1) ff (end-here 0xFF s (i + 1) h n) h d ∙ sym (plain-next s (i + 1) n)
 
   pub pair-next : plainPair (getD s i 0) (getD s (i + 1) 0) ≡ true → scanOf s i ≡ scanOf s (i + 1)
   pair-next t =

@@ -11,6 +11,7 @@ use lib.Dec.{eqb, ltb}
 use borrow.Author.Tests.{eq-eqb, ne-eqb, eqb-true, eqb-false, le-ltb, lt-ltb, ltb-true, ltb-false}
 use Rattle.laws.proofs.Cases.{cond-with, clash}
 use Rattle.octets.proofs.Laws.{drop-octet}
+use Rattle.octets.proofs.Runs.{runFrom, runEnd, end-over, end-here, end-next, Run, run-back}
 use Rattle.laws.proofs.Says.{says-lt, says-else}
 use Rattle.jpeg_rules.specs.declared.Marker.{Marker}
 use Rattle.jpeg_rules.specs.declared.Marker.the-variants.{Code, Missing, Cut}
@@ -20,32 +21,9 @@ use Rattle.jpeg_rules.proofs.Leaves.{one-there}
 
 -- ---- a run of FF
 
--- past the octets FF among n from i on
-unfoldable pub fillFrom : ℕ → List ℕ → ℕ → ℕ
-fillFrom zero s i = i
-fillFrom (suc n) s i = cond (eqb (getD s i 0) 0xFF) (fillFrom n s (i + 1)) i
-
 -- the first place from i on where another octet stands, or the end of the list
-unfoldable pub fillEnd : List ℕ → ℕ → ℕ
-unfolding fillFrom
-fillEnd s i = fillFrom (length s - i) s i
-
--- one octet
-pub fill-over : (s : List ℕ) (i : ℕ) → length s ≤ i → fillEnd s i ≡ i
-unfolding fillEnd
-fill-over s i h = let z : length s - i ≡ 0 = omega arith in ap (λ (n : ℕ). fillFrom n s i) z
-
-module _ (s : List ℕ) (i : ℕ) (h : i < length s) where
-  fill-opens : fillEnd s i ≡ cond (eqb (getD s i 0) 0xFF) (fillEnd s (i + 1)) i
-  unfolding fillEnd
-  fill-opens =
-      let z : length s - i ≡ suc (length s - (i + 1)) = omega arith in ap (λ (n : ℕ). fillFrom n s i) z
-
-  pub fill-here : getD s i 0 ≢ 0xFF → fillEnd s i ≡ i
-  fill-here n = fill-opens ∙ ap (λ (b : Bool). cond b (fillEnd s (i + 1)) i) (ne-eqb (getD s i 0) 0xFF n)
-
-  pub fill-next : getD s i 0 ≡ 0xFF → fillEnd s i ≡ fillEnd s (i + 1)
-  fill-next e = fill-opens ∙ ap (λ (b : Bool). cond b (fillEnd s (i + 1)) i) (eq-eqb (getD s i 0) 0xFF e)
+abbrev pub fillEnd : List ℕ → ℕ → ℕ
+fillEnd s i = runEnd 0xFF s i
 
 pub marker-open : (fill c : ℕ) (r : List ℕ) → marker fill c ++ r ≡ 0xFF ∷ replicate fill 0xFF ++ (c ∷ r)
 unfolding marker
@@ -56,113 +34,38 @@ unfolding marker
 length-marker fill c =
     let a = length-append (replicate fill 0xFF) (c ∷ []) in let b = length-replicate {A = ℕ} fill 0xFF in omega arith
 
-module _ (s : List ℕ) where
-  fill-there-from : (f n i c : ℕ) (r : List ℕ) → c ≢ 0xFF → f < n → drop i s ≡ replicate f 0xFF ++ (c ∷ r)
-      → (fillFrom n s i ≡ i + f) × (i + f < length s) × (getD s (i + f) 0 ≡ c) × (drop (i + f + 1) s ≡ r)
-  unfolding fillFrom
-  fill-there-from zero zero i c r d l e = absurd (omega arith)
-  fill-there-from zero (suc n) i c r d l e =
-      let t = one-there s i c r e in
-      let z : i + 0 ≡ i = omega arith in
-      let h = t .0 in (
-        ap (λ (b : Bool). cond b (fillFrom n s (i + 1)) i) (ne-eqb (getD s i 0) 0xFF (λ q. d (sym (t .1) ∙ q))) ∙ sym z,
-        omega arith,
-        ap (λ (k : ℕ). getD s k 0) z ∙ t .1,
-        ap (λ (k : ℕ). drop (k + 1) s) z ∙ t .2,
-      )
-  fill-there-from (suc f) zero i c r d l e = absurd (omega arith)
-  fill-there-from (suc f) (suc n) i c r d l e =
-      let t = one-there s i 0xFF (replicate f 0xFF ++ (c ∷ r)) e in
-      let m = fill-there-from f n (i + 1) c r d (omega arith) (t .2) in
-      let z : i + 1 + f ≡ i + suc f = omega arith in
-      let h = m .1 in (
-        ap (λ (b : Bool). cond b (fillFrom n s (i + 1)) i) (eq-eqb (getD s i 0) 0xFF (t .1)) ∙ m .0 ∙ z,
-        omega arith,
-        ap (λ (k : ℕ). getD s k 0) (sym z) ∙ m .2,
-        ap (λ (k : ℕ). drop (k + 1) s) (sym z) ∙ m .3,
-      )
-
-  fill-cut-from : (f n i : ℕ) → drop i s ≡ replicate f 0xFF → f ≡ n → fillFrom n s i ≡ i + f
-  unfolding fillFrom
-  fill-cut-from zero zero i e z = omega arith
-  fill-cut-from zero (suc n) i e z = absurd (omega arith)
-  fill-cut-from (suc f) zero i e z = absurd (omega arith)
-  fill-cut-from (suc f) (suc n) i e z =
-      let t = one-there s i 0xFF (replicate f 0xFF) e in
-      let y : i + 1 + f ≡ i + suc f = omega arith in
-      ap (λ (b : Bool). cond b (fillFrom n s (i + 1)) i) (eq-eqb (getD s i 0) 0xFF (t .1)) ∙ fill-cut-from f n (i + 1) (t .2) (omega arith) ∙ y
-
 -- octets FF up to another one: that is where they end
 pub fill-there : (s : List ℕ) (i f c : ℕ) (r : List ℕ) → c ≢ 0xFF → drop i s ≡ replicate f 0xFF ++ (c ∷ r)
     → (fillEnd s i ≡ i + f) × (i + f < length s) × (getD s (i + f) 0 ≡ c) × (drop (i + f + 1) s ≡ r)
-unfolding fillEnd
-fill-there s i f c r d e =
-    let l = sym (length-drop i s) ∙ ap length e ∙ length-append (replicate f 0xFF) (c ∷ r) in
-    let k = length-replicate {A = ℕ} f 0xFF in
-    fill-there-from s f (length s - i) i c r d (omega arith) e
+fill-there s i zero c r d e =
+    let t = one-there s i c r e in
+    let z : i + 0 ≡ i = omega arith in
+    let h = t .0 in (
+      end-here 0xFF s i (omega arith) (λ q. d (sym (t .1) ∙ q)) ∙ sym z,
+      omega arith,
+      ap (λ (k : ℕ). getD s k 0) z ∙ t .1,
+      ap (λ (k : ℕ). drop (k + 1) s) z ∙ t .2,
+    )
+fill-there s i (suc f) c r d e =
+    let t = one-there s i 0xFF (replicate f 0xFF ++ (c ∷ r)) e in
+    let m = fill-there s (i + 1) f c r d (t .2) in
+    let z : i + 1 + f ≡ i + suc f = omega arith in
+    let h = m .1 in (
+      end-next 0xFF s i (omega arith) (t .1) ∙ m .0 ∙ z,
+      omega arith,
+      ap (λ (k : ℕ). getD s k 0) (sym z) ∙ m .2,
+      ap (λ (k : ℕ). drop (k + 1) s) (sym z) ∙ m .3,
+    )
 
 -- octets FF up to the end of the list
 pub fill-cut : (s : List ℕ) (i f : ℕ) → i ≤ length s → drop i s ≡ replicate f 0xFF → fillEnd s i ≡ length s
-unfolding fillEnd
-fill-cut s i f h e =
-    let l = sym (length-drop i s) ∙ ap length e ∙ length-replicate f 0xFF in
-    fill-cut-from s f (length s - i) i e (omega arith) ∙ omega arith
-
-fill-ahead-from : (s : List ℕ) (n i : ℕ) → i ≤ fillFrom n s i
-unfolding fillFrom
-fill-ahead-from s zero i = omega arith
-fill-ahead-from s (suc n) i =
-    cond-with (λ x. i ≤ x) (eqb (getD s i 0) 0xFF) (λ t. let m = fill-ahead-from s n (i + 1) in omega arith) (λ t. omega arith)
-
-pub fill-ahead : (s : List ℕ) (i : ℕ) → i ≤ fillEnd s i
-unfolding fillEnd
-fill-ahead s i = fill-ahead-from s (length s - i) i
-
--- and what stands before the place where they end is FF
-pub record Filled (s : List ℕ) (i e : ℕ) : Type 0 where
-  pub after : i ≤ e
-  pub inside : e ≤ length s
-  pub stands : drop i s ≡ replicate (e - i) 0xFF ++ drop e s
-  pub other : e < length s → getD s e 0 ≢ 0xFF
-
-fill-back-from : (s : List ℕ) (n i : ℕ) → i + n ≡ length s → Filled s i (fillFrom n s i)
-unfolding fillFrom
-fill-back-from s zero i h =
-    let z : i - i ≡ 0 = omega arith in
-    record {
-      after = omega arith;
-      inside = omega arith;
-      stands = ap (λ (k : ℕ). replicate k 0xFF ++ drop i s) (sym z);
-      other = λ l. absurd (omega arith);
-    }
-fill-back-from s (suc n) i h =
-    cond-with (Filled s i) (eqb (getD s i 0) 0xFF)
-    (λ t.
-    let m = fill-back-from s n (i + 1) (omega arith) in
-    let a = m .after in
-    let e : ℕ = fillFrom n s (i + 1) in
-    let z : suc (e - (i + 1)) ≡ e - i = omega arith in
-    record {
-      after = omega arith;
-      inside = m .inside;
-      stands =
-          drop-octet s i (omega arith)
-          ∙ ap₂ (λ (x : ℕ) (l : List ℕ). x ∷ l) (eqb-true (getD s i 0) 0xFF t) (m .stands)
-          ∙ ap (λ (k : ℕ). replicate k 0xFF ++ drop e s) z;
-      other = m .other;
-    })
-    (λ t.
-    let z : i - i ≡ 0 = omega arith in
-    record {
-      after = omega arith;
-      inside = omega arith;
-      stands = ap (λ (k : ℕ). replicate k 0xFF ++ drop i s) (sym z);
-      other = λ l. eqb-false (getD s i 0) 0xFF t;
-    })
-
-pub fill-back : (s : List ℕ) (i : ℕ) → i ≤ length s → Filled s i (fillEnd s i)
-unfolding fillEnd
-fill-back s i h = fill-back-from s (length s - i) i (omega arith)
+fill-cut s i zero h e =
+    let l = sym (length-drop i s) ∙ ap length e in
+    end-over 0xFF s i (omega arith) ∙ omega arith
+fill-cut s i (suc f) h e =
+    let t = one-there s i 0xFF (replicate f 0xFF) e in
+    let l = t .0 in
+    end-next 0xFF s i (omega arith) (t .1) ∙ fill-cut s (i + 1) f l (t .2)
 
 -- ---- a marker
 
@@ -179,8 +82,8 @@ none-left s i h = drop-of-length-le s h
 abbrev pub codeAt : List ℕ → ℕ → Marker
 codeAt s e = cond (ltb e (length s)) (Code (getD s e 0) (e + 1)) Cut
 
-code-from : (s : List ℕ) (n i : ℕ) → length s ≤ i + n → codeFrom (drop i s) i ≡ codeAt s (fillFrom n s i)
-unfolding codeFrom fillFrom
+code-from : (s : List ℕ) (n i : ℕ) → length s ≤ i + n → codeFrom (drop i s) i ≡ codeAt s (runFrom 0xFF n s i)
+unfolding codeFrom runFrom
 code-from s zero i h =
     ap (λ (l : List ℕ). codeFrom l i) (none-left s i (omega arith)) ∙ sym (ap (λ (b : Bool). cond b (Code (getD s i 0) (i + 1)) Cut) (le-ltb i (length s) (omega arith)))
 code-from s (suc n) i h =
@@ -195,12 +98,12 @@ code-from s (suc n) i h =
     (λ (l : i < length s → ⊥).
     ap (λ (l : List ℕ). codeFrom l i) (none-left s i (omega arith))
     ∙ sym
-    (ap (λ (b : Bool). codeAt s (cond b (fillFrom n s (i + 1)) i)) (ne-eqb (getD s i 0) 0xFF (λ q. let m = ff-inside s i q in absurd (l m)))
+    (ap (λ (b : Bool). codeAt s (cond b (runFrom 0xFF n s (i + 1)) i)) (ne-eqb (getD s i 0) 0xFF (λ q. let m = ff-inside s i q in absurd (l m)))
     ∙ ap (λ (b : Bool). cond b (Code (getD s i 0) (i + 1)) Cut) (le-ltb i (length s) (omega arith))))
     (says-else (says-lt i (length s)))
 
 pub code-opens : (s : List ℕ) (i : ℕ) → codeFrom (drop i s) i ≡ codeAt s (fillEnd s i)
-unfolding fillEnd
+unfolding runEnd
 code-opens s i = code-from s (length s - i) i (omega arith)
 
 -- a marker by where its run ends
@@ -259,11 +162,11 @@ pub record Marked (s : List ℕ) (at c n : ℕ) : Type 0 where
 module _ (s : List ℕ) (at : ℕ) (h : at < length s) (ff : getD s at 0 ≡ 0xFF) where
   run-stands : drop at s ≡ 0xFF ∷ replicate (fillEnd s (at + 1) - (at + 1)) 0xFF ++ drop (fillEnd s (at + 1)) s
   run-stands =
-      drop-octet s at (omega arith) ∙ ap₂ (λ (x : ℕ) (l : List ℕ). x ∷ l) ff (fill-back s (at + 1) (omega arith) .stands)
+      drop-octet s at (omega arith) ∙ ap₂ (λ (x : ℕ) (l : List ℕ). x ∷ l) ff (run-back 0xFF s (at + 1) (omega arith) .stands)
 
   pub run-marked : (e : ℕ) → e ≡ fillEnd s (at + 1) → e < length s → Marked s at (getD s e 0) (e + 1)
   run-marked e q l =
-      let b = subst (Filled s (at + 1)) (sym q) (fill-back s (at + 1) (omega arith)) in
+      let b = subst (Run 0xFF s (at + 1)) (sym q) (run-back 0xFF s (at + 1) (omega arith)) in
       let a = b .after in
       let f : ℕ = e - (at + 1) in
       record {

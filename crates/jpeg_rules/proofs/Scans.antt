@@ -11,6 +11,7 @@ use lib.Seq.{drop-drop, take-append-add}
 use lib.Dec.{eqb, ltb}
 use borrow.Author.Tests.{eq-eqb, ne-eqb, lt-ltb, le-ltb}
 use Rattle.octets.proofs.Laws.{drop-octet, drop-next}
+use Rattle.octets.proofs.Runs.{runFrom, runEnd, end-ahead}
 use Rattle.laws.proofs.Says.{Says, says-eq, says-lt, says-le, says-else, says-fails}
 use Rattle.laws.proofs.Cases.{cond-with, clash}
 use Rattle.jpeg_rules.specs.declared.Found.{Found}
@@ -19,7 +20,7 @@ use Rattle.jpeg_rules.specs.Grammar.{marker, DataRun, Data, none, plain,
 use Rattle.jpeg_rules.specs.Walk.{dataRun, scanFrom, scanOf}
 use Rattle.jpeg_rules.specs.Faults.{Endless, all-data, in-run}
 use Rattle.jpeg_rules.proofs.Leaves.{says-run, says-data, data-other, one-there}
-use Rattle.jpeg_rules.proofs.Runs.{fillFrom, fillEnd, ff-inside, none-left, length-marker, fill-ahead, fill-cut, Begun, begins-there, Marked, run-marked, run-cut}
+use Rattle.jpeg_rules.proofs.Runs.{fillEnd, ff-inside, none-left, length-marker, fill-cut, Begun, begins-there, Marked, run-marked, run-cut}
 
 -- ---- the search from place to place
 
@@ -34,8 +35,8 @@ scan-over s i h = ap (λ (l : List ℕ). scanFrom l 0 i) (drop-of-length-le s h)
 
 -- in a run of FF that began at i and reaches j
 run-on : (s : List ℕ) (n i run j : ℕ) → j + n ≡ length s → j ≡ i + run → 0 < run
-    → scanFrom (drop j s) run j ≡ onRun s i (fillFrom n s j) (scanOf s (fillFrom n s j + 1))
-unfolding scanFrom fillFrom scanOf
+    → scanFrom (drop j s) run j ≡ onRun s i (runFrom 0xFF n s j) (scanOf s (runFrom 0xFF n s j + 1))
+unfolding scanFrom runFrom scanOf
 run-on s zero i run j h e lt =
     ap (λ (l : List ℕ). scanFrom l run j) (none-left s j (omega arith))
     ∙ sym (ap (λ (b : Bool). cond b (cond (dataRun (j - i) (getD s j 0)) (scanFrom (drop (j + 1) s) 0 (j + 1)) (At i)) Nothing) (le-ltb j (length s) (omega arith)))
@@ -59,7 +60,7 @@ run-on s (suc n) i run j h e lt =
 
 pub scan-opens : (s : List ℕ) (i : ℕ) → i < length s
     → scanOf s i ≡ cond (eqb (getD s i 0) 0xFF) (onRun s i (fillEnd s (i + 1)) (scanOf s (fillEnd s (i + 1) + 1))) (scanOf s (i + 1))
-unfolding scanOf fillEnd
+unfolding scanOf runEnd
 scan-opens s i h =
     ap (λ (l : List ℕ). scanFrom l 0 i) (drop-octet s i h)
     ∙ ap (λ (x : Found). cond (eqb (getD s i 0) 0xFF) x (scanFrom (drop (i + 1) s) 0 (i + 1))) (run-on s (length s - (i + 1)) i 1 (i + 1) (omega arith) refl (omega arith))
@@ -95,7 +96,7 @@ module _ (s : List ℕ) (i e : ℕ) (ff : getD s i 0 ≡ 0xFF) (q : fillEnd s (i
         ∙ ap₂ (λ (x y : Bool). cond x (cond y (scanOf s (e + 1)) (At i)) Nothing) (lt-ltb e (length s) h) t
 
     says-this : Says (dataRun (e - i) (getD s e 0)) (DataRun (e - (i + 1)) (getD s e 0))
-    says-this = let a = fill-ahead s (i + 1) in says-run (e - i) (e - (i + 1)) (getD s e 0) (omega arith)
+    says-this = let a = end-ahead 0xFF s (i + 1) in says-run (e - i) (e - (i + 1)) (getD s e 0) (omega arith)
 
     pub run-next : DataRun (e - (i + 1)) (getD s e 0) → scanOf s i ≡ scanOf s (e + 1)
     run-next k = run-by _ (says-this .shown k)
@@ -204,7 +205,7 @@ module _ (s : List ℕ) where
   run-scanned i ff more =
       let l = ff-inside s i ff in
       let e : ℕ = fillEnd s (i + 1) in
-      let a = fill-ahead s (i + 1) in
+      let a = end-ahead 0xFF s (i + 1) in
       ⊎-elim
       (λ (h : e < length s).
       let k = run-marked s i l ff e refl h in

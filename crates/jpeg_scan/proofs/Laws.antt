@@ -11,12 +11,13 @@ use lib.Dec.{eqb, leb}
 use borrow.Author.Tests.{ne-eqb, le-leb, lt-leb}
 use borrow.Author.Needs.{needs}
 use Rattle.laws.proofs.Says.{Says, says-eq, says-le, says-true, says-and, says-or, says-not, says-else}
+use Rattle.octets.proofs.Runs.{end-ahead, end-over, end-here, end-next}
 use Rattle.jpeg_rules.specs.declared.Found.{Found}
 use Rattle.jpeg_rules.specs.declared.Marker.the-variants.{Code}
 use Rattle.jpeg_rules.specs.Grammar.{DataRun}
 use Rattle.jpeg_rules.specs.Walk.{dataRun, scanOf}
 use Rattle.jpeg_rules.proofs.Leaves.{says-run}
-use Rattle.jpeg_rules.proofs.Runs.{fillEnd, fill-ahead, fill-over, fill-here, fill-next, run-marked, marker-is}
+use Rattle.jpeg_rules.proofs.Runs.{fillEnd, run-marked, marker-is}
 use Rattle.jpeg_rules.proofs.Scans.{plain-next, scan-over, run-over, run-next, run-here}
 use Rattle.jpeg_pairs.specs.Pairs.{codes, plainPair, Suspect}
 use Rattle.jpeg_scan.specs.declared.Next.{Next}
@@ -109,12 +110,12 @@ pub ruleset passing = (needs, pass-begun, pass-on)
 scan-last : (s : List ℕ) (i : ℕ) → length s ≤ i + 1 → scanOf s i ≡ Found.Nothing
 scan-last s i h =
     ⊎-elim
-    (λ (e : getD s i 0 ≡ 0xFF). run-over s i (i + 1) e (fill-over s (i + 1) h) h)
+    (λ (e : getD s i 0 ≡ 0xFF). run-over s i (i + 1) e (end-over 0xFF s (i + 1) h) h)
     (λ (n : getD s i 0 ≢ 0xFF). plain-next s i n ∙ scan-over s (i + 1) h)
     (says-else (says-eq (getD s i 0) 0xFF))
 
 pub next-ahead : (s : List ℕ) (i : ℕ) {e : ℕ} → e ≡ fillEnd s (i + 2) → i ≤ e
-next-ahead s i q = let a = fill-ahead s (i + 2) in omega arith
+next-ahead s i q = let a = end-ahead 0xFF s (i + 2) in omega arith
 
 module _ (s : List ℕ) (from : ℕ) where
   pub next-past : length s ≤ from → Shows s Next.Nothing (scanOf s from)
@@ -145,7 +146,7 @@ module _ (s : List ℕ) (from : ℕ) where
 
       pub next-bare : (getD s (i + 1) 0 ≡ 255 → ⊥) → Shows s (Next.At i (getD s (i + 1) 0) (i + 2)) (scanOf s from)
       next-bare n =
-          found (i + 1) (fill-here s (i + 1) (omega arith) n) (omega arith) (λ d. no-data (c .second (omega arith)) d) (i + 2) (omega arith)
+          found (i + 1) (end-here 0xFF s (i + 1) (omega arith) n) (omega arith) (λ d. no-data (c .second (omega arith)) d) (i + 2) (omega arith)
         where
           no-data : codes (getD s (i + 1) 0) ≡ true → DataRun (i + 1 - (i + 1)) (getD s (i + 1) 0) → ⊥
           no-data t d = says-not (says-or (says-eq (getD s (i + 1) 0) 0x00) (says-and (says-le 0xD0 (getD s (i + 1) 0)) (says-le (getD s (i + 1) 0) 0xD7))) .told t
@@ -153,10 +154,10 @@ module _ (s : List ℕ) (from : ℕ) where
 
       module _ (ff : getD s (i + 1) 0 ≡ 255) {e : ℕ} (q : e ≡ fillEnd s (i + 2)) where
         run-end : fillEnd s (i + 1) ≡ e
-        run-end = let z : i + 1 + 1 ≡ i + 2 = omega arith in fill-next s (i + 1) (omega arith) ff ∙ ap (fillEnd s) z ∙ sym q
+        run-end = let z : i + 1 + 1 ≡ i + 2 = omega arith in end-next 0xFF s (i + 1) (omega arith) ff ∙ ap (fillEnd s) z ∙ sym q
 
         ahead : i + 2 ≤ e
-        ahead = let a = fill-ahead s (i + 2) in omega arith
+        ahead = let a = end-ahead 0xFF s (i + 2) in omega arith
 
         pub next-cut : length s ≤ e → Shows s Next.Nothing (scanOf s from)
         unfolding Shows

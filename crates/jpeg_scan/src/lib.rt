@@ -100,7 +100,7 @@ pub fn next_marker(s: &[u8], from: usize) -> Next
                 next: i + 2,
             };
         }
-        let e = jpeg_fill::fill_end(s, i + 2);
+        let e = octets_run::run_end(s, 0xFF, i + 2);
         if n <= e {
             return Next::Nothing;
         }

@@ -2,3 +2,4 @@ pub mod Laws
 pub mod Entries
 pub mod Agree
 pub mod Turns
+pub mod Runs

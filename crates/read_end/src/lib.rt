@@ -12,12 +12,12 @@ fn trailing(s: &[u8], from: usize) -> Judged
     requires { ⌜ length (now s) ≤ longestPage ⌝ }
     ensures { λ r. ⌜ r ≡ zerosFrom (now (s .entry)) from ⌝ }
 {
-    let mut i = from;
-    while i < s.len() {
-        if s[i] != 0 {
-            return Judged::Refused(Answer::Trailing(i as u32));
-        }
-        i += 1;
+    if s.len() <= from {
+        return Judged::Fine;
+    }
+    let i = octets_run::run_end(s, 0, from);
+    if i < s.len() {
+        return Judged::Refused(Answer::Trailing(i as u32));
     }
     Judged::Fine
 }

@@ -3,8 +3,8 @@ use borrow.Author.Needs.{needs}
 use Rattle.jpeg_marker.proofs.marker_behind.Statement.{statement}
 use Rattle.jpeg_marker.proofs.marker_behind.Tie as tie
 
-fill-end-requires : tie.Need-fill-end-requires
-fill-end-requires c κs = search needs
+run-end-requires : tie.Need-run-end-requires
+run-end-requires c κs = search needs
 
 shared-slice-read-t7 : tie.Need-shared-slice-read-t7
 shared-slice-read-t7 c = search needs
@@ -20,4 +20,4 @@ returns-2 c = search behind
 
 pub marker-behind-spec : {M : Type 1} → statement M
 marker-behind-spec =
-    tie.close (tie.spec fill-end-requires shared-slice-read-t7 add-t8 returns returns-2)
+    tie.close (tie.spec run-end-requires shared-slice-read-t7 add-t8 returns returns-2)

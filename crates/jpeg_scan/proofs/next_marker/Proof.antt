@@ -51,17 +51,17 @@ add-t16 c = search searching
 returns-4 : tie.Need-returns-4 Inv-loop μ-loop
 returns-4 c = search searching
 
-add-fill-end : tie.Need-add-fill-end Inv-loop μ-loop
-add-fill-end c = search searching
+add-run-end : tie.Need-add-run-end Inv-loop μ-loop
+add-run-end c = search searching
 
-fill-end-requires : tie.Need-fill-end-requires Inv-loop μ-loop
-fill-end-requires c κs = search searching
+run-end-requires : tie.Need-run-end-requires Inv-loop μ-loop
+run-end-requires c κs = search searching
 
 returns-5 : tie.Need-returns-5 Inv-loop μ-loop
 returns-5 c = search searching
 
 sub-is-data : tie.Need-sub-is-data Inv-loop μ-loop
-sub-is-data c = let h = next-ahead _ _ (c .before .fill-end .ensures) in search needs
+sub-is-data c = let h = next-ahead _ _ (c .before .run-end .ensures) in search needs
 
 shared-slice-read-is-data : tie.Need-shared-slice-read-is-data Inv-loop μ-loop
 shared-slice-read-is-data c = search searching
@@ -98,7 +98,7 @@ add-t23 c = search searching
 
 returns-7 : tie.Need-returns-7 Inv-loop μ-loop
 returns-7 c =
-    next-here _ _ _ (c .before .before .before .before .before .before .before .before .before .loop .inv) (c .before .before .before .before .before .before .before .before .if3 .left) (c .before .before .before .before .before .before .if4 .left) (c .before .before .before .before .before .fill-end .ensures) (c .before .before .before .before .if5 .left) (c .before .before .is-data .ensures) (c .before .if6 .left)
+    next-here _ _ _ (c .before .before .before .before .before .before .before .before .before .loop .inv) (c .before .before .before .before .before .before .before .before .if3 .left) (c .before .before .before .before .before .before .if4 .left) (c .before .before .before .before .before .run-end .ensures) (c .before .before .before .before .if5 .left) (c .before .before .is-data .ensures) (c .before .if6 .left)
 
 pub next-marker-spec : {M : Type 1} → statement M
 next-marker-spec =
@@ -119,8 +119,8 @@ next-marker-spec =
     shared-slice-read-t15
     add-t16
     returns-4
-    add-fill-end
-    fill-end-requires
+    add-run-end
+    run-end-requires
     returns-5
     sub-is-data
     shared-slice-read-is-data

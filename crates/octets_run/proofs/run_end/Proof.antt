@@ -1,28 +1,28 @@
-use Rattle.jpeg_fill.proofs.Laws.{Blocks, ending}
+use Rattle.octets_run.proofs.Laws.{Blocks, ending}
 use Prim.Native.Nat.{_-_}
-use Rattle.jpeg_fill.proofs.fill_end.Statement.{statement}
-use Rattle.jpeg_fill.proofs.fill_end.Tie as tie
+use Rattle.octets_run.proofs.run_end.Statement.{statement}
+use Rattle.octets_run.proofs.run_end.Tie as tie
 
 abbrev Inv-loop : tie.InvT-loop
-Inv-loop s from n first i₀ i = Blocks s from i
+Inv-loop s v from n first i₀ i = Blocks v s from i
 
 abbrev μ-loop : tie.MeasureT-loop
-μ-loop s from n first i₀ i = n - i
+μ-loop s v from n first i₀ i = n - i
 
 sub-if1 : tie.Need-sub-if1 Inv-loop μ-loop
 sub-if1 c = search ending
 
-fill-to-requires : tie.Need-fill-to-requires Inv-loop μ-loop
-fill-to-requires c κs = search ending
+run-to-requires : tie.Need-run-to-requires Inv-loop μ-loop
+run-to-requires c κs = search ending
 
 returns : tie.Need-returns Inv-loop μ-loop
 returns c = search ending
 
-add-fill-to : tie.Need-add-fill-to Inv-loop μ-loop
-add-fill-to c = search ending
+add-run-to : tie.Need-add-run-to Inv-loop μ-loop
+add-run-to c = search ending
 
-fill-to-requires-2 : tie.Need-fill-to-requires-2 Inv-loop μ-loop
-fill-to-requires-2 c κs = search ending
+run-to-requires-2 : tie.Need-run-to-requires-2 Inv-loop μ-loop
+run-to-requires-2 c κs = search ending
 
 add-if2 : tie.Need-add-if2 Inv-loop μ-loop
 add-if2 c = search ending
@@ -39,8 +39,8 @@ loop-holds c = search ending
 sub-loop : tie.Need-sub-loop Inv-loop μ-loop
 sub-loop c = search ending
 
-all-fill-requires : tie.Need-all-fill-requires Inv-loop μ-loop
-all-fill-requires c κs = search ending
+all-same-requires : tie.Need-all-same-requires Inv-loop μ-loop
+all-same-requires c κs = search ending
 
 add-i-2 : tie.Need-add-i-2 Inv-loop μ-loop
 add-i-2 c = search ending
@@ -51,39 +51,39 @@ loop-less c = search ending
 loop-again : tie.Need-loop-again Inv-loop μ-loop
 loop-again c = search ending
 
-fill-to-requires-3 : tie.Need-fill-to-requires-3 Inv-loop μ-loop
-fill-to-requires-3 c κs = search ending
+run-to-requires-3 : tie.Need-run-to-requires-3 Inv-loop μ-loop
+run-to-requires-3 c κs = search ending
 
 returns-3 : tie.Need-returns-3 Inv-loop μ-loop
 returns-3 c = search ending
 
-fill-to-requires-4 : tie.Need-fill-to-requires-4 Inv-loop μ-loop
-fill-to-requires-4 c κs = search ending
+run-to-requires-4 : tie.Need-run-to-requires-4 Inv-loop μ-loop
+run-to-requires-4 c κs = search ending
 
 returns-4 : tie.Need-returns-4 Inv-loop μ-loop
 returns-4 c = search ending
 
-pub fill-end-spec : {M : Type 1} → statement M
-fill-end-spec =
+pub run-end-spec : {M : Type 1} → statement M
+run-end-spec =
     tie.close
     (tie.spec
     Inv-loop
     μ-loop
     sub-if1
-    fill-to-requires
+    run-to-requires
     returns
-    add-fill-to
-    fill-to-requires-2
+    add-run-to
+    run-to-requires-2
     add-if2
     returns-2
     add-i
     loop-holds
     sub-loop
-    all-fill-requires
+    all-same-requires
     add-i-2
     loop-less
     loop-again
-    fill-to-requires-3
+    run-to-requires-3
     returns-3
-    fill-to-requires-4
+    run-to-requires-4
     returns-4)

@@ -1,13 +1,13 @@
-use Rattle.jpeg_fill.proofs.Laws.{Whole, whole}
+use Rattle.octets_run.proofs.Laws.{Whole, whole}
 use Prim.Native.Nat.{_-_}
-use Rattle.jpeg_fill.proofs.all_fill.Statement.{statement}
-use Rattle.jpeg_fill.proofs.all_fill.Tie as tie
+use Rattle.octets_run.proofs.all_same.Statement.{statement}
+use Rattle.octets_run.proofs.all_same.Tie as tie
 
 abbrev Inv-loop : tie.InvT-loop
-Inv-loop s i all₀ j₀ all j = Whole s i all j
+Inv-loop s v i all₀ j₀ all j = Whole v s i all j
 
 abbrev μ-loop : tie.MeasureT-loop
-μ-loop s i all₀ j₀ all j = 32 - j
+μ-loop s v i all₀ j₀ all j = 64 - j
 
 loop-holds : tie.Need-loop-holds Inv-loop μ-loop
 loop-holds c = search whole
@@ -30,8 +30,8 @@ loop-again c = search whole
 returns : tie.Need-returns Inv-loop μ-loop
 returns c = search whole
 
-pub all-fill-spec : {M : Type 1} → statement M
-all-fill-spec =
+pub all-same-spec : {M : Type 1} → statement M
+all-same-spec =
     tie.close
     (tie.spec
     Inv-loop
