@@ -9,7 +9,7 @@ import re
 
 from page_making import part
 
-RUNS = 140           # more FF than a reader looks at in one step
+RUNS = 200           # more FF than a reader looks at in one step
 LONGEST = 5          # of all strings of these octets
 OCTETS = b"\xff\x00\x01\xd3\xd9"
 END = b"\xff\xd9\xff\xd9"
