@@ -1,0 +1,2 @@
+pub mod Coats
+pub mod Laws

@@ -1,0 +1,37 @@
+use Rattle.paint_coat.proofs.Laws.{kinds}
+use borrow.Author.Needs.{needs}
+use Rattle.paint_coat.proofs.lay_samples.Statement.{statement}
+use Rattle.paint_coat.proofs.lay_samples.Tie as tie
+use Rattle.paint_coat.proofs.lay_samples.Reads as reads
+use Rattle.paint_coat.proofs.lay_samples.Lts as lts
+use Rattle.paint_coat.proofs.lay_grey.Reads as lay-grey-reads
+use Rattle.paint_coat.proofs.lay_three.Reads as lay-three-reads
+
+-- src/lib.rt:107:9
+lay-three-requires : tie.Need-lay-three-requires
+lay-three-requires c κs = search kinds
+
+-- src/lib.rt:109:9
+lay-grey-requires : tie.Need-lay-grey-requires
+lay-grey-requires c κs = search kinds
+
+-- src/lib.rt:102:1
+same-length : tie.Need-same-length
+same-length c = search needs
+
+-- src/lib.rt:102:1
+returns : tie.Need-returns
+returns c = search kinds
+
+-- src/lib.rt:102:1
+same-length-2 : tie.Need-same-length-2
+same-length-2 c = search needs
+
+-- src/lib.rt:102:1
+returns-2 : tie.Need-returns-2
+returns-2 c = search kinds
+
+pub lay-samples-spec : {M : Type 1} → statement M
+lay-samples-spec =
+    tie.close
+    (tie.spec lay-three-requires lay-grey-requires same-length returns same-length-2 returns-2)

@@ -1,0 +1,67 @@
+-- One law for each way out of the functions of words: its premises are what is known there.
+-- Assumes nothing.
+use Prim.Native.Nat.{ℕ, suc, _+_, _-_, _*_, _/_, _%_, _≤_, _<_}
+use native.Mathlib.Omega.{arith}
+use native.Mathlib.Nat.{eq-zero-or-pos}
+use mathlib.Core.Path.{_≡_, refl, sym, ap, _∙_}
+use mathlib.Core.Logic.{⊎-elim}
+use mathlib.Core.Bool.{Bool, true, false, _&&_, cond}
+use mathlib.Core.List.{List, [], _∷_}
+use lib.ListN.{length, getD, set}
+use lib.Dec.{eqb}
+use borrow.Author.Tests.{eqb-true, eq-eqb, ne-eqb}
+use borrow.Author.Needs.{needs}
+use Rattle.octets.specs.Octets.{putAt}
+use Rattle.octets.proofs.Turns.{sets-put}
+use Rattle.paint_words.specs.Words.{octetsOf, fourFrom, seenFrom, greyFrom}
+
+-- ---- four octets
+
+list4 : {a b c d a′ b′ c′ d′ : ℕ} → a ≡ a′ → b ≡ b′ → c ≡ c′ → d ≡ d′ → _≡_ {A = List ℕ} (a ∷ b ∷ c ∷ d ∷ []) (a′ ∷ b′ ∷ c′ ∷ d′ ∷ [])
+list4 p q r s = cc
+
+pub word-made : (a b c d p q r s : ℕ) → (p ≡ a) × (p < 256) → (q ≡ b) × (q < 256) → (r ≡ c) × (r < 256) → (s ≡ d) × (s < 256)
+    → octetsOf (p + q * 256 + r * 65536 + s * 16777216) ≡ a ∷ b ∷ c ∷ d ∷ []
+unfolding octetsOf
+word-made a b c d p q r s e f g h = list4 (omega arith) (omega arith) (omega arith) (omega arith)
+
+pub word-read : (l : List ℕ) (i r : ℕ) → octetsOf r ≡ getD l i 0 ∷ getD l (i + 1) 0 ∷ getD l (i + 2) 0 ∷ getD l (i + 3) 0 ∷ [] → octetsOf r ≡ fourFrom l i
+unfolding fourFrom
+word-read l i r e = e
+
+pub seen-read : (l : List ℕ) (i r : ℕ) → octetsOf r ≡ getD l i 0 ∷ getD l (i + 1) 0 ∷ getD l (i + 2) 0 ∷ 1 ∷ [] → octetsOf r ≡ seenFrom l i
+unfolding seenFrom
+seen-read l i r e = e
+
+pub grey-read : (l : List ℕ) (i r : ℕ) → octetsOf r ≡ getD l i 0 ∷ 128 ∷ 96 ∷ 1 ∷ [] → octetsOf r ≡ greyFrom l i
+unfolding greyFrom
+grey-read l i r e = e
+
+pub seen-made : (l : List ℕ) (i r : ℕ) → octetsOf r ≡ fourFrom l i → octetsOf (r % 16777216 + 16777216) ≡ seenFrom l i
+unfolding octetsOf fourFrom seenFrom
+seen-made l i r e =
+    let a : r % 256 ≡ getD l i 0 = cc in
+    let b : r / 256 % 256 ≡ getD l (i + 1) 0 = cc in
+    let c : r / 65536 % 256 ≡ getD l (i + 2) 0 = cc in
+    list4 (omega arith) (omega arith) (omega arith) (omega arith)
+
+module _ (d : List ℕ) (at w : ℕ) (h : at + 4 ≤ length d) where
+  pub word-put : set (set (set (set d at (w % 256)) (at + 1) (w / 256 % 256)) (at + 2) (w / 65536 % 256)) (at + 3) (w / 16777216) ≡ putAt d at (octetsOf w)
+  unfolding octetsOf
+  word-put =
+      let i : at + 1 ≡ suc at = omega arith in
+      let j : at + 2 ≡ suc (suc at) = omega arith in
+      let k : at + 3 ≡ suc (suc (suc at)) = omega arith in
+      rw (i, j, k) (sets-put d at (w % 256 ∷ w / 256 % 256 ∷ w / 65536 % 256 ∷ w / 16777216 ∷ []) h)
+
+pub ruleset making = (needs, word-made, word-read, seen-read, grey-read, seen-made, word-put)
+
+-- ---- a choice
+
+pub same-up : (low up o : ℕ) → low ≡ up → up ≡ cond (eqb low up) up o
+same-up low up o e = simp (eq-eqb low up e)
+
+pub same-other : (low up o : ℕ) → (low ≡ up → ⊥) → o ≡ cond (eqb low up) up o
+same-other low up o n = simp (ne-eqb low up n)
+
+pub ruleset picking = (needs, same-up, same-other)

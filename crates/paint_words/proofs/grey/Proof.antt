@@ -1,0 +1,22 @@
+use Rattle.paint_words.proofs.Laws.{making}
+use borrow.Author.Needs.{needs}
+use Rattle.paint_words.proofs.grey.Statement.{statement}
+use Rattle.paint_words.proofs.grey.Tie as tie
+use Rattle.paint_words.proofs.grey.Reads as reads
+use Rattle.paint_words.proofs.grey.Lts as lts
+use Rattle.paint_words.proofs.word_of.Reads as word-of-reads
+
+-- src/lib.rt:53:13
+shared-slice-read-word-of : tie.Need-shared-slice-read-word-of
+shared-slice-read-word-of c = search needs
+
+-- src/lib.rt:53:5
+word-of-requires : tie.Need-word-of-requires
+word-of-requires c κs = search needs
+
+-- src/lib.rt:49:1
+returns : tie.Need-returns
+returns c = search making
+
+pub grey-spec : {M : Type 1} → statement M
+grey-spec = tie.close (tie.spec shared-slice-read-word-of word-of-requires returns)
