@@ -1,0 +1,17 @@
+use Rattle.paint_image.proofs.Laws.{placing}
+use Rattle.paint_image.proofs.sample_of.Statement.{statement}
+use Rattle.paint_image.proofs.sample_of.Tie as tie
+use Rattle.paint_image.proofs.sample_of.Reads as reads
+use Rattle.paint_image.proofs.sample_of.Lts as lts
+use Rattle.line_sample.proofs.scale_pos.Reads as scale-pos-reads
+
+-- src/lib.rt:33:9
+scale-pos-requires : tie.Need-scale-pos-requires
+scale-pos-requires c κs = search placing
+
+-- src/lib.rt:29:1
+returns : tie.Need-returns
+returns c = search placing
+
+pub sample-of-spec : {M : Type 1} → statement M
+sample-of-spec = tie.close (tie.spec scale-pos-requires returns)

@@ -1,0 +1,27 @@
+use Rattle.paint_image.proofs.Laws.{kinds}
+use borrow.Author.Needs.{needs}
+use Rattle.paint_image.proofs.sample_word.Statement.{statement}
+use Rattle.paint_image.proofs.sample_word.Tie as tie
+use Rattle.paint_image.proofs.sample_word.Reads as reads
+use Rattle.paint_image.proofs.sample_word.Lts as lts
+use Rattle.paint_words.proofs.grey.Reads as grey-reads
+use Rattle.paint_words.proofs.seen.Reads as seen-reads
+
+-- src/lib.rt:42:9
+seen-requires : tie.Need-seen-requires
+seen-requires c κs = search needs
+
+-- src/lib.rt:44:9
+grey-requires : tie.Need-grey-requires
+grey-requires c κs = search kinds
+
+-- src/lib.rt:37:1
+returns : tie.Need-returns
+returns c = search kinds
+
+-- src/lib.rt:37:1
+returns-2 : tie.Need-returns-2
+returns-2 c = search kinds
+
+pub sample-word-spec : {M : Type 1} → statement M
+sample-word-spec = tie.close (tie.spec seen-requires grey-requires returns returns-2)
