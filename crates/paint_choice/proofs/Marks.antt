@@ -1,0 +1,142 @@
+-- Octets marked under a mask, one by one and in parts; samples spread.
+-- Assumes nothing.
+use Prim.Native.Nat.{ℕ, _+_, _-_, _*_, _/_, _≤_, _<_}
+use native.Mathlib.Omega.{arith}
+use native.Mathlib.Nat.{div-eq-of-lt-le, mul-le-mul-right, add-mul, one-mul}
+use mathlib.Core.Path.{_≡_, refl, sym, ap, ap₂, subst, _∙_}
+use mathlib.Core.Logic.{⊎-elim}
+use mathlib.Core.Bool.{cond}
+use mathlib.Core.List.{List}
+use lib.ListN.{length, getD, set, length-set}
+use lib.Seq.{getD-set-same, getD-set-other}
+use lib.Dec.{eqb}
+use borrow.Author.Tests.{eq-eqb, ne-eqb}
+use borrow.Author.Needs.{needs}
+use Rattle.laws.proofs.Says.{says-lt, says-else}
+use Rattle.paint_choice.specs.Choice.{Marked, ever, bitsFrom, Spread}
+
+pub marked-none : (mask : ℕ → ℕ) (l : List ℕ) (p q v : ℕ) → q ≤ p → Marked mask l p q v l
+marked-none mask l p q v h = record { long = refl; there = λ i a b. absurd (omega arith); before = λ i a. refl; behind = λ i a. refl }
+
+pub marked-as : (mask mask′ : ℕ → ℕ) (l e : List ℕ) (p q v : ℕ) → ((i : ℕ) → p ≤ i → i < q → mask i ≡ mask′ i) → Marked mask l p q v e → Marked mask′ l p q v e
+marked-as mask mask′ l e p q v h c =
+    record {
+      long = c .long;
+      there = λ i a b. c .there i a b ∙ ap (λ (m : ℕ). cond (eqb m 0) (getD l i 0) v) (h i a b);
+      before = c .before;
+      behind = c .behind;
+    }
+
+pub record Marking (mask : ℕ → ℕ) (l : List ℕ) (p q v : ℕ) (out : List ℕ) (x : ℕ) : Type 0 where
+  pub from : p ≤ x
+  pub upto : x ≤ q
+  pub room : q ≤ length l
+  pub long : length out ≡ length l
+  pub done : Marked mask l p x v out
+
+module _ (mask : ℕ → ℕ) (l : List ℕ) (p q v : ℕ) where
+  pub marking-begun : p ≤ q → q ≤ length l → Marking mask l p q v l p
+  marking-begun h r = record { from = omega arith; upto = h; room = r; long = refl; done = marked-none mask l p p v (omega arith) }
+
+  pub marking-more : (out : List ℕ) (x w : ℕ) → w ≡ cond (eqb (mask x) 0) (getD out x 0) v → x < q → Marking mask l p q v out x → Marking mask l p q v (set out x w) (x + 1)
+  marking-more out x w e h c =
+      let r = c .room in
+      let n = c .long in
+      let g = c .from in
+      record {
+        from = omega arith;
+        upto = omega arith;
+        room = r;
+        long = length-set out x w ∙ n;
+        done = record {
+          long = length-set out x w ∙ n;
+          there = λ i a b. ⊎-elim
+              (λ (z : i < x). getD-set-other out x i w 0 (λ (y : i ≡ x). omega arith) ∙ c .done .there i a z)
+              (λ (z : i < x → ⊥).
+              let y : i ≡ x = omega arith in
+              ap (λ (j : ℕ). getD (set out x w) j 0) y ∙ getD-set-same out x w 0 (omega arith) ∙ e
+              ∙ ap (λ (j : ℕ). cond (eqb (mask x) 0) j v) (c .done .behind x (omega arith))
+              ∙ ap (λ (j : ℕ). cond (eqb (mask j) 0) (getD l j 0) v) (sym y))
+              (says-else (says-lt i x));
+          before = λ i a. getD-set-other out x i w 0 (λ (y : i ≡ x). omega arith) ∙ c .done .before i a;
+          behind = λ i a. getD-set-other out x i w 0 (λ (y : i ≡ x). omega arith) ∙ c .done .behind i (omega arith);
+        };
+      }
+
+  pub marking-end : (out : List ℕ) (x : ℕ) → Marking mask l p q v out x → q ≤ x → Marked mask l p q v out
+  marking-end out x c h = let u = c .upto in let z : x ≡ q = omega arith in subst (λ (i : ℕ). Marked mask l p i v out) z (c .done)
+
+pub ever-is : (x low v : ℕ) → v ≡ cond (eqb (ever 1 x) 0) low v
+unfolding ever
+ever-is x low v = refl
+
+pub bits-is : (m : List ℕ) (p i x low v w : ℕ) → w ≡ cond (eqb (getD m (i + (x - p)) 0) 0) low v → w ≡ cond (eqb (bitsFrom m p i x) 0) low v
+unfolding bitsFrom
+bits-is m p i x low v w e = e
+
+pub pick-low : (m low up : ℕ) → m ≡ 0 → low ≡ cond (eqb m 0) low up
+pick-low m low up e = simp (eq-eqb m 0 e)
+
+pub pick-up : (m low up : ℕ) → (m ≡ 0 → ⊥) → up ≡ cond (eqb m 0) low up
+pick-up m low up n = simp (ne-eqb m 0 n)
+
+pub ruleset picking = (needs, pick-low, pick-up)
+
+pub ruleset marking = (needs, marking-begun, marking-more, marking-end, ever-is, bits-is)
+
+-- ---- samples spread
+
+product : (q n k : ℕ) → q < n → q * k + k ≤ n * k
+product q n k h =
+    let a : (q + 1) * k ≤ n * k = mul-le-mul-right k (omega arith) in
+    let b : (q + 1) * k ≡ q * k + k = add-mul q 1 k ∙ ap (λ (m : ℕ). q * k + m) (one-mul k) in
+    omega arith
+
+pub record Spreading (m : List ℕ) (i k n : ℕ) (l e : List ℕ) (q p : ℕ) : Type 0 where
+  pub few : q ≤ n
+  pub some : 0 < k
+  pub room : n * k ≤ length l
+  pub place : p ≡ q * k
+  pub done : Spread m i k q l e
+
+module _ (m : List ℕ) (i k n : ℕ) (l : List ℕ) where
+  pub spread-begun : 0 < k → n * k ≤ length l → Spreading m i k n l l 0 0
+  spread-begun s h = let z : 0 ≡ 0 * k = omega arith in record { few = omega arith; some = s; room = h; place = z; done = record { long = refl; there = λ x q. absurd (omega arith) } }
+
+  module _ (e : List ℕ) (q p : ℕ) (c : Spreading m i k n l e q p) where
+    pub spread-room : q < n → p + k ≤ length e
+    spread-room h = let a = product q n k h in let r = c .room in let z = c .place in let g = c .done .long in omega arith
+
+    pub spread-more : (new : List ℕ) → q < n → Marked (ever 1) e p (p + k) (getD m (i + q) 0) new → Spreading m i k n l new (q + 1) (p + k)
+    unfolding ever
+    spread-more new h f =
+        let b : (q + 1) * k ≡ q * k + k = add-mul q 1 k ∙ ap (λ (o : ℕ). q * k + o) (one-mul k) in
+        let z = c .place in
+        record {
+          few = omega arith;
+          some = c .some;
+          room = c .room;
+          place = omega arith;
+          done = record {
+            long = f .long ∙ c .done .long;
+            there = λ x g. ⊎-elim
+                (λ (y : x < p). f .before x y ∙ c .done .there x (omega arith))
+                (λ (y : x < p → ⊥).
+                let d : x / k ≡ q = div-eq-of-lt-le k (omega arith) (omega arith) in
+                f .there x (omega arith) (omega arith) ∙ ap (λ (o : ℕ). getD m (i + o) 0) (sym d))
+                (says-else (says-lt x p));
+          };
+        }
+
+    pub spread-end : n ≤ q → Spread m i k n l e
+    spread-end h = let f = c .few in let z : q ≡ n = omega arith in subst (λ (o : ℕ). Spread m i k o l e) z (c .done)
+
+pub ruleset spreading = (needs, spread-begun, spread-room, spread-end)
+
+pub as-ratio : (m : List ℕ) (i k c n : ℕ) (l e : List ℕ) → k ≡ c → Spread m i c n l e → Spread m i k n l e
+as-ratio m i k c n l e q g = rw q g
+
+pub room-ratio : (k c n len : ℕ) → k ≡ c → n * k ≤ len → n * c ≤ len
+room-ratio k c n len q h = rw q at h
+
+pub ruleset ratios = (needs, as-ratio, room-ratio)

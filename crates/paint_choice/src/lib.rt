@@ -1,0 +1,82 @@
+// The floors of the pixels of a part of a row, pair by pair from the lowest up: masks alone are looked at, an octet a pixel, sixteen at a time. What lies
+// below a pixel's floor is then not painted at all.
+ghost use mathlib.Core.Path.{_≡_};
+ghost use mathlib.Core.Bool.{true, cond};
+ghost use Prim.Native.Nat.{_+_, _-_, _*_, _<_, _≤_};
+ghost use lib.ListN.{length, getD};
+ghost use lib.Dec.{eqb};
+ghost use Rattle.paint_choice.specs.Choice.{Marked, ever, bitsFrom, Spread, maskBits, MaskPart};
+use line_fetch::Row;
+
+// Mask 0 keeps.
+pub fn pick(m: u8, low: u8, up: u8) -> u8
+    ensures { λ r. ⌜ r ≡ cond (eqb m 0) low up ⌝ }
+{
+    if m == 0 { low } else { up }
+}
+
+pub fn fill(sel: &mut [u8], p: usize, q: usize, v: u8)
+    requires { ⌜ (p ≤ q) × (q ≤ length (now sel)) ⌝ }
+    ensures { λ _. ⌜ Marked (ever 1) (now (sel .entry)) p q v (now (sel .exit)) ⌝ }
+{
+    let mut x = p;
+    while x < q {
+        sel[x] = v;
+        x += 1;
+    }
+}
+
+fn choose(sel: &mut [u8], p: usize, q: usize, m: &[u8], i: usize, v: u8)
+    requires { ⌜ (p ≤ q) × (q ≤ length (now sel)) × (i + (q - p) ≤ length (now m)) ⌝ }
+    ensures { λ _. ⌜ Marked (bitsFrom (now (m .entry)) p i) (now (sel .entry)) p q v (now (sel .exit)) ⌝ }
+{
+    let mut x = p;
+    while x < q {
+        sel[x] = pick(m[i + (x - p)], sel[x], v);
+        x += 1;
+    }
+}
+
+fn bits_by(bits: &mut [u8], m: &[u8], i: usize, n: usize, k: usize)
+    requires { ⌜ (0 < k) × (n * k ≤ length (now bits)) × (i + n ≤ length (now m)) ⌝ }
+    ensures { λ _. ⌜ Spread (now (m .entry)) i k n (now (bits .entry)) (now (bits .exit)) ⌝ }
+{
+    let mut q = 0;
+    let mut p = 0;
+    while q < n {
+        let v = m[i + q];
+        fill(bits, p, p + k, v);
+        q += 1;
+        p += k;
+    }
+}
+
+// n samples, k times each; the ratios of accepted sheets are constants.
+fn lay_bits(bits: &mut [u8], m: &[u8], i: usize, n: usize, k: usize)
+    requires { ⌜ (0 < k) × (n * k ≤ length (now bits)) × (i + n ≤ length (now m)) ⌝ }
+    ensures { λ _. ⌜ Spread (now (m .entry)) i k n (now (bits .entry)) (now (bits .exit)) ⌝ }
+{
+    match k {
+        2 => bits_by(bits, m, i, n, 2),
+        3 => bits_by(bits, m, i, n, 3),
+        4 => bits_by(bits, m, i, n, 4),
+        6 => bits_by(bits, m, i, n, 6),
+        12 => bits_by(bits, m, i, n, 12),
+        _ => bits_by(bits, m, i, n, k),
+    }
+}
+
+// A mask that was read, in a part of its area: pixels from x up to y, the floors starting at pixel a.
+fn mask_read(sel: &mut [u8], bits: &mut [u8], d: &[u8], m: Row, v: u8, a: usize, x: usize, y: usize)
+    requires { ⌜ MaskPart (now d) m x y × (a ≤ x) × (y - a ≤ length (now sel)) × (y - x + 24 ≤ length (now bits)) ⌝ }
+    ensures { λ _. ⌜ Marked (maskBits (now (d .entry)) m a) (now (sel .entry)) (x - a) (y - a) v (now (sel .exit)) ⌝ }
+{
+    if m.ratio == 1 {
+        choose(sel, x - a, y - a, d, m.at + (x - m.from), v);
+        return;
+    }
+    let i = paint_image::sample_of(m, x);
+    let n = paint_image::sample_of(m, y - 1) - i + 1;
+    lay_bits(bits, d, m.at + i, n, m.ratio);
+    choose(sel, x - a, y - a, bits, x - (m.from + i * m.ratio), v);
+}
