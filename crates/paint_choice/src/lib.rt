@@ -1,5 +1,4 @@
-// The floors of the pixels of a part of a row, pair by pair from the lowest up: masks alone are looked at, an octet a pixel, sixteen at a time. What lies
-// below a pixel's floor is then not painted at all.
+// Octets marked under a mask, one a pixel, sixteen at a time: the floors of the pixels of a part of a row are kept so, and masks alone are looked at.
 ghost use mathlib.Core.Path.{_≡_};
 ghost use mathlib.Core.Bool.{true, cond};
 ghost use Prim.Native.Nat.{_+_, _-_, _*_, _<_, _≤_};
@@ -67,7 +66,7 @@ fn lay_bits(bits: &mut [u8], m: &[u8], i: usize, n: usize, k: usize)
 }
 
 // A mask that was read, in a part of its area: pixels from x up to y, the floors starting at pixel a.
-fn mask_read(sel: &mut [u8], bits: &mut [u8], d: &[u8], m: Row, v: u8, a: usize, x: usize, y: usize)
+pub fn mask_read(sel: &mut [u8], bits: &mut [u8], d: &[u8], m: Row, v: u8, a: usize, x: usize, y: usize)
     requires { ⌜ MaskPart (now d) m x y × (a ≤ x) × (y - a ≤ length (now sel)) × (y - x + 24 ≤ length (now bits)) ⌝ }
     ensures { λ _. ⌜ Marked (maskBits (now (d .entry)) m a) (now (sel .entry)) (x - a) (y - a) v (now (sel .exit)) ⌝ }
 {

@@ -1,0 +1,65 @@
+// The floors of the pixels of a part of a row, pair by pair from the lowest up: masks alone are looked at. What lies below a pixel's floor is then not
+// painted at all.
+ghost use mathlib.Core.Path.{_≡_};
+ghost use mathlib.Core.Bool.{true};
+ghost use Prim.Native.Nat.{_+_, _-_, _*_, _<_, _≤_};
+ghost use lib.ListN.{length};
+ghost use Rattle.line_fetch.specs.Rows.{MaskFits};
+ghost use Rattle.line_pixel.specs.Rows.{RowsFit};
+ghost use Rattle.paint_image.specs.Image.{Between};
+ghost use Rattle.paint_choice.specs.Choice.{Marked, ever};
+ghost use Rattle.paint_floor.specs.Floors.{insideBits, MarkOf, Covers, PlainRows, Sure, Starts};
+use line_fetch::Row;
+
+// The floor of a pixel of which nothing can be known.
+pub const DARK: u8 = 255;
+
+// The layer's area has all pixels from a up to b.
+fn spans(r: Row, a: usize, b: usize) -> bool
+    ensures { λ z. ⌜ (z ≡ true → Between r a b) ⌝ }
+{
+    if r.from <= a {
+        return b <= r.to;
+    }
+    false
+}
+
+// What stands for pair j over a part: nothing is known where its image layer is not read.
+fn mark(r: Row, j: u8, a: usize, b: usize) -> u8
+    requires { ⌜ j < 255 ⌝ }
+    ensures { λ v. ⌜ MarkOf r j a b v ⌝ }
+{
+    if r.read == 0 {
+        if spans(r, a, b) {
+            return DARK;
+        }
+    }
+    j
+}
+
+// Beside a mask's area, where it gives one value all along.
+fn mark_beside(sel: &mut [u8], p: usize, q: usize, other: usize, j: u8)
+    requires { ⌜ (p ≤ q) × (q ≤ length (now sel)) ⌝ }
+    ensures { λ _. ⌜ Marked (ever other) (now (sel .entry)) p q j (now (sel .exit)) ⌝ }
+{
+    if other != 0 {
+        paint_choice::fill(sel, p, q, j);
+    }
+}
+
+// In its area, from pixel x up to y.
+fn mark_inside(sel: &mut [u8], bits: &mut [u8], d: &[u8], m: Row, v: u8, a: usize, x: usize, y: usize)
+    requires { ⌜ MaskFits (now d) m × (m .ratio ≤ 12) × Between m x y × (y < 65536) × (a ≤ x) × (x ≤ y) × (y - a ≤ length (now sel)) × (y - x + 24 ≤ length (now bits)) ⌝ }
+    ensures { λ _. ⌜ Marked (insideBits (now (d .entry)) m v a) (now (sel .entry)) (x - a) (y - a) v (now (sel .exit)) ⌝ }
+{
+    if y <= x {
+        return;
+    }
+    if m.read != 0 {
+        paint_choice::mask_read(sel, bits, d, m, v, a, x, y);
+        return;
+    }
+    if v == DARK {
+        paint_choice::fill(sel, x - a, y - a, DARK);
+    }
+}
