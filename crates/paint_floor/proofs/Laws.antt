@@ -15,11 +15,21 @@ use Rattle.laws.proofs.Says.{says-lt, says-le, says-eq, says-else}
 use Rattle.pixel_rules.specs.Place.{scale}
 use Rattle.line_fetch.specs.declared.Row.{Row}
 use Rattle.line_fetch.specs.Rows.{Turns, MaskFits, ImageFits}
-use Rattle.paint_rules.specs.Floor.{dark}
-use Rattle.paint_image.specs.Image.{Between}
+use Rattle.line_fetch.specs.Rows.{rowSize, rowAt, rowMask, rowImage}
+use Rattle.line_fetch.proofs.Laws.{mask-before, mask-after, mask-unread, mask-read, image-unread}
+use Rattle.line_pixel.specs.Rows.{rowStack, RowsFit, PairFits}
+use Rattle.pixel_rules.specs.declared.MainPos.{MainPos}
+use Rattle.pixel_rules.specs.declared.Mask.{Mask}
+use Rattle.pixel_rules.specs.declared.Mask.the-variants.{Zero, One, Hidden}
+use Rattle.pixel_rules.specs.declared.Sample.the-variants.{Unknown}
+use Rattle.pixel_rules.specs.Samples.{bitOf}
+use Rattle.pixel_rules.specs.Decide.{Stack, decide}
+use Rattle.paint_rules.specs.Floor.{dark, Settled, Step, stays, taken, lost}
+use Rattle.paint_rules.proofs.Floors.{settled-first, settled-dark, settled-step}
+use Rattle.paint_image.specs.Image.{Between, Within, Plain}
 use Rattle.paint_choice.specs.Choice.{Marked, ever, maskBits, MaskPart}
 use Rattle.paint_choice.proofs.Marks.{marked-none, marked-as}
-use Rattle.paint_floor.specs.Floors.{insideBits, MarkOf, Covers, all-ones, all-dark}
+use Rattle.paint_floor.specs.Floors.{insideBits, MarkOf, Covers, all-ones, all-dark, PlainRows, Sure, Starts}
 
 -- ---- a part of an area, what stands for a pair
 
@@ -91,3 +101,140 @@ part-of d m x y f k g n h r =
     }
 
 pub ruleset insides = (needs, inside-none, inside-read, inside-dark, inside-keep, part-of)
+
+-- ---- one pixel under a pair
+
+bit-zero : (n : ℕ) → n ≡ 0 → bitOf n ≡ Zero
+unfolding bitOf
+bit-zero n e = simp (eq-eqb n 0 e)
+
+bit-one : (n : ℕ) → n ≢ 0 → bitOf n ≡ One
+unfolding bitOf
+bit-one n e = simp (ne-eqb n 0 e)
+
+zero-one : Zero ≢ One
+zero-one e = clash cc
+
+hidden-one : Hidden ≢ One
+hidden-one e = clash cc
+
+one-zero : One ≢ Zero
+one-zero e = clash cc
+
+hidden-zero : Hidden ≢ Zero
+hidden-zero e = clash cc
+
+module _ (st : Stack) (p c c′ : ℕ) where
+  -- a mask of one value, which is known
+  step-known : (n v : ℕ) → st .mask p ≡ bitOf n → (v ≢ dark → v ≡ p) → (v ≡ dark → st .image p ≡ Unknown) → c′ ≡ cond (eqb n 0) c v → Step st p c c′
+  step-known n v m k u e =
+      ⊎-elim
+      (λ (z : n ≡ 0). stays (λ h. zero-one (sym (m ∙ bit-zero n z) ∙ h)) (e ∙ simp (eq-eqb n 0 z)))
+      (λ (z : n ≡ 0 → ⊥).
+      let o : st .mask p ≡ One = m ∙ bit-one n z in
+      let w : c′ ≡ v = e ∙ simp (ne-eqb n 0 z) in
+      ⊎-elim (λ (y : v ≡ dark). lost (λ h. one-zero (sym o ∙ h)) (u y) (w ∙ y)) (λ (y : v ≡ dark → ⊥). taken o (w ∙ k y)) (says-else (says-eq v dark)))
+      (says-else (says-eq n 0))
+
+  -- one that is not
+  step-hidden : (v : ℕ) → st .mask p ≡ Hidden → (v ≡ dark → st .image p ≡ Unknown) → c′ ≡ cond (eqb (cond (eqb v dark) 1 0) 0) c v → Step st p c c′
+  step-hidden v m u e =
+      ⊎-elim
+      (λ (y : v ≡ dark). let w : cond (eqb (cond (eqb v dark) 1 0) 0) c v ≡ v = simp (eq-eqb v dark y) in lost (λ h. hidden-zero (sym m ∙ h)) (u y) (e ∙ w ∙ y))
+      (λ (y : v ≡ dark → ⊥). stays (λ h. hidden-one (sym m ∙ h)) (e ∙ simp (ne-eqb v dark y)))
+      (says-else (says-eq v dark))
+
+-- ---- the pixels of a part
+
+module _ (s d ns : List ℕ) (f a b j : ℕ) (m r : Row) (em : m ≡ rowAt ns ((j + 1) * 2)) (er : r ≡ rowAt ns ((j + 1) * 2 + 1)) (x y : ℕ) (wx : Within (m .from) a b x) (wy : Within (m .to) x b y) where
+  abbrev stack : ℕ → Stack
+  stack i = rowStack s d ns (record { 0 = a + i })
+
+  mask-is : (i : ℕ) (o : Mask) → o ≡ rowMask d m (record { 0 = a + i }) → stack i .mask (j + 1) ≡ o
+  mask-is i o e = sym (e ∙ ap (λ (w : Row). rowMask d w (record { 0 = a + i })) em)
+
+  dark-is : (v i : ℕ) → MarkOf r (j + 1) x y v → x ≤ a + i → a + i < y → v ≡ dark → stack i .image (j + 1) ≡ Unknown
+  dark-is v i k p q z =
+      sym (image-unread s d r (record { 0 = a + i }) (k .between z .from (a + i) p q) (k .between z .to (a + i) p q) (k .unread z)
+      ∙ ap (λ (w : Row). rowImage s d w (record { 0 = a + i })) er)
+
+  module _ (v : ℕ) (k : MarkOf r (j + 1) x y v) (nd : j + 1 ≢ dark) (l o₁ o₂ o₃ : List ℕ) (c₁ : Marked (ever (m .other)) l 0 (x - a) (j + 1) o₁)
+      (c₂ : Marked (insideBits d m v a) o₁ (x - a) (y - a) v o₂) (c₃ : Marked (ever (m .other)) o₂ (y - a) (b - a) (j + 1) o₃) where
+    before-area : (i : ℕ) → i < x - a → Step (stack i) (j + 1) (getD l i 0) (getD o₃ i 0)
+    unfolding ever
+    before-area i h =
+        let w = wy .low in
+        step-known (stack i) (j + 1) (getD l i 0) (getD o₃ i 0) (m .other) (j + 1)
+        (mask-is i (bitOf (m .other)) (mask-before d m (record { 0 = a + i }) (bitOf (m .other)) (wx .before (a + i) (omega arith) (omega arith)) refl))
+        (λ n. refl) (λ n. absurd (nd n))
+        (c₃ .before i (omega arith) ∙ c₂ .before i h ∙ c₁ .there i (omega arith) h)
+
+    behind-area : (i : ℕ) → y - a ≤ i → i < b - a → Step (stack i) (j + 1) (getD l i 0) (getD o₃ i 0)
+    unfolding ever
+    behind-area i h q =
+        let w = wy .low in
+        let z = wx .low in
+        step-known (stack i) (j + 1) (getD l i 0) (getD o₃ i 0) (m .other) (j + 1)
+        (mask-is i (bitOf (m .other)) (mask-after d m (record { 0 = a + i }) (bitOf (m .other)) (wy .behind (a + i) (omega arith) (omega arith)) refl))
+        (λ n. refl) (λ n. absurd (nd n))
+        (c₃ .there i h q ∙ ap (λ (o : ℕ). cond (eqb (m .other) 0) o (j + 1)) (c₂ .behind i h ∙ c₁ .behind i (omega arith)))
+
+    in-area : (i : ℕ) → x - a ≤ i → i < y - a → Step (stack i) (j + 1) (getD l i 0) (getD o₃ i 0)
+    unfolding insideBits maskBits scale
+    in-area i h q =
+        let w = wx .low in
+        let t = wy .high in
+        let from = wx .behind (a + i) (omega arith) (omega arith) in
+        let to = wy .before (a + i) (omega arith) (omega arith) in
+        let e : getD o₃ i 0 ≡ cond (eqb (insideBits d m v a i) 0) (getD l i 0) v = c₃ .before i q ∙ c₂ .there i h q ∙ ap (λ (o : ℕ). cond (eqb (insideBits d m v a i) 0) o v) (c₁ .behind i h) in
+        ⊎-elim
+        (λ (z : m .read ≡ 0).
+        let g : insideBits d m v a i ≡ cond (eqb v dark) 1 0 = simp (eq-eqb (m .read) 0 z) in
+        step-hidden (stack i) (j + 1) (getD l i 0) (getD o₃ i 0) v (mask-is i Hidden (mask-unread d m (record { 0 = a + i }) from to z))
+        (dark-is v i k (omega arith) (omega arith)) (e ∙ ap (λ (o : ℕ). cond (eqb o 0) (getD l i 0) v) g))
+        (λ (z : m .read ≡ 0 → ⊥).
+        let g : insideBits d m v a i ≡ getD d (m .at + (a + i - m .from) / m .ratio) 0 = simp (ne-eqb (m .read) 0 z) in
+        step-known (stack i) (j + 1) (getD l i 0) (getD o₃ i 0) (getD d (m .at + (a + i - m .from) / m .ratio) 0) v
+        (mask-is i (bitOf (getD d (m .at + (a + i - m .from) / m .ratio) 0)) (mask-read d m (record { 0 = a + i }) (bitOf (getD d (m .at + (a + i - m .from) / m .ratio) 0)) (record { 0 = (a + i - m .from) / m .ratio }) from to z refl refl))
+        (k .same) (dark-is v i k (omega arith) (omega arith)) (e ∙ ap (λ (o : ℕ). cond (eqb o 0) (getD l i 0) v) g))
+        (says-else (says-eq (m .read) 0))
+
+    each : (i : ℕ) → i < b - a → Step (stack i) (j + 1) (getD l i 0) (getD o₃ i 0)
+    each i h =
+        ⊎-elim (λ (z : i < x - a). before-area i z)
+        (λ (z : i < x - a → ⊥).
+        ⊎-elim (λ (w : i < y - a). in-area i (omega arith) w) (λ (w : i < y - a → ⊥). behind-area i (omega arith) h) (says-else (says-lt i (y - a))))
+        (says-else (says-lt i (x - a)))
+
+    pub pair-sure : Sure s d ns f a (b - a) j l → f ≤ j → Sure s d ns f a (b - a) (j + 1) o₃
+    pair-sure g h =
+        let z : suc j ≡ j + 1 = omega arith in
+        let r₀ = g .room in
+        let n = c₁ .long in
+        let n₂ = c₂ .long in
+        let n₃ = c₃ .long in
+        record {
+          room = omega arith;
+          held = λ i q. subst (λ (o : ℕ). Settled (stack i) f (getD o₃ i 0) o) z
+              (settled-step (stack i) f (getD l i 0) j (g .held i q) (getD o₃ i 0) h (λ w. nd (sym z ∙ w)) (subst (λ (o : ℕ). Step (stack i) o (getD l i 0) (getD o₃ i 0)) (sym z) (each i q)));
+        }
+
+-- ---- what the functions of a pair ask
+
+module _ (s d ns : List ℕ) (pairs j : ℕ) (g : RowsFit s d ns pairs) (h : j < pairs) where
+  pub mask-room : (j + 1) * 2 * rowSize ≤ length ns
+  mask-room = let r = g .pair (j + 1) (omega arith) (omega arith) .room in omega arith
+
+  pub image-room : ((j + 1) * 2 + 1) * rowSize ≤ length ns
+  image-room = g .pair (j + 1) (omega arith) (omega arith) .room
+
+  pub mask-fits : (m : Row) → m ≡ rowAt ns ((j + 1) * 2) → MaskFits d m
+  mask-fits m e = subst (MaskFits d) (sym e) (g .pair (j + 1) (omega arith) (omega arith) .mask)
+
+pub mask-few : (ns : List ℕ) (pairs j : ℕ) (m : Row) → PlainRows ns pairs → j < pairs → m ≡ rowAt ns ((j + 1) * 2) → m .ratio ≤ 12
+mask-few ns pairs j m g h e = subst (λ (o : Row). o .ratio ≤ 12) (sym e) (g .mask (j + 1) (omega arith) (omega arith) .few)
+
+pub mask-between : (m : Row) (a b x y : ℕ) → Within (m .from) a b x → Within (m .to) x b y → Between m x y
+mask-between m a b x y p q = record { from = λ z i j. p .behind z i (let h = q .high in omega arith); to = λ z i j. q .before z i j }
+
+pub ruleset pairing = (needs, mask-room, image-room, mask-fits, mask-few, mask-between, pair-sure)

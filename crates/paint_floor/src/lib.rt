@@ -63,3 +63,20 @@ fn mark_inside(sel: &mut [u8], bits: &mut [u8], d: &[u8], m: Row, v: u8, a: usiz
         paint_choice::fill(sel, x - a, y - a, DARK);
     }
 }
+
+// One pair more: the floors after j pairs become those after j + 1.
+fn mask_pair(sel: &mut [u8], bits: &mut [u8], s: &[u8], d: &[u8], rows: &[usize], pairs: usize, f: usize, j: usize, a: usize, b: usize)
+    requires { ⌜ RowsFit (now s) (now d) (now rows) pairs × PlainRows (now rows) pairs × Sure (now s) (now d) (now rows) f a (b - a) j (now sel) × (f ≤ j) × (j < pairs)
+        × (pairs ≤ 7) × (a ≤ b) × (b < 65536) × (b - a + 24 ≤ length (now bits)) ⌝ }
+    ensures { λ _. ⌜ Sure (now (s .entry)) (now (d .entry)) (now (rows .entry)) f a (b - a) (j + 1) (now (sel .exit)) ⌝ }
+{
+    let p = j + 1;
+    let m = line_fetch::row_at(rows, p * 2);
+    let r = line_fetch::row_at(rows, p * 2 + 1);
+    let x = paint_image::within(m.from, a, b);
+    let y = paint_image::within(m.to, x, b);
+    let v = mark(r, p as u8, x, y);
+    mark_beside(sel, 0, x - a, m.other, p as u8);
+    mark_inside(sel, bits, d, m, v, a, x, y);
+    mark_beside(sel, y - a, b - a, m.other, p as u8);
+}
