@@ -21,9 +21,10 @@ use Rattle.line_pixel.specs.Rows.{rowStack, RowsFit, PairFits}
 use Rattle.pixel_rules.specs.declared.MainPos.{MainPos}
 use Rattle.pixel_rules.specs.declared.Mask.{Mask}
 use Rattle.pixel_rules.specs.declared.Mask.the-variants.{Zero, One, Hidden}
-use Rattle.pixel_rules.specs.declared.Sample.the-variants.{Unknown}
+use Rattle.pixel_rules.specs.declared.Sample.{Sample}
+use Rattle.pixel_rules.specs.declared.Sample.the-variants.{Known, Unknown}
 use Rattle.pixel_rules.specs.Samples.{bitOf}
-use Rattle.pixel_rules.specs.Decide.{Stack, decide}
+use Rattle.pixel_rules.specs.Decide.{Stack, agree, pairStep, decide}
 use Rattle.paint_rules.specs.Floor.{dark, Settled, Step, stays, taken, lost}
 use Rattle.paint_rules.proofs.Floors.{settled-first, settled-dark, settled-step}
 use Rattle.paint_image.specs.Image.{Between, Within, Plain}
@@ -238,3 +239,109 @@ pub mask-between : (m : Row) (a b x y : ℕ) → Within (m .from) a b x → With
 mask-between m a b x y p q = record { from = λ z i j. p .behind z i (let h = q .high in omega arith); to = λ z i j. q .before z i j }
 
 pub ruleset pairing = (needs, mask-room, image-room, mask-fits, mask-few, mask-between, pair-sure)
+
+-- ---- a pair that covers a part
+
+pub covers-ones : (m r : Row) (a b : ℕ) → m .other ≢ 0 → leb (m .to) (m .from) ≡ true → Covers m r a b
+covers-ones m r a b n t = all-ones n (says-le (m .to) (m .from) .told t)
+
+pub covers-dark : (m r : Row) (a b : ℕ) (y z : Bool) → m .read ≡ 0 → r .read ≡ 0 → (y ≡ true → Between m a b) → y ≡ true → (z ≡ true → Between r a b) → z ≡ true → Covers m r a b
+covers-dark m r a b y z n o k t l u = all-dark n (k t) o (l u)
+
+pub covers-not : (m r : Row) (a b : ℕ) → false ≡ true → Covers m r a b
+covers-not m r a b e = clash cc
+
+pub ruleset covering = (needs, covers-ones, covers-dark, covers-not)
+
+agree-dark : (p : Sample) → agree p Unknown ≡ Unknown
+unfolding agree
+agree-dark (Known c) = refl
+agree-dark Unknown = refl
+
+module _ (s d ns : List ℕ) (pairs a b : ℕ) where
+  pub starts-none : Starts s d ns pairs a b 0
+  unfolding decide
+  starts-none = record { most = omega arith; shows = λ x p q. refl }
+
+  shows-one : (st : Stack) (j : ℕ) → st .mask (suc j) ≡ One → decide st (suc j) ≡ st .image (suc j)
+  unfolding decide pairStep
+  shows-one st j e = ap (λ (o : Mask). pairStep o (decide st j) (st .image (suc j))) e
+
+  shows-dark : (st : Stack) (j : ℕ) → st .mask (suc j) ≡ Hidden → st .image (suc j) ≡ Unknown → decide st (suc j) ≡ st .image (suc j)
+  unfolding decide pairStep
+  shows-dark st j e u =
+      ap (λ (o : Mask). pairStep o (decide st j) (st .image (suc j))) e ∙ ap (agree (decide st j)) u ∙ agree-dark (decide st j) ∙ sym u
+
+  shows-suc : (j : ℕ) (m r : Row) → m ≡ rowAt ns (suc j * 2) → r ≡ rowAt ns (suc j * 2 + 1) → Covers m r a b → (x : ℕ) → a ≤ x → x < b
+      → decide (rowStack s d ns (record { 0 = x })) (suc j) ≡ rowStack s d ns (record { 0 = x }) .image (suc j)
+  shows-suc j m r em er (all-ones n h) x p q =
+      shows-one (rowStack s d ns (record { 0 = x })) j
+      (ap (λ (w : Row). rowMask d w (record { 0 = x })) (sym em)
+      ∙ sym (⊎-elim
+      (λ (z : x < m .from). mask-before d m (record { 0 = x }) (bitOf (m .other)) z refl)
+      (λ (z : x < m .from → ⊥). mask-after d m (record { 0 = x }) (bitOf (m .other)) (omega arith) refl)
+      (says-else (says-lt x (m .from))))
+      ∙ bit-one (m .other) n)
+  shows-suc j m r em er (all-dark n g o k) x p q =
+      shows-dark (rowStack s d ns (record { 0 = x })) j
+      (ap (λ (w : Row). rowMask d w (record { 0 = x })) (sym em) ∙ sym (mask-unread d m (record { 0 = x }) (g .from x p q) (g .to x p q) n))
+      (ap (λ (w : Row). rowImage s d w (record { 0 = x })) (sym er) ∙ sym (image-unread s d r (record { 0 = x }) (k .from x p q) (k .to x p q) o))
+
+  pub starts-here : (j : ℕ) (m r : Row) (z : Bool) → m ≡ rowAt ns (j * 2) → r ≡ rowAt ns (j * 2 + 1) → (z ≡ true → Covers m r a b) → z ≡ true → 0 < j → j ≤ pairs → Starts s d ns pairs a b j
+  starts-here zero m r z em er k t h l = absurd (omega arith)
+  starts-here (suc j) m r z em er k t h l = record { most = l; shows = shows-suc j m r em er (k t) }
+
+  module _ (g : RowsFit s d ns pairs) (j : ℕ) (p : 0 < j) (q : j ≤ pairs) where
+    pub first-mask : j * 2 * rowSize ≤ length ns
+    first-mask = let r = g .pair j p q .room in omega arith
+
+    pub first-image : (j * 2 + 1) * rowSize ≤ length ns
+    first-image = g .pair j p q .room
+
+pub ruleset starting = (needs, starts-none, starts-here, first-mask, first-image)
+
+-- ---- the floors from there up
+
+module _ (s d ns : List ℕ) (pairs a b f : ℕ) (g : Starts s d ns pairs a b f) (few : pairs ≤ 7) where
+  pub floors-begun : (r : Row) (v : ℕ) (l e : List ℕ) → r ≡ rowAt ns (f * 2 + 1) → MarkOf r f a b v → a ≤ b → b - a ≤ length l → Marked (ever 1) l 0 (b - a) v e → Sure s d ns f a (b - a) f e
+  unfolding ever
+  floors-begun r v l e er k h room c =
+      let n = c .long in
+      record {
+        room = omega arith;
+        held = λ i q.
+            let st : Stack = rowStack s d ns (record { 0 = a + i }) in
+            let w : getD e i 0 ≡ v = c .there i (omega arith) q in
+            let o = g .shows (a + i) (omega arith) (omega arith) in
+            subst (λ (u : ℕ). Settled (rowStack s d ns (record { 0 = a + i })) f u f) (sym w)
+            (⊎-elim
+            (λ (z : v ≡ dark).
+            subst (λ (u : ℕ). Settled (rowStack s d ns (record { 0 = a + i })) f u f) (sym z)
+            (settled-dark (rowStack s d ns (record { 0 = a + i })) f f
+            (o ∙ sym (image-unread s d r (record { 0 = a + i }) (k .between z .from (a + i) (omega arith) (omega arith)) (k .between z .to (a + i) (omega arith) (omega arith)) (k .unread z)
+            ∙ ap (λ (w : Row). rowImage s d w (record { 0 = a + i })) er))))
+            (λ (z : v ≡ dark → ⊥).
+            subst (λ (u : ℕ). Settled (rowStack s d ns (record { 0 = a + i })) f u f) (sym (k .same z))
+            (settled-first (rowStack s d ns (record { 0 = a + i })) f (λ y. z (k .same z ∙ y)) o))
+            (says-else (says-eq v dark)));
+      }
+
+pub floor-image : (s d ns : List ℕ) (pairs f : ℕ) → RowsFit s d ns pairs → f ≤ pairs → (f * 2 + 1) * rowSize ≤ length ns
+floor-image s d ns pairs zero g h = let r = g .room in omega arith
+floor-image s d ns pairs (suc f) g h = g .pair (suc f) (omega arith) h .room
+
+pub record Flooring (s d ns : List ℕ) (pairs f a b : ℕ) (sel₀ bits₀ sel bits : List ℕ) (j : ℕ) : Type 0 where
+  pub from : f ≤ j
+  pub upto : j ≤ pairs
+  pub sure : Sure s d ns f a (b - a) j sel
+  pub long : length sel ≡ length sel₀
+  pub wide : length bits ≡ length bits₀
+
+module _ (s d ns : List ℕ) (pairs f a b : ℕ) (sel₀ bits₀ : List ℕ) where
+  pub flooring-begun : Starts s d ns pairs a b f → Sure s d ns f a (b - a) f sel₀ → Flooring s d ns pairs f a b sel₀ bits₀ sel₀ bits₀ f
+  flooring-begun g c = record { from = omega arith; upto = g .most; sure = c; long = refl; wide = refl }
+
+  pub flooring-end : (sel bits : List ℕ) (j : ℕ) → Flooring s d ns pairs f a b sel₀ bits₀ sel bits j → pairs ≤ j → Sure s d ns f a (b - a) pairs sel
+  flooring-end sel bits j c h = let u = c .upto in let z : j ≡ pairs = omega arith in subst (λ (i : ℕ). Sure s d ns f a (b - a) i sel) z (c .sure)
+
+pub ruleset flooring = (needs, floors-begun, floor-image, flooring-begun, flooring-end)

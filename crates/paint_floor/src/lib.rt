@@ -80,3 +80,52 @@ fn mask_pair(sel: &mut [u8], bits: &mut [u8], s: &[u8], d: &[u8], rows: &[usize]
     mark_inside(sel, bits, d, m, v, a, x, y);
     mark_beside(sel, y - a, b - a, m.other, p as u8);
 }
+
+// The pair shows its image layer all over a part, whatever lies below: its mask is 1 without samples, or neither of its layers is read.
+fn covers(m: Row, r: Row, a: usize, b: usize) -> bool
+    ensures { λ z. ⌜ (z ≡ true → Covers m r a b) ⌝ }
+{
+    if m.other != 0 {
+        return m.to <= m.from;
+    }
+    if m.read == 0 {
+        if r.read == 0 {
+            if spans(m, a, b) {
+                return spans(r, a, b);
+            }
+        }
+    }
+    false
+}
+
+// The highest pair that does, or 0: nothing below it is looked at.
+pub fn first_pair(s: &[u8], d: &[u8], rows: &[usize], pairs: usize, a: usize, b: usize) -> usize
+    requires { ⌜ RowsFit (now s) (now d) (now rows) pairs × (pairs ≤ 7) ⌝ }
+    ensures { λ f. ⌜ Starts (now (s .entry)) (now (d .entry)) (now (rows .entry)) pairs a b f ⌝ }
+{
+    let mut j = pairs;
+    while 0 < j {
+        let m = line_fetch::row_at(rows, j * 2);
+        let r = line_fetch::row_at(rows, j * 2 + 1);
+        if covers(m, r, a, b) {
+            return j;
+        }
+        j -= 1;
+    }
+    0
+}
+
+// The floors of the pixels a up to b, from pair f on.
+pub fn put_floors(sel: &mut [u8], bits: &mut [u8], s: &[u8], d: &[u8], rows: &[usize], pairs: usize, f: usize, a: usize, b: usize)
+    requires { ⌜ RowsFit (now s) (now d) (now rows) pairs × PlainRows (now rows) pairs × Starts (now s) (now d) (now rows) pairs a b f × (pairs ≤ 7) × (a ≤ b) × (b < 65536)
+        × (b - a ≤ length (now sel)) × (b - a + 24 ≤ length (now bits)) ⌝ }
+    ensures { λ _. ⌜ Sure (now (s .entry)) (now (d .entry)) (now (rows .entry)) f a (b - a) pairs (now (sel .exit)) ⌝ }
+{
+    let v = mark(line_fetch::row_at(rows, f * 2 + 1), f as u8, a, b);
+    paint_choice::fill(sel, 0, b - a, v);
+    let mut j = f;
+    while j < pairs {
+        mask_pair(sel, bits, s, d, rows, pairs, f, j, a, b);
+        j += 1;
+    }
+}
