@@ -6,16 +6,13 @@
 --   fourIn n s p       the four octets of the seen sample of n octets at a place
 --   samplesBy n k s t i   samples of n octets, k pixels each, the first at pixel t and place i
 --   WideBy             n samples of three octets are laid, up to pixel r
---   sameFour           two pixels have the same four octets
---   agreed up un old   what two pixels agree on, or the unseen one
---   agreeing           where the choice is below j, what the pixel and that of a row agree on
 use Prim.Native.Nat.{ℕ, _+_, _-_, _*_, _/_, _≤_, _<_}
 use mathlib.Core.Path.{_≡_}
-use mathlib.Core.Bool.{Bool, _&&_, cond}
+use mathlib.Core.Bool.{cond}
 use mathlib.Core.List.{List}
 use lib.ListN.{length, getD}
-use lib.Dec.{eqb, ltb}
-use Rattle.paint_words.specs.Words.{octetsOf, fourFrom, seenFrom, greyFrom}
+use lib.Dec.{eqb}
+use Rattle.paint_words.specs.Words.{fourFrom, seenFrom, greyFrom}
 
 pub record Coated (f : ℕ → List ℕ → List ℕ) (l : List ℕ) (a b : ℕ) (e : List ℕ) : Type 0 where
   pub long : length e ≡ length l
@@ -38,14 +35,3 @@ samplesBy n k s t i x = fourIn n s (i + (x - t) / k * n)
 pub record WideBy (k : ℕ) (s : List ℕ) (t i n : ℕ) (l : List ℕ) (r : ℕ) (e : List ℕ) : Type 0 where
   pub end : r ≡ t + n * k
   pub done : Coated (over (samplesBy 3 k s t i)) l t r e
-
-unfoldable pub sameFour : List ℕ → List ℕ → Bool
-sameFour v w =
-    eqb (getD v 0 0) (getD w 0 0) && eqb (getD v 1 0) (getD w 1 0) && eqb (getD v 2 0) (getD w 2 0) && eqb (getD v 3 0) (getD w 3 0)
-
-unfoldable pub agreed : List ℕ → List ℕ → List ℕ → List ℕ
-agreed up un old = cond (sameFour old up) up un
-
--- the choices and the row start at pixel t, the choices at place i of theirs
-unfoldable pub agreeing : List ℕ → ℕ → ℕ → List ℕ → List ℕ → ℕ → ℕ → List ℕ → List ℕ
-agreeing sel i j row un t x old = cond (ltb (getD sel (i + (x - t)) 0) j) (agreed (fourFrom row ((x - t) * 4)) un old) old
