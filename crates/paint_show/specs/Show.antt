@@ -1,0 +1,41 @@
+-- The floors of a part of a row shown: each pixel gets what its floor's image layer gives there.
+--
+--   floorFrom un s d ns c   what floor c gives at pixel x
+--   shows                the floor of each pixel, the floors starting at pixel a
+--   picking              where the floor is c, the pixel of a row; the row starts at pixel t, and so do the floors from place i on
+--   pickingFloor         where the floor is c, what it gives
+--   Known sel p q pairs  the floors p up to q are pairs, or the dark
+--   Alike v s p q        the octets p up to q are v
+--   Absent v s p q       none of them is
+use Prim.Native.Nat.{ℕ, _+_, _-_, _*_, _≤_, _<_}
+use mathlib.Core.Path.{_≡_}
+use mathlib.Core.Logic.{_≢_}
+use mathlib.Core.Bool.{cond}
+use mathlib.Core.List.{List}
+use lib.ListN.{getD}
+use lib.Dec.{eqb}
+use Rattle.line_pixel.specs.Rows.{rowStack}
+use Rattle.paint_rules.specs.Floor.{dark, chosen}
+use Rattle.paint_words.specs.Words.{fourFrom}
+use Rattle.paint_image.specs.Image.{shownFour}
+
+unfoldable pub floorFrom : List ℕ → List ℕ → List ℕ → List ℕ → ℕ → ℕ → List ℕ
+floorFrom un s d ns c x = shownFour un (chosen (rowStack s d ns (record { 0 = x })) c)
+
+unfoldable pub shows : List ℕ → List ℕ → List ℕ → List ℕ → List ℕ → ℕ → ℕ → List ℕ → List ℕ
+shows un s d ns sel a x old = floorFrom un s d ns (getD sel (x - a) 0) x
+
+unfoldable pub picking : List ℕ → ℕ → ℕ → List ℕ → ℕ → ℕ → List ℕ → List ℕ
+picking sel i c row t x old = cond (eqb (getD sel (i + (x - t)) 0) c) (fourFrom row ((x - t) * 4)) old
+
+unfoldable pub pickingFloor : List ℕ → List ℕ → List ℕ → List ℕ → List ℕ → ℕ → ℕ → ℕ → List ℕ → List ℕ
+pickingFloor un s d ns sel a c x old = cond (eqb (getD sel (x - a) 0) c) (floorFrom un s d ns c x) old
+
+pub record Known (sel : List ℕ) (p q pairs : ℕ) : Type 0 where
+  pub few : (i : ℕ) → p ≤ i → i < q → getD sel i 0 ≢ dark → getD sel i 0 ≤ pairs
+
+pub record Alike (v : ℕ) (s : List ℕ) (p q : ℕ) : Type 0 where
+  pub there : (i : ℕ) → p ≤ i → i < q → getD s i 0 ≡ v
+
+pub record Absent (v : ℕ) (s : List ℕ) (p q : ℕ) : Type 0 where
+  pub none : (i : ℕ) → p ≤ i → i < q → getD s i 0 ≢ v
