@@ -21,7 +21,7 @@ use Rattle.paint_coat.proofs.Coats.{coated-none, coated-chain, coated-as}
 use Rattle.paint_coat.proofs.Laws.{Coating, coat-begun, coat-more, coat-end}
 use Rattle.paint_image.specs.Image.{shownFour, imageFrom, moved, Plain}
 use Rattle.paint_floor.specs.Floors.{PlainRows}
-use Rattle.paint_show.specs.Show.{floorFrom, shows, picking, pickingFloor, Known, Alike, Absent}
+use Rattle.paint_show.specs.Show.{floorFrom, shows, picking, pickingFloor, pickingOther, Known, Alike, Absent, Begun, Runs}
 
 -- ---- a floor laid
 
@@ -144,3 +144,265 @@ module _ (v : ℕ) (s : List ℕ) (p q : ℕ) where
   pass-some e = absurd (false≢true (sym e))
 
 pub ruleset passing = (needs, pass-begun, pass-block, pass-more, pass-all, pass-some)
+
+-- ---- a floor picked
+
+module _ (un s d ns sel : List ℕ) (a v c x e : ℕ) (ax : a ≤ x) where
+  pub floor-same : (l : List ℕ) → c ≡ v → Coated (pickingOther un s d ns sel a v c) l x e l
+  unfolding pickingOther
+  floor-same l z = record { long = refl; there = λ y p q. sym (rw (eq-eqb c v z) refl); before = λ i h. refl; behind = λ i h. refl }
+
+  other-is : (y : ℕ) (o : List ℕ) → c ≢ v → pickingFloor un s d ns sel a c y o ≡ pickingOther un s d ns sel a v c y o
+  unfolding pickingOther
+  other-is y o n = rw (ne-eqb c v n) refl
+
+  pub floor-absent : (l : List ℕ) (z : Bool) → c ≢ v → (z ≡ false → Absent c sel (x - a) (e - a)) → z ≡ false → Coated (pickingOther un s d ns sel a v c) l x e l
+  unfolding pickingFloor
+  floor-absent l z m g n =
+      coated-as (pickingFloor un s d ns sel a c) (pickingOther un s d ns sel a v c) l l x e (λ y o p q. other-is y o m)
+      (record {
+        long = refl;
+        there = λ y p q. sym (rw (ne-eqb (getD sel (y - a) 0) c (g n .none (y - a) (omega arith) (omega arith))) refl);
+        before = λ i h. refl;
+        behind = λ i h. refl;
+      })
+
+  pub floor-picked : (l o row₀ row : List ℕ) → c ≢ v → Coated (over (moved 0 x (floorFrom un s d ns c))) row₀ 0 (0 + (e - x)) row → Coated (picking sel (x - a) c row x) l x e o
+      → Coated (pickingOther un s d ns sel a v c) l x e o
+  unfolding picking pickingFloor over moved
+  floor-picked l o row₀ row m g k =
+      coated-as (picking sel (x - a) c row x) (pickingOther un s d ns sel a v c) l o x e
+      (λ y w p q.
+      let i : x - a + (y - x) ≡ y - a = omega arith in
+      let j : x + (y - x - 0) ≡ y = omega arith in
+      let f : fourFrom row ((y - x) * 4) ≡ floorFrom un s d ns c y = g .there (y - x) (omega arith) (omega arith) ∙ ap (floorFrom un s d ns c) j in
+      ap₂ (λ (m : ℕ) (n : List ℕ). cond (eqb (getD sel m 0) c) n w) i f ∙ other-is y w m) k
+
+pub ruleset picks = (needs, floor-same, floor-absent, floor-picked)
+
+-- ---- all floors of a part
+
+module _ (un s d ns sel : List ℕ) (a v c x e : ℕ) (o n : List ℕ) (k : Coated (pickingOther un s d ns sel a v c) o x e n) (y : ℕ) (p : x ≤ y) (q : y < e) where
+  picked-here : c ≢ v → getD sel (y - a) 0 ≡ c → fourFrom n (y * 4) ≡ floorFrom un s d ns (getD sel (y - a) 0) y
+  unfolding pickingOther pickingFloor
+  picked-here m z = k .there y p q ∙ rw (ne-eqb c v m, eq-eqb (getD sel (y - a) 0) c z) (ap (λ (c : ℕ). floorFrom un s d ns c y) (sym z))
+
+  kept-here : (getD sel (y - a) 0 ≡ c → ⊥) → fourFrom n (y * 4) ≡ fourFrom o (y * 4)
+  unfolding pickingOther pickingFloor
+  kept-here z =
+      k .there y p q
+      ∙ ⊎-elim (λ (w : c ≡ v). rw (eq-eqb c v w) refl) (λ (w : c ≡ v → ⊥). rw (ne-eqb c v w, ne-eqb (getD sel (y - a) 0) c z) refl) (says-else (says-eq c v))
+
+  kept-same : c ≡ v → fourFrom n (y * 4) ≡ fourFrom o (y * 4)
+  unfolding pickingOther
+  kept-same w = k .there y p q ∙ rw (eq-eqb c v w) refl
+
+pub record Mixing (un s d ns sel : List ℕ) (pairs a x e v : ℕ) (l row₀ out row : List ℕ) (c : ℕ) : Type 0 where
+  pub upto : c ≤ pairs + 1
+  pub long : length out ≡ length l
+  pub wide : length row ≡ length row₀
+  pub begun : Begun un s d ns sel a x e v out
+  pub done : (y : ℕ) → x ≤ y → y < e → getD sel (y - a) 0 < c → fourFrom out (y * 4) ≡ floorFrom un s d ns (getD sel (y - a) 0) y
+  pub before : (i : ℕ) → i < x * 4 → getD out i 0 ≡ getD l i 0
+  pub behind : (i : ℕ) → e * 4 ≤ i → getD out i 0 ≡ getD l i 0
+
+module _ (un s d ns sel : List ℕ) (pairs a x e v : ℕ) (l row₀ : List ℕ) where
+  pub mixing-begun : Begun un s d ns sel a x e v l → Mixing un s d ns sel pairs a x e v l row₀ l row₀ 0
+  mixing-begun g =
+      record { upto = omega arith; long = refl; wide = refl; begun = g; done = λ y p q h. absurd (omega arith); before = λ i h. refl; behind = λ i h. refl }
+
+  module _ (out row : List ℕ) (c : ℕ) (m : Mixing un s d ns sel pairs a x e v l row₀ out row c) where
+    pub mixing-more : (n new : List ℕ) → c ≤ pairs → pairs ≤ 7 → length new ≡ length row → Coated (pickingOther un s d ns sel a v c) out x e n
+        → Mixing un s d ns sel pairs a x e v l row₀ n new (c + 1)
+    mixing-more n new h few w g =
+        record {
+          upto = omega arith;
+          long = g .long ∙ m .long;
+          wide = w ∙ m .wide;
+          begun = record {
+            same = λ y p q z. ⊎-elim
+                (λ (i : c ≡ v). kept-same un s d ns sel a v c x e out n g y p q i ∙ m .begun .same y p q z)
+                (λ (i : c ≡ v → ⊥). kept-here un s d ns sel a v c x e out n g y p q (λ (j : getD sel (y - a) 0 ≡ c). i (sym j ∙ z)) ∙ m .begun .same y p q z)
+                (says-else (says-eq c v));
+            dark = λ y p q z. kept-here un s d ns sel a v c x e out n g y p q (λ (j : getD sel (y - a) 0 ≡ c). omega arith) ∙ m .begun .dark y p q z;
+          };
+          done = λ y p q k. ⊎-elim
+              (λ (i : getD sel (y - a) 0 ≡ c). ⊎-elim
+              (λ (j : c ≡ v). kept-same un s d ns sel a v c x e out n g y p q j ∙ m .begun .same y p q (i ∙ j))
+              (λ (j : c ≡ v → ⊥). picked-here un s d ns sel a v c x e out n g y p q j i)
+              (says-else (says-eq c v)))
+              (λ (i : getD sel (y - a) 0 ≡ c → ⊥). kept-here un s d ns sel a v c x e out n g y p q i ∙ m .done y p q (omega arith))
+              (says-else (says-eq (getD sel (y - a) 0) c));
+          before = λ i j. g .before i j ∙ m .before i j;
+          behind = λ i j. g .behind i j ∙ m .behind i j;
+        }
+
+    pub mixing-end : Known sel (x - a) (e - a) pairs → a ≤ x → pairs < c → Coated (shows un s d ns sel a) l x e out
+    unfolding shows
+    mixing-end k h j =
+        record {
+          long = m .long;
+          there = λ y p q. ⊎-elim
+              (λ (z : getD sel (y - a) 0 ≡ dark). m .begun .dark y p q z)
+              (λ (z : getD sel (y - a) 0 ≡ dark → ⊥). let f = k .few (y - a) (omega arith) (omega arith) z in m .done y p q (omega arith))
+              (says-else (says-eq (getD sel (y - a) 0) dark));
+          before = m .before;
+          behind = m .behind;
+        }
+
+pub some-known : (c pairs : ℕ) → c ≤ pairs → c ≢ dark → c ≤ pairs
+some-known c pairs h n = h
+
+pub ruleset mixings = (needs, mixing-begun, mixing-end, some-known)
+
+module _ (un s d ns sel : List ℕ) (a x e v : ℕ) (l o n m : List ℕ) (g : Coated (over (moved x x (floorFrom un s d ns v))) l x (x + (e - x)) o)
+    (k : Coated (pickingOther un s d ns sel a v dark) o x e n) where
+  laid-there : (y : ℕ) → x ≤ y → y < e → fourFrom o (y * 4) ≡ floorFrom un s d ns v y
+  unfolding over moved
+  laid-there y p q = let j : x + (y - x) ≡ y = omega arith in g .there y p (omega arith) ∙ ap (floorFrom un s d ns v) j
+
+  laid-same : (y : ℕ) → x ≤ y → y < e → getD sel (y - a) 0 ≡ v → fourFrom o (y * 4) ≡ floorFrom un s d ns (getD sel (y - a) 0) y
+  laid-same y p q z = laid-there y p q ∙ ap (λ (c : ℕ). floorFrom un s d ns c y) (sym z)
+
+  pub mixed-begun : Begun un s d ns sel a x e v n
+  mixed-begun =
+      record {
+        same = λ y p q z. ⊎-elim
+            (λ (i : dark ≡ v). kept-same un s d ns sel a v dark x e o n k y p q i ∙ laid-same y p q z)
+            (λ (i : dark ≡ v → ⊥). kept-here un s d ns sel a v dark x e o n k y p q (λ (j : getD sel (y - a) 0 ≡ dark). i (sym j ∙ z)) ∙ laid-same y p q z)
+            (says-else (says-eq dark v));
+        dark = λ y p q z. ⊎-elim
+            (λ (i : dark ≡ v). kept-same un s d ns sel a v dark x e o n k y p q i ∙ laid-same y p q (z ∙ i))
+            (λ (i : dark ≡ v → ⊥). picked-here un s d ns sel a v dark x e o n k y p q i z)
+            (says-else (says-eq dark v));
+      }
+
+  pub mixed-end : x ≤ e → Coated (shows un s d ns sel a) n x e m → Coated (shows un s d ns sel a) l x e m
+  unfolding shows
+  mixed-end xe c =
+      record {
+        long = c .long ∙ k .long ∙ g .long;
+        there = λ y p q. c .there y p q;
+        before = λ i h. c .before i h ∙ k .before i h ∙ g .before i h;
+        behind = λ i h. c .behind i h ∙ k .behind i h ∙ g .behind i (omega arith);
+      }
+
+pub first-known : (sel : List ℕ) (a x e pairs : ℕ) → Known sel (x - a) (e - a) pairs → a ≤ x → x < e → getD sel (x - a) 0 ≢ dark → getD sel (x - a) 0 ≤ pairs
+first-known sel a x e pairs k h g = k .few (x - a) (omega arith) (omega arith)
+
+pub dark-known : (pairs : ℕ) → dark ≢ dark → dark ≤ pairs
+dark-known pairs n = absurd (n refl)
+
+-- ---- octets that are alike
+
+alike-none : (v : ℕ) (s : List ℕ) (p q : ℕ) → q ≤ p → Alike v s p q
+alike-none v s p q h = record { there = λ i a b. absurd (omega arith) }
+
+alike-join : (v : ℕ) (s : List ℕ) (p i q : ℕ) → Alike v s p i → Alike v s i q → Alike v s p q
+alike-join v s p i q g h =
+    record { there = λ k a b. ⊎-elim (λ (z : k < i). g .there k a z) (λ (z : k < i → ⊥). h .there k (omega arith) b) (says-else (says-lt k i)) }
+
+alike-more : (v : ℕ) (s : List ℕ) (p i : ℕ) → getD s i 0 ≡ v → Alike v s p i → Alike v s p (i + 1)
+alike-more v s p i h g =
+    alike-join v s p i (i + 1) g (record { there = λ k a b. let y : k ≡ i = omega arith in ap (λ (m : ℕ). getD s m 0) y ∙ h })
+
+four-alike : (v four r : ℕ) (s : List ℕ) (i : ℕ) → octetsOf four ≡ v ∷ v ∷ v ∷ v ∷ [] → octetsOf r ≡ fourFrom s i → r ≡ four → Alike v s i (i + 4)
+unfolding fourFrom
+four-alike v four r s i f e z =
+    let w : _≡_ {A = List ℕ} (getD s i 0 ∷ getD s (i + 1) 0 ∷ getD s (i + 2) 0 ∷ getD s (i + 3) 0 ∷ []) (v ∷ v ∷ v ∷ v ∷ []) = sym e ∙ ap octetsOf z ∙ f in
+    let a : getD s i 0 ≡ v = ap (λ (l : List ℕ). getD l 0 0) w in
+    let b : getD s (i + 1) 0 ≡ v = ap (λ (l : List ℕ). getD l 1 0) w in
+    let c : getD s (i + 2) 0 ≡ v = ap (λ (l : List ℕ). getD l 2 0) w in
+    let d : getD s (i + 3) 0 ≡ v = ap (λ (l : List ℕ). getD l 3 0) w in
+    let p : i + 1 + 1 ≡ i + 2 = omega arith in
+    let q : i + 2 + 1 ≡ i + 3 = omega arith in
+    let o : i + 3 + 1 ≡ i + 4 = omega arith in
+    let k₁ = alike-more v s i i a (alike-none v s i i (omega arith)) in
+    let k₂ = subst (Alike v s i) p (alike-more v s i (i + 1) b k₁) in
+    let k₃ = subst (Alike v s i) q (alike-more v s i (i + 2) c k₂) in
+    subst (Alike v s i) o (alike-more v s i (i + 3) d k₃)
+
+pub all-alike : (v four a b c e : ℕ) (s : List ℕ) (i : ℕ) → octetsOf four ≡ v ∷ v ∷ v ∷ v ∷ [] → octetsOf a ≡ fourFrom s i → octetsOf b ≡ fourFrom s (i + 4) → octetsOf c ≡ fourFrom s (i + 8)
+    → octetsOf e ≡ fourFrom s (i + 12) → eqb a four && eqb b four && eqb c four && eqb e four ≡ true → Alike v s i (i + 16)
+all-alike v four a b c e s i f p q r t z =
+    let h = says-and (says-and (says-and (says-eq a four) (says-eq b four)) (says-eq c four)) (says-eq e four) .told z in
+    let j : i + 4 + 4 ≡ i + 8 = omega arith in
+    let k : i + 8 + 4 ≡ i + 12 = omega arith in
+    let l : i + 12 + 4 ≡ i + 16 = omega arith in
+    alike-join v s i (i + 12) (i + 16)
+    (alike-join v s i (i + 8) (i + 12)
+    (alike-join v s i (i + 4) (i + 8) (four-alike v four a s i f p (h .0 .0 .0)) (subst (Alike v s (i + 4)) j (four-alike v four b s (i + 4) f q (h .0 .0 .1))))
+    (subst (Alike v s (i + 8)) k (four-alike v four c s (i + 8) f r (h .0 .1))))
+    (subst (Alike v s (i + 12)) l (four-alike v four e s (i + 12) f t (h .1)))
+
+pub ruleset alikes = (needs, all-alike)
+
+module _ (v : ℕ) (s : List ℕ) (p q : ℕ) where
+  pub run-begun : p ≤ q → Runs v s p q p
+  run-begun h = record { from = omega arith; upto = h; alike = alike-none v s p p (omega arith) }
+
+  pub run-more : (i : ℕ) → Runs v s p q i → i < q → getD s i 0 ≡ v → Runs v s p q (i + 1)
+  run-more i c h e = let a = c .from in record { from = omega arith; upto = omega arith; alike = alike-more v s p i e (c .alike) }
+
+  pub run-block : (i : ℕ) (z : Bool) → Runs v s p q i → 16 ≤ q - i → i < q → (z ≡ true → Alike v s i (i + 16)) → z ≡ true → Runs v s p q (i + 16)
+  run-block i z c h k g e = let a = c .from in let b = c .upto in record { from = omega arith; upto = omega arith; alike = alike-join v s p i (i + 16) (c .alike) (g e) }
+
+  pub run-rest : (i j r : ℕ) → Runs v s p q i → j ≤ q → Runs v s i j r → Runs v s p q r
+  run-rest i j r c h g =
+      let a = c .from in
+      let b = g .from in
+      let k = g .upto in
+      record { from = omega arith; upto = omega arith; alike = alike-join v s p i r (c .alike) (g .alike) }
+
+pub ruleset running = (needs, run-begun, run-more, run-block, run-rest)
+
+-- ---- the part from its first floor to its last
+
+pub record Showing (un s d ns sel : List ℕ) (a b : ℕ) (l row₀ out row : List ℕ) (i : ℕ) : Type 0 where
+  pub upto : i ≤ b - a
+  pub long : length out ≡ length l
+  pub wide : length row ≡ length row₀
+  pub done : Coated (shows un s d ns sel a) l a (a + i) out
+
+module _ (un s d ns sel : List ℕ) (a b : ℕ) (l row₀ : List ℕ) where
+  pub showing-begun : Showing un s d ns sel a b l row₀ l row₀ 0
+  showing-begun = record { upto = omega arith; long = refl; wide = refl; done = coated-none (shows un s d ns sel a) l a (a + 0) (omega arith) }
+
+  module _ (out row : List ℕ) (i : ℕ) (c : Showing un s d ns sel a b l row₀ out row i) where
+    pub showing-mixed : (e : ℕ) (new n : List ℕ) → i < e → e ≤ b - a → length n ≡ length row → Coated (shows un s d ns sel a) out (a + i) (a + e) new → Showing un s d ns sel a b l row₀ new n e
+    showing-mixed e new n p q w g =
+        record {
+          upto = q;
+          long = g .long ∙ c .long;
+          wide = w ∙ c .wide;
+          done = coated-chain (shows un s d ns sel a) l out new a (a + i) (a + e) (omega arith) (omega arith) (c .done) g;
+        }
+
+    pub showing-run : (v q : ℕ) (new : List ℕ) → Runs v sel i (b - a) q → Coated (over (moved (a + i) (a + i) (floorFrom un s d ns v))) out (a + i) (a + i + (a + q - (a + i))) new
+        → Showing un s d ns sel a b l row₀ new row q
+    unfolding over moved shows
+    showing-run v q new r g =
+        let f = r .from in
+        let z : a + i + (a + q - (a + i)) ≡ a + q = omega arith in
+        record {
+          upto = r .upto;
+          long = g .long ∙ c .long;
+          wide = c .wide;
+          done = coated-chain (shows un s d ns sel a) l out new a (a + i) (a + q) (omega arith) (omega arith) (c .done)
+              (coated-as (over (moved (a + i) (a + i) (floorFrom un s d ns v))) (shows un s d ns sel a) out new (a + i) (a + q)
+              (λ y o j k.
+              let h : a + i + (y - (a + i)) ≡ y = omega arith in
+              ap (floorFrom un s d ns v) h ∙ ap (λ (m : ℕ). floorFrom un s d ns m y) (sym (r .alike .there (y - a) (omega arith) (omega arith))))
+              (subst (λ (m : ℕ). Coated (over (moved (a + i) (a + i) (floorFrom un s d ns v))) out (a + i) m new) z g));
+        }
+
+    pub showing-end : a ≤ b → b - a ≤ i → Coated (shows un s d ns sel a) l a b out
+    showing-end h k = let u = c .upto in let z : a + i ≡ b = omega arith in subst (λ (m : ℕ). Coated (shows un s d ns sel a) l a m out) z (c .done)
+
+pub part-known : (sel : List ℕ) (a b i e pairs : ℕ) → Known sel 0 (b - a) pairs → e ≤ b - a → Known sel (a + i - a) (a + e - a) pairs
+part-known sel a b i e pairs k h = record { few = λ j p q. k .few j (omega arith) (omega arith) }
+
+pub here-known : (sel : List ℕ) (n i pairs : ℕ) → Known sel 0 n pairs → i < n → getD sel i 0 ≢ dark → getD sel i 0 ≤ pairs
+here-known sel n i pairs k h = k .few i (omega arith) h
+
+pub ruleset showing = (needs, showing-begun, showing-end)

@@ -4,9 +4,12 @@
 --   shows                the floor of each pixel, the floors starting at pixel a
 --   picking              where the floor is c, the pixel of a row; the row starts at pixel t, and so do the floors from place i on
 --   pickingFloor         where the floor is c, what it gives
+--   pickingOther         the same, if c is not v
+--   Begun                the pixels whose floors are v or the dark are shown
 --   Known sel p q pairs  the floors p up to q are pairs, or the dark
 --   Alike v s p q        the octets p up to q are v
 --   Absent v s p q       none of them is
+--   Runs v s p q r       they are v up to r at least
 use Prim.Native.Nat.{ℕ, _+_, _-_, _*_, _≤_, _<_}
 use mathlib.Core.Path.{_≡_}
 use mathlib.Core.Logic.{_≢_}
@@ -31,6 +34,10 @@ picking sel i c row t x old = cond (eqb (getD sel (i + (x - t)) 0) c) (fourFrom 
 unfoldable pub pickingFloor : List ℕ → List ℕ → List ℕ → List ℕ → List ℕ → ℕ → ℕ → ℕ → List ℕ → List ℕ
 pickingFloor un s d ns sel a c x old = cond (eqb (getD sel (x - a) 0) c) (floorFrom un s d ns c x) old
 
+-- not where it is v, which is shown already
+unfoldable pub pickingOther : List ℕ → List ℕ → List ℕ → List ℕ → List ℕ → ℕ → ℕ → ℕ → ℕ → List ℕ → List ℕ
+pickingOther un s d ns sel a v c x old = cond (eqb c v) old (pickingFloor un s d ns sel a c x old)
+
 pub record Known (sel : List ℕ) (p q pairs : ℕ) : Type 0 where
   pub few : (i : ℕ) → p ≤ i → i < q → getD sel i 0 ≢ dark → getD sel i 0 ≤ pairs
 
@@ -39,3 +46,12 @@ pub record Alike (v : ℕ) (s : List ℕ) (p q : ℕ) : Type 0 where
 
 pub record Absent (v : ℕ) (s : List ℕ) (p q : ℕ) : Type 0 where
   pub none : (i : ℕ) → p ≤ i → i < q → getD s i 0 ≢ v
+
+pub record Begun (un s d ns sel : List ℕ) (a x e v : ℕ) (out : List ℕ) : Type 0 where
+  pub same : (y : ℕ) → x ≤ y → y < e → getD sel (y - a) 0 ≡ v → fourFrom out (y * 4) ≡ floorFrom un s d ns (getD sel (y - a) 0) y
+  pub dark : (y : ℕ) → x ≤ y → y < e → getD sel (y - a) 0 ≡ dark → fourFrom out (y * 4) ≡ floorFrom un s d ns (getD sel (y - a) 0) y
+
+pub record Runs (v : ℕ) (s : List ℕ) (p q r : ℕ) : Type 0 where
+  pub from : p ≤ r
+  pub upto : r ≤ q
+  pub alike : Alike v s p r

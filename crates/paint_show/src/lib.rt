@@ -1,7 +1,8 @@
 // The floors of a part of a row shown. A run of pixels of one floor gets its image layer laid; where floors change every few pixels, one is laid over all
 // of them and the others are picked.
 ghost use mathlib.Core.Path.{_≡_};
-ghost use mathlib.Core.Bool.{false, cond};
+ghost use mathlib.Core.Bool.{true, false, cond};
+ghost use mathlib.Core.List.{[], _∷_};
 ghost use mathlib.Core.Logic.{_≢_};
 ghost use Prim.Native.Nat.{_+_, _-_, _*_, _<_, _≤_};
 ghost use lib.ListN.{length, getD};
@@ -12,7 +13,7 @@ ghost use Rattle.paint_words.specs.Words.{octetsOf};
 ghost use Rattle.paint_coat.specs.Coat.{Coated, over};
 ghost use Rattle.paint_image.specs.Image.{moved};
 ghost use Rattle.paint_floor.specs.Floors.{PlainRows};
-ghost use Rattle.paint_show.specs.Show.{floorFrom, shows, picking, pickingFloor, Known, Alike, Absent};
+ghost use Rattle.paint_show.specs.Show.{floorFrom, shows, picking, pickingOther, Known, Alike, Absent, Begun, Runs};
 use paint_floor::DARK;
 
 // What floor c gives at the pixels a up to b, at those of the row from t on.
@@ -83,4 +84,141 @@ fn present(s: &[u8], v: u8, p: usize, q: usize) -> bool
         }
     }
     false
+}
+
+// Where the floor is c, and not v, which is shown already, what it gives: the row is there to lay it in first.
+fn pick_floor(out: &mut [u8], sel: &[u8], row: &mut [u8], s: &[u8], d: &[u8], rows: &[usize], pairs: usize, v: u8, c: u8, a: usize, x: usize, e: usize, u: u32)
+    requires { ⌜ RowsFit (now s) (now d) (now rows) pairs × PlainRows (now rows) pairs × (c ≢ dark → c ≤ pairs) × (e < 65536) × (a ≤ x) × (x ≤ e) × (e * 4 ≤ length (now out))
+        × (e - a ≤ length (now sel)) × ((e - x) * 4 ≤ length (now row)) ⌝ }
+    ensures { λ _. ⌜ Coated (pickingOther (octetsOf u) (now (s .entry)) (now (d .entry)) (now (rows .entry)) (now (sel .entry)) a v c) (now (out .entry)) x e (now (out .exit)) ⌝ }
+{
+    if c == v {
+        return;
+    }
+    if present(sel, c, x - a, e - a) {
+        lay_floor(row, 0, s, d, rows, pairs, c, x, e, u);
+        pick_words(out, sel, x - a, c, row, x, e);
+    }
+}
+
+// The floors of all pairs, where v and the dark are shown.
+fn pick_pairs(out: &mut [u8], sel: &[u8], row: &mut [u8], s: &[u8], d: &[u8], rows: &[usize], pairs: usize, v: u8, a: usize, x: usize, e: usize, u: u32)
+    requires { ⌜ RowsFit (now s) (now d) (now rows) pairs × PlainRows (now rows) pairs × Known (now sel) (x - a) (e - a) pairs × (pairs ≤ 7) × (e < 65536) × (a ≤ x) × (x ≤ e)
+        × (e * 4 ≤ length (now out)) × (e - a ≤ length (now sel)) × ((e - x) * 4 ≤ length (now row))
+        × Begun (octetsOf u) (now s) (now d) (now rows) (now sel) a x e v (now out) ⌝ }
+    ensures { λ _. ⌜ Coated (shows (octetsOf u) (now (s .entry)) (now (d .entry)) (now (rows .entry)) (now (sel .entry)) a) (now (out .entry)) x e (now (out .exit)) ⌝ }
+{
+    let mut c = 0;
+    while c <= pairs {
+        pick_floor(out, sel, row, s, d, rows, pairs, v, c as u8, a, x, e, u);
+        c += 1;
+    }
+}
+
+// Floors that change every few pixels: that of the first is laid over all of them, and the others are picked.
+fn show_mixed(out: &mut [u8], sel: &[u8], row: &mut [u8], s: &[u8], d: &[u8], rows: &[usize], pairs: usize, a: usize, x: usize, e: usize, u: u32)
+    requires { ⌜ RowsFit (now s) (now d) (now rows) pairs × PlainRows (now rows) pairs × Known (now sel) (x - a) (e - a) pairs × (pairs ≤ 7) × (e < 65536) × (a ≤ x) × (x < e)
+        × (e * 4 ≤ length (now out)) × (e - a ≤ length (now sel)) × ((e - x) * 4 ≤ length (now row)) ⌝ }
+    ensures { λ _. ⌜ Coated (shows (octetsOf u) (now (s .entry)) (now (d .entry)) (now (rows .entry)) (now (sel .entry)) a) (now (out .entry)) x e (now (out .exit)) ⌝ }
+{
+    let v = sel[x - a];
+    lay_floor(out, x, s, d, rows, pairs, v, x, e, u);
+    pick_floor(out, sel, row, s, d, rows, pairs, v, DARK, a, x, e, u);
+    pick_pairs(out, sel, row, s, d, rows, pairs, v, a, x, e, u);
+}
+
+// Sixteen octets are those of four words, each of which is four times v.
+fn same_16(s: &[u8], v: u8, four: u32, i: usize) -> bool
+    requires { ⌜ (i + 16 ≤ length (now s)) × (octetsOf four ≡ v ∷ v ∷ v ∷ v ∷ []) ⌝ }
+    ensures { λ r. ⌜ (r ≡ true → Alike v (now (s .entry)) i (i + 16)) ⌝ }
+{
+    let a = paint_words::word(s, i);
+    let b = paint_words::word(s, i + 4);
+    let c = paint_words::word(s, i + 8);
+    let e = paint_words::word(s, i + 12);
+    (a == four) & (b == four) & (c == four) & (e == four)
+}
+
+// One by one.
+fn run_few(s: &[u8], v: u8, from: usize, to: usize) -> usize
+    requires { ⌜ (from ≤ to) × (to ≤ length (now s)) ⌝ }
+    ensures { λ r. ⌜ Runs v (now (s .entry)) from to r ⌝ }
+{
+    let mut i = from;
+    while i < to {
+        if s[i] != v {
+            return i;
+        }
+        i += 1;
+    }
+    i
+}
+
+// How far octets v go on from `from`, at most up to `to`.
+fn run_on(s: &[u8], v: u8, from: usize, to: usize) -> usize
+    requires { ⌜ (from ≤ to) × (to ≤ length (now s)) ⌝ }
+    ensures { λ r. ⌜ Runs v (now (s .entry)) from to r ⌝ }
+{
+    let four = paint_words::word_of(v, v, v, v);
+    let mut i = from;
+    while i < to {
+        if 16 <= to - i {
+            if same_16(s, v, four, i) {
+                i += 16;
+            } else {
+                return run_few(s, v, i, i + 16);
+            }
+        } else {
+            return run_few(s, v, i, to);
+        }
+    }
+    i
+}
+
+// A step of n, or of what is left.
+fn ahead(i: usize, n: usize, to: usize) -> usize
+    requires { ⌜ (i ≤ to) × (0 < n) ⌝ }
+    ensures { λ r. ⌜ (i ≤ r) × (r ≤ to) × (r ≤ i + n) × (i < to → i < r) ⌝ }
+{
+    if to - i <= n { to } else { i + n }
+}
+
+// Where a run begins that is worth a call of its own: looked for in steps, since one step is as good as another where floors change all the time.
+fn mixed_end(sel: &[u8], i: usize, n: usize) -> usize
+    requires { ⌜ (i < n) × (n ≤ length (now sel)) ⌝ }
+    ensures { λ r. ⌜ (i < r) × (r ≤ n) × (r ≤ i + 512) ⌝ }
+{
+    let most = ahead(i, 512, n);
+    let mut e = ahead(i, 64, most);
+    while e < most {
+        let near = ahead(e, 8, n);
+        if near <= run_on(sel, sel[e], e, near) {
+            return e;
+        }
+        e = ahead(e, 64, most);
+    }
+    e
+}
+
+// The floors of the pixels a up to b shown, the floors starting at a.
+pub fn show_floors(out: &mut [u8], sel: &[u8], row: &mut [u8], s: &[u8], d: &[u8], rows: &[usize], pairs: usize, a: usize, b: usize, u: u32)
+    requires { ⌜ RowsFit (now s) (now d) (now rows) pairs × PlainRows (now rows) pairs × Known (now sel) 0 (b - a) pairs × (pairs ≤ 7) × (b < 65536) × (a ≤ b)
+        × (b * 4 ≤ length (now out)) × (b - a ≤ length (now sel)) × (2048 ≤ length (now row)) ⌝ }
+    ensures { λ _. ⌜ Coated (shows (octetsOf u) (now (s .entry)) (now (d .entry)) (now (rows .entry)) (now (sel .entry)) a) (now (out .entry)) a b (now (out .exit)) ⌝ }
+{
+    let n = b - a;
+    let mut i = 0;
+    while i < n {
+        let v = sel[i];
+        let near = ahead(i, 8, n);
+        let q = run_on(sel, v, i, n);
+        if q < near {
+            let e = mixed_end(sel, i, n);
+            show_mixed(out, sel, row, s, d, rows, pairs, a, a + i, a + e, u);
+            i = e;
+        } else {
+            lay_floor(out, a + i, s, d, rows, pairs, v, a + i, a + q, u);
+            i = q;
+        }
+    }
 }
