@@ -21,7 +21,7 @@ use Rattle.paint_coat.proofs.Coats.{coated-none, coated-chain, coated-as}
 use Rattle.paint_coat.proofs.Laws.{Coating, coat-begun, coat-more, coat-end}
 use Rattle.paint_image.specs.Image.{shownFour, imageFrom, moved, Plain}
 use Rattle.paint_floor.specs.Floors.{PlainRows}
-use Rattle.paint_show.specs.Show.{floorFrom, shows, picking, pickingFloor, pickingOther, Known, Alike, Absent, Begun, Runs}
+use Rattle.paint_show.specs.Show.{floorFrom, shows, picking, pickingFloor, pickingOther, Paired, Alike, Absent, Begun, Runs}
 
 -- ---- a floor laid
 
@@ -237,7 +237,7 @@ module _ (un s d ns sel : List ℕ) (pairs a x e v : ℕ) (l row₀ : List ℕ) 
           behind = λ i j. g .behind i j ∙ m .behind i j;
         }
 
-    pub mixing-end : Known sel (x - a) (e - a) pairs → a ≤ x → pairs < c → Coated (shows un s d ns sel a) l x e out
+    pub mixing-end : Paired sel (x - a) (e - a) pairs → a ≤ x → pairs < c → Coated (shows un s d ns sel a) l x e out
     unfolding shows
     mixing-end k h j =
         record {
@@ -287,7 +287,7 @@ module _ (un s d ns sel : List ℕ) (a x e v : ℕ) (l o n m : List ℕ) (g : Co
         behind = λ i h. c .behind i h ∙ k .behind i h ∙ g .behind i (omega arith);
       }
 
-pub first-known : (sel : List ℕ) (a x e pairs : ℕ) → Known sel (x - a) (e - a) pairs → a ≤ x → x < e → getD sel (x - a) 0 ≢ dark → getD sel (x - a) 0 ≤ pairs
+pub first-known : (sel : List ℕ) (a x e pairs : ℕ) → Paired sel (x - a) (e - a) pairs → a ≤ x → x < e → getD sel (x - a) 0 ≢ dark → getD sel (x - a) 0 ≤ pairs
 first-known sel a x e pairs k h g = k .few (x - a) (omega arith) (omega arith)
 
 pub dark-known : (pairs : ℕ) → dark ≢ dark → dark ≤ pairs
@@ -399,10 +399,10 @@ module _ (un s d ns sel : List ℕ) (a b : ℕ) (l row₀ : List ℕ) where
     pub showing-end : a ≤ b → b - a ≤ i → Coated (shows un s d ns sel a) l a b out
     showing-end h k = let u = c .upto in let z : a + i ≡ b = omega arith in subst (λ (m : ℕ). Coated (shows un s d ns sel a) l a m out) z (c .done)
 
-pub part-known : (sel : List ℕ) (a b i e pairs : ℕ) → Known sel 0 (b - a) pairs → e ≤ b - a → Known sel (a + i - a) (a + e - a) pairs
+pub part-known : (sel : List ℕ) (a b i e pairs : ℕ) → Paired sel 0 (b - a) pairs → e ≤ b - a → Paired sel (a + i - a) (a + e - a) pairs
 part-known sel a b i e pairs k h = record { few = λ j p q. k .few j (omega arith) (omega arith) }
 
-pub here-known : (sel : List ℕ) (n i pairs : ℕ) → Known sel 0 n pairs → i < n → getD sel i 0 ≢ dark → getD sel i 0 ≤ pairs
+pub here-known : (sel : List ℕ) (n i pairs : ℕ) → Paired sel 0 n pairs → i < n → getD sel i 0 ≢ dark → getD sel i 0 ≤ pairs
 here-known sel n i pairs k h = k .few i (omega arith) h
 
 pub ruleset showing = (needs, showing-begun, showing-end)

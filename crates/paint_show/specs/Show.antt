@@ -6,7 +6,7 @@
 --   pickingFloor         where the floor is c, what it gives
 --   pickingOther         the same, if c is not v
 --   Begun                the pixels whose floors are v or the dark are shown
---   Known sel p q pairs  the floors p up to q are pairs, or the dark
+--   Paired sel p q pairs  the floors p up to q are pairs, or the dark
 --   Alike v s p q        the octets p up to q are v
 --   Absent v s p q       none of them is
 --   Runs v s p q r       they are v up to r at least
@@ -38,7 +38,7 @@ pickingFloor un s d ns sel a c x old = cond (eqb (getD sel (x - a) 0) c) (floorF
 unfoldable pub pickingOther : List ℕ → List ℕ → List ℕ → List ℕ → List ℕ → ℕ → ℕ → ℕ → ℕ → List ℕ → List ℕ
 pickingOther un s d ns sel a v c x old = cond (eqb c v) old (pickingFloor un s d ns sel a c x old)
 
-pub record Known (sel : List ℕ) (p q pairs : ℕ) : Type 0 where
+pub record Paired (sel : List ℕ) (p q pairs : ℕ) : Type 0 where
   pub few : (i : ℕ) → p ≤ i → i < q → getD sel i 0 ≢ dark → getD sel i 0 ≤ pairs
 
 pub record Alike (v : ℕ) (s : List ℕ) (p q : ℕ) : Type 0 where

@@ -13,7 +13,7 @@ ghost use Rattle.paint_words.specs.Words.{octetsOf};
 ghost use Rattle.paint_coat.specs.Coat.{Coated, over};
 ghost use Rattle.paint_image.specs.Image.{moved};
 ghost use Rattle.paint_floor.specs.Floors.{PlainRows};
-ghost use Rattle.paint_show.specs.Show.{floorFrom, shows, picking, pickingOther, Known, Alike, Absent, Begun, Runs};
+ghost use Rattle.paint_show.specs.Show.{floorFrom, shows, picking, pickingOther, Paired, Alike, Absent, Begun, Runs};
 use paint_floor::DARK;
 
 // What floor c gives at the pixels a up to b, at those of the row from t on.
@@ -103,7 +103,7 @@ fn pick_floor(out: &mut [u8], sel: &[u8], row: &mut [u8], s: &[u8], d: &[u8], ro
 
 // The floors of all pairs, where v and the dark are shown.
 fn pick_pairs(out: &mut [u8], sel: &[u8], row: &mut [u8], s: &[u8], d: &[u8], rows: &[usize], pairs: usize, v: u8, a: usize, x: usize, e: usize, u: u32)
-    requires { ⌜ RowsFit (now s) (now d) (now rows) pairs × PlainRows (now rows) pairs × Known (now sel) (x - a) (e - a) pairs × (pairs ≤ 7) × (e < 65536) × (a ≤ x) × (x ≤ e)
+    requires { ⌜ RowsFit (now s) (now d) (now rows) pairs × PlainRows (now rows) pairs × Paired (now sel) (x - a) (e - a) pairs × (pairs ≤ 7) × (e < 65536) × (a ≤ x) × (x ≤ e)
         × (e * 4 ≤ length (now out)) × (e - a ≤ length (now sel)) × ((e - x) * 4 ≤ length (now row))
         × Begun (octetsOf u) (now s) (now d) (now rows) (now sel) a x e v (now out) ⌝ }
     ensures { λ _. ⌜ Coated (shows (octetsOf u) (now (s .entry)) (now (d .entry)) (now (rows .entry)) (now (sel .entry)) a) (now (out .entry)) x e (now (out .exit)) ⌝ }
@@ -117,7 +117,7 @@ fn pick_pairs(out: &mut [u8], sel: &[u8], row: &mut [u8], s: &[u8], d: &[u8], ro
 
 // Floors that change every few pixels: that of the first is laid over all of them, and the others are picked.
 fn show_mixed(out: &mut [u8], sel: &[u8], row: &mut [u8], s: &[u8], d: &[u8], rows: &[usize], pairs: usize, a: usize, x: usize, e: usize, u: u32)
-    requires { ⌜ RowsFit (now s) (now d) (now rows) pairs × PlainRows (now rows) pairs × Known (now sel) (x - a) (e - a) pairs × (pairs ≤ 7) × (e < 65536) × (a ≤ x) × (x < e)
+    requires { ⌜ RowsFit (now s) (now d) (now rows) pairs × PlainRows (now rows) pairs × Paired (now sel) (x - a) (e - a) pairs × (pairs ≤ 7) × (e < 65536) × (a ≤ x) × (x < e)
         × (e * 4 ≤ length (now out)) × (e - a ≤ length (now sel)) × ((e - x) * 4 ≤ length (now row)) ⌝ }
     ensures { λ _. ⌜ Coated (shows (octetsOf u) (now (s .entry)) (now (d .entry)) (now (rows .entry)) (now (sel .entry)) a) (now (out .entry)) x e (now (out .exit)) ⌝ }
 {
@@ -202,7 +202,7 @@ fn mixed_end(sel: &[u8], i: usize, n: usize) -> usize
 
 // The floors of the pixels a up to b shown, the floors starting at a.
 pub fn show_floors(out: &mut [u8], sel: &[u8], row: &mut [u8], s: &[u8], d: &[u8], rows: &[usize], pairs: usize, a: usize, b: usize, u: u32)
-    requires { ⌜ RowsFit (now s) (now d) (now rows) pairs × PlainRows (now rows) pairs × Known (now sel) 0 (b - a) pairs × (pairs ≤ 7) × (b < 65536) × (a ≤ b)
+    requires { ⌜ RowsFit (now s) (now d) (now rows) pairs × PlainRows (now rows) pairs × Paired (now sel) 0 (b - a) pairs × (pairs ≤ 7) × (b < 65536) × (a ≤ b)
         × (b * 4 ≤ length (now out)) × (b - a ≤ length (now sel)) × (2048 ≤ length (now row)) ⌝ }
     ensures { λ _. ⌜ Coated (shows (octetsOf u) (now (s .entry)) (now (d .entry)) (now (rows .entry)) (now (sel .entry)) a) (now (out .entry)) a b (now (out .exit)) ⌝ }
 {

@@ -1,0 +1,192 @@
+-- One law for each way out of the functions that paint a row: its premises are what is known there.
+-- Assumes nothing.
+use Prim.Native.Nat.{ℕ, zero, suc, _+_, _-_, _*_, _≤_, _<_}
+use native.Mathlib.Omega.{arith}
+use mathlib.Core.Path.{_≡_, refl, sym, ap, ap₂, subst, _∙_}
+use mathlib.Core.Logic.{_≢_, ⊎-elim}
+use mathlib.Core.Bool.{Bool, true, false, _&&_, cond}
+use mathlib.Core.List.{List, [], _∷_}
+use lib.ListN.{length, getD}
+use lib.Dec.{eqb, ltb}
+use borrow.Author.Tests.{eq-eqb, ne-eqb, lt-ltb, le-ltb}
+use borrow.Author.Needs.{needs}
+use Rattle.laws.proofs.Cases.{clash}
+use Rattle.laws.proofs.Says.{says-eq, says-and, says-lt, says-else}
+use Rattle.sheet_rules.specs.declared.Colour.{Colour}
+use Rattle.pixel_rules.specs.declared.MainPos.{MainPos}
+use Rattle.pixel_rules.specs.declared.Sample.{Sample}
+use Rattle.pixel_rules.specs.declared.Sample.the-variants.{Known, Unknown}
+use Rattle.pixel_rules.specs.declared.Mask.{Mask}
+use Rattle.pixel_rules.specs.declared.Mask.the-variants.{Zero, One, Hidden}
+use Rattle.pixel_rules.specs.Place.{scale}
+use Rattle.pixel_rules.specs.Samples.{bitOf}
+use Rattle.pixel_rules.specs.Decide.{Stack, sameColour, agree, decide}
+use Rattle.picture_rules.specs.Line.{fourOf}
+use Rattle.line_fetch.specs.declared.Row.{Row}
+use Rattle.line_fetch.specs.Rows.{rowSize, rowAt, rowMask, rowImage, ImageFits}
+use Rattle.line_fetch.proofs.Laws.{mask-before, mask-after, mask-unread, mask-read}
+use Rattle.line_pixel.specs.Rows.{rowStack, RowsFit}
+use Rattle.paint_rules.specs.Floor.{dark, Settled, chosen, stage}
+use Rattle.paint_rules.proofs.Floors.{chosen-stage, stage-same, stage-agrees, stage-end}
+use Rattle.paint_words.specs.Words.{octetsOf, fourFrom}
+use Rattle.paint_coat.specs.Coat.{Coated, over}
+use Rattle.paint_coat.proofs.Coats.{four-same}
+use Rattle.paint_image.specs.Image.{shownFour, imageFrom, Within, Plain}
+use Rattle.paint_agree.specs.Agree.{sameFour, agreed, settles}
+use Rattle.paint_floor.specs.Floors.{PlainRows, Sure, Starts}
+use Rattle.paint_show.specs.Show.{floorFrom, shows, Paired}
+use Rattle.paint_line.specs.Painted.{Told, Kept, decided}
+
+-- ---- the four octets of a sample
+
+pub shown-is : (u : Colour) (un : List ℕ) (p : Sample) → un ≡ fourOf u Unknown → shownFour un p ≡ fourOf u p
+unfolding shownFour fourOf
+shown-is u un (Known c) e = refl
+shown-is u un Unknown e = e
+
+and-false : (b : Bool) → (b && false) ≡ false
+and-false true = refl
+and-false false = refl
+
+and-true : (b : Bool) → (b && true) ≡ b
+and-true true = refl
+and-true false = refl
+
+same-both : (c e : Colour) → sameColour c e ≡ true → c ≡ e
+unfolding sameColour
+same-both c e z =
+    let h = says-and (says-and (says-eq (c .c0) (e .c0)) (says-eq (c .c1) (e .c1))) (says-eq (c .c2) (e .c2)) .told z in
+    λ i. record { c0 = h .0 .0 i; c1 = h .0 .1 i; c2 = h .1 i }
+
+-- what two pixels agree on is what their samples do
+agreed-four : (u : Colour) (p q : Sample) → agreed (fourOf u q) (fourOf u Unknown) (fourOf u p) ≡ fourOf u (agree p q)
+unfolding agreed sameFour fourOf agree sameColour
+agreed-four u (Known c) (Known e) =
+    ap (λ (b : Bool). cond b (fourOf u (Known e)) (fourOf u Unknown)) (and-true (sameColour c e)) ∙ by (sameColour c e) refl
+  where
+    by : (b : Bool) → sameColour c e ≡ b → cond b (fourOf u (Known e)) (fourOf u Unknown) ≡ fourOf u (cond b (Known c) Unknown)
+    by true z = ap (λ (o : Colour). fourOf u (Known o)) (sym (same-both c e z))
+    by false z = refl
+agreed-four u (Known c) Unknown = rw (and-false (eqb (c .c0) (u .c0) && eqb (c .c1) (u .c1) && eqb (c .c2) (u .c2))) refl
+agreed-four u Unknown (Known e) = rw (and-false (eqb (u .c0) (e .c0) && eqb (u .c1) (e .c1) && eqb (u .c2) (e .c2))) refl
+agreed-four u Unknown Unknown = by (sameFour (fourOf u Unknown) (fourOf u Unknown))
+  where
+    by : (b : Bool) → cond b (fourOf u Unknown) (fourOf u Unknown) ≡ fourOf u Unknown
+    by true = refl
+    by false = refl
+
+-- ---- a pair whose mask was read, or not
+
+zero-hidden : (n : ℕ) → bitOf n ≢ Hidden
+unfolding bitOf
+zero-hidden n e = by (eqb n 0) e
+  where
+    by : (b : Bool) → cond b Zero One ≡ Hidden → ⊥
+    by true z = clash cc
+    by false z = clash cc
+
+module _ (u : Colour) (s d ns sel : List ℕ) (pairs f a b j : ℕ) (g : Sure s d ns f a (b - a) pairs sel) (h : j < pairs) (m : Row) (em : m ≡ rowAt ns ((j + 1) * 2)) where
+  abbrev stack : ℕ → Stack
+  stack x = rowStack s d ns (record { 0 = x })
+
+  settled : (x : ℕ) → a ≤ x → x < b → Settled (stack x) f (getD sel (x - a) 0) pairs
+  settled x p q = let z : a + (x - a) ≡ x = omega arith in subst (λ (i : ℕ). Settled (stack i) f (getD sel (x - a) 0) pairs) z (g .held (x - a) (omega arith))
+
+  suc-is : suc j ≡ j + 1
+  suc-is = omega arith
+
+  mask-here : (x : ℕ) (o : Mask) → o ≡ rowMask d m (record { 0 = x }) → stack x .mask (suc j) ≡ o
+  mask-here x o e = ap (λ (i : ℕ). rowMask d (rowAt ns (i * 2)) (record { 0 = x })) suc-is ∙ sym (e ∙ ap (λ (w : Row). rowMask d w (record { 0 = x })) em)
+
+  -- where the mask is known, or the floor above, nothing changes
+  same-stage : (x : ℕ) → a ≤ x → x < b → (getD sel (x - a) 0 < suc j → stack x .mask (suc j) ≢ Hidden) → stage (stack x) (getD sel (x - a) 0) j ≡ stage (stack x) (getD sel (x - a) 0) (j + 1)
+  same-stage x p q k =
+      stage-same (stack x) f (getD sel (x - a) 0) pairs (settled x p q) j (omega arith) k ∙ ap (stage (stack x) (getD sel (x - a) 0)) suc-is
+
+  -- a mask that was read
+  read-known : m .read ≢ 0 → (x : ℕ) → stack x .mask (suc j) ≢ Hidden
+  read-known n x e =
+      ⊎-elim
+      (λ (z : x < m .from). zero-hidden (m .other) (sym (mask-here x (bitOf (m .other)) (mask-before d m (record { 0 = x }) (bitOf (m .other)) z refl)) ∙ e))
+      (λ (z : x < m .from → ⊥).
+      ⊎-elim
+      (λ (w : x < m .to).
+      zero-hidden (getD d (m .at + scale (m .ratio) (m .from) (record { 0 = x }) .0) 0)
+      (sym (mask-here x (bitOf (getD d (m .at + scale (m .ratio) (m .from) (record { 0 = x }) .0) 0))
+      (mask-read d m (record { 0 = x }) (bitOf (getD d (m .at + scale (m .ratio) (m .from) (record { 0 = x }) .0) 0)) (scale (m .ratio) (m .from) (record { 0 = x })) (omega arith) w n refl refl)) ∙ e))
+      (λ (w : x < m .to → ⊥). zero-hidden (m .other) (sym (mask-here x (bitOf (m .other)) (mask-after d m (record { 0 = x }) (bitOf (m .other)) (omega arith) refl)) ∙ e))
+      (says-else (says-lt x (m .to))))
+      (says-else (says-lt x (m .from)))
+
+  pub told-read : (out : List ℕ) → m .read ≢ 0 → Told u s d ns sel a b j out → Told u s d ns sel a b (j + 1) out × Kept a b out out
+  told-read out n t =
+      (record { there = λ x p q. t .there x p q ∙ ap (fourOf u) (same-stage x p q (λ k. read-known n x)) },
+      record { long = refl; before = λ i k. refl; behind = λ i k. refl })
+
+  module _ (r : Row) (er : r ≡ rowAt ns ((j + 1) * 2 + 1)) (un : List ℕ) (eu : un ≡ fourOf u Unknown) (x₀ x₁ : ℕ) (w₀ : Within (m .from) a b x₀) (w₁ : Within (m .to) x₀ b x₁) (few : pairs ≤ 7)
+      (out new : List ℕ) (t : Told u s d ns sel a b j out) (c : Coated (settles sel a (j + 1) (imageFrom un s d r) un) out x₀ x₁ new) (z : m .read ≡ 0) where
+    beside-same : (x : ℕ) → a ≤ x → x < b → ((i : ℕ) → x * 4 ≤ i → i < x * 4 + 4 → getD new i 0 ≡ getD out i 0) → stack x .mask (suc j) ≢ Hidden
+        → fourFrom new (x * 4) ≡ fourOf u (stage (stack x) (getD sel (x - a) 0) (j + 1))
+    beside-same x p q k n = four-same out new (x * 4) k ∙ t .there x p q ∙ ap (fourOf u) (same-stage x p q (λ o. n))
+
+    image-is : (x : ℕ) → imageFrom un s d r x ≡ fourOf u (stack x .image (suc j))
+    unfolding imageFrom
+    image-is x =
+        shown-is u un (rowImage s d r (record { 0 = x })) eu
+        ∙ ap (λ (w : Row). fourOf u (rowImage s d w (record { 0 = x }))) er ∙ ap (λ (i : ℕ). fourOf u (rowImage s d (rowAt ns (i * 2 + 1)) (record { 0 = x }))) (sym suc-is)
+
+    in-area : (x : ℕ) → a ≤ x → x < b → x₀ ≤ x → x < x₁ → fourFrom new (x * 4) ≡ fourOf u (stage (stack x) (getD sel (x - a) 0) (j + 1))
+    unfolding settles
+    in-area x p q i k =
+        let o : stack x .mask (suc j) ≡ Hidden = mask-here x Hidden (mask-unread d m (record { 0 = x }) (w₀ .behind x i q) (w₁ .before x i k) z) in
+        c .there x i k
+        ∙ ⊎-elim
+        (λ (y : getD sel (x - a) 0 < j + 1).
+        rw (lt-ltb (getD sel (x - a) 0) (j + 1) y)
+        (ap₂ (λ (v w : List ℕ). agreed v un w) (image-is x) (t .there x p q)
+        ∙ ap (λ (v : List ℕ). agreed (fourOf u (stack x .image (suc j))) v (fourOf u (stage (stack x) (getD sel (x - a) 0) j))) eu
+        ∙ agreed-four u (stage (stack x) (getD sel (x - a) 0) j) (stack x .image (suc j))
+        ∙ ap (fourOf u)
+        (stage-agrees (stack x) f (getD sel (x - a) 0) pairs (settled x p q) j (omega arith) o (omega arith) (λ (v : getD sel (x - a) 0 ≡ dark). omega arith)
+        ∙ ap (stage (stack x) (getD sel (x - a) 0)) suc-is)))
+        (λ (y : getD sel (x - a) 0 < j + 1 → ⊥).
+        rw (le-ltb (getD sel (x - a) 0) (j + 1) (omega arith)) (t .there x p q ∙ ap (fourOf u) (same-stage x p q (λ v. absurd (omega arith)))))
+        (says-else (says-lt (getD sel (x - a) 0) (j + 1)))
+
+    pub told-unread : Told u s d ns sel a b (j + 1) new × Kept a b out new
+    told-unread =
+        let p₀ = w₀ .low in
+        let q₁ = w₁ .high in
+        let l₁ = w₁ .low in
+        (record {
+          there = λ x p q. ⊎-elim
+              (λ (i : x < x₀).
+              beside-same x p q (λ k v w. c .before k (omega arith))
+              (λ e. zero-hidden (m .other) (sym (mask-here x (bitOf (m .other)) (mask-before d m (record { 0 = x }) (bitOf (m .other)) (w₀ .before x p i) refl)) ∙ e)))
+              (λ (i : x < x₀ → ⊥).
+              ⊎-elim
+              (λ (k : x < x₁). in-area x p q (omega arith) k)
+              (λ (k : x < x₁ → ⊥).
+              beside-same x p q (λ v o w. c .behind v (omega arith))
+              (λ e. zero-hidden (m .other) (sym (mask-here x (bitOf (m .other)) (mask-after d m (record { 0 = x }) (bitOf (m .other)) (w₁ .behind x (omega arith) q) refl)) ∙ e)))
+              (says-else (says-lt x x₁)))
+              (says-else (says-lt x x₀));
+        },
+        record { long = c .long; before = λ i k. c .before i (omega arith); behind = λ i k. c .behind i (omega arith) })
+
+-- ---- what is asked of the rows
+
+module _ (s d ns : List ℕ) (pairs j : ℕ) (g : RowsFit s d ns pairs) (h : j < pairs) where
+  pub mask-room : (j + 1) * 2 * rowSize ≤ length ns
+  mask-room = let r = g .pair (j + 1) (omega arith) (omega arith) .room in omega arith
+
+  pub image-room : ((j + 1) * 2 + 1) * rowSize ≤ length ns
+  image-room = g .pair (j + 1) (omega arith) (omega arith) .room
+
+  pub image-fits : (r : Row) → r ≡ rowAt ns ((j + 1) * 2 + 1) → ImageFits s d r
+  image-fits r e = subst (ImageFits s d) (sym e) (g .pair (j + 1) (omega arith) (omega arith) .image)
+
+pub image-plain : (ns : List ℕ) (pairs j : ℕ) (r : Row) → PlainRows ns pairs → j < pairs → r ≡ rowAt ns ((j + 1) * 2 + 1) → Plain r
+image-plain ns pairs j r g h e = subst Plain (sym e) (g .image (j + 1) (omega arith))
+
+pub ruleset agreeing = (needs, mask-room, image-room, image-fits, image-plain, told-read)
