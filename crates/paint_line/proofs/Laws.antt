@@ -1,17 +1,20 @@
 -- One law for each way out of the functions that paint a row: its premises are what is known there.
 -- Assumes nothing.
-use Prim.Native.Nat.{ℕ, zero, suc, _+_, _-_, _*_, _≤_, _<_}
+use Prim.Native.Nat.{ℕ, zero, suc, _+_, _-_, _*_, _/_, _%_, _≤_, _<_}
 use native.Mathlib.Omega.{arith}
 use mathlib.Core.Path.{_≡_, refl, sym, ap, ap₂, subst, _∙_}
 use mathlib.Core.Logic.{_≢_, ⊎-elim}
 use mathlib.Core.Bool.{Bool, true, false, _&&_, cond}
 use mathlib.Core.List.{List, [], _∷_}
-use lib.ListN.{length, getD}
+use lib.ListN.{length, getD, take, drop}
+use lib.Seq.{ext-getD}
 use lib.Dec.{eqb, ltb}
 use borrow.Author.Tests.{eq-eqb, ne-eqb, lt-ltb, le-ltb}
 use borrow.Author.Needs.{needs}
 use Rattle.laws.proofs.Cases.{clash}
 use Rattle.laws.proofs.Says.{says-eq, says-and, says-lt, says-else}
+use Rattle.octets.specs.Octets.{putAt}
+use Rattle.octets.proofs.Laws.{put-length, put-getD, put-getD-after, drop-octet}
 use Rattle.sheet_rules.specs.declared.Colour.{Colour}
 use Rattle.pixel_rules.specs.declared.MainPos.{MainPos}
 use Rattle.pixel_rules.specs.declared.Sample.{Sample}
@@ -21,7 +24,9 @@ use Rattle.pixel_rules.specs.declared.Mask.the-variants.{Zero, One, Hidden}
 use Rattle.pixel_rules.specs.Place.{scale}
 use Rattle.pixel_rules.specs.Samples.{bitOf}
 use Rattle.pixel_rules.specs.Decide.{Stack, sameColour, agree, decide}
-use Rattle.picture_rules.specs.Line.{fourOf}
+use Rattle.picture_rules.specs.Line.{fourOf, pixels}
+use Rattle.picture_rules.specs.Demand.{fourAt}
+use Rattle.picture_rules.proofs.Fours.{length-pixels, pixels-four}
 use Rattle.line_fetch.specs.declared.Row.{Row}
 use Rattle.line_fetch.specs.Rows.{rowSize, rowAt, rowMask, rowImage, ImageFits}
 use Rattle.line_fetch.proofs.Laws.{mask-before, mask-after, mask-unread, mask-read}
@@ -30,8 +35,8 @@ use Rattle.paint_rules.specs.Floor.{dark, Settled, chosen, stage}
 use Rattle.paint_rules.proofs.Floors.{chosen-stage, stage-same, stage-agrees, stage-end}
 use Rattle.paint_words.specs.Words.{octetsOf, fourFrom}
 use Rattle.paint_coat.specs.Coat.{Coated, over}
-use Rattle.paint_coat.proofs.Coats.{four-same}
-use Rattle.paint_image.specs.Image.{shownFour, imageFrom, Within, Plain}
+use Rattle.paint_coat.proofs.Coats.{four-same, coated-none, coated-chain, coated-as}
+use Rattle.paint_image.specs.Image.{shownFour, imageFrom, moved, Within, Plain}
 use Rattle.paint_agree.specs.Agree.{sameFour, agreed, settles}
 use Rattle.paint_floor.specs.Floors.{PlainRows, Sure, Starts}
 use Rattle.paint_show.specs.Show.{floorFrom, shows, Paired}
@@ -190,3 +195,162 @@ pub image-plain : (ns : List ℕ) (pairs j : ℕ) (r : Row) → PlainRows ns pai
 image-plain ns pairs j r g h e = subst Plain (sym e) (g .image (j + 1) (omega arith))
 
 pub ruleset agreeing = (needs, mask-room, image-room, image-fits, image-plain, told-read)
+
+-- ---- all pairs
+
+pub record Agreeing (u : Colour) (s d ns sel : List ℕ) (pairs a b : ℕ) (l row₀ out row : List ℕ) (j : ℕ) : Type 0 where
+  pub upto : j ≤ pairs
+  pub wide : length row ≡ length row₀
+  pub told : Told u s d ns sel a b j out
+  pub kept : Kept a b l out
+
+module _ (u : Colour) (s d ns sel : List ℕ) (pairs a b : ℕ) (l row₀ : List ℕ) where
+  pub agreeing-begun : (f : ℕ) → f ≤ pairs → Told u s d ns sel a b f l → Agreeing u s d ns sel pairs a b l row₀ l row₀ f
+  agreeing-begun f h t = record { upto = h; wide = refl; told = t; kept = record { long = refl; before = λ i k. refl; behind = λ i k. refl } }
+
+  pub agreeing-more : (out row new n : List ℕ) (j : ℕ) → Agreeing u s d ns sel pairs a b l row₀ out row j → j < pairs → length n ≡ length row → Told u s d ns sel a b (j + 1) new × Kept a b out new
+      → Agreeing u s d ns sel pairs a b l row₀ new n (j + 1)
+  agreeing-more out row new n j c h w g =
+      let k = g .1 in
+      record {
+        upto = omega arith;
+        wide = w ∙ c .wide;
+        told = g .0;
+        kept = record { long = k .long ∙ c .kept .long; before = λ i p. k .before i p ∙ c .kept .before i p; behind = λ i p. k .behind i p ∙ c .kept .behind i p };
+      }
+
+  pub agreeing-end : (out row : List ℕ) (j : ℕ) → Agreeing u s d ns sel pairs a b l row₀ out row j → pairs ≤ j → Told u s d ns sel a b pairs out × Kept a b l out
+  agreeing-end out row j c h = let p = c .upto in let z : j ≡ pairs = omega arith in (subst (λ (i : ℕ). Told u s d ns sel a b i out) z (c .told), c .kept)
+
+pub ruleset agreeings = (needs, agreeing-begun, agreeing-end)
+
+-- ---- a part
+
+module _ (u : Colour) (s d ns : List ℕ) (pairs f a b : ℕ) (un : List ℕ) (eu : un ≡ fourOf u Unknown) (few : pairs ≤ 7) where
+  -- the highest pair covers it all
+  pub part-covered : (l e : List ℕ) → Starts s d ns pairs a b f → f ≡ pairs → Coated (over (moved a a (floorFrom un s d ns f))) l a (a + (b - a)) e → a ≤ b → Coated (decided u s d ns pairs) l a b e
+  unfolding over moved floorFrom chosen decided
+  part-covered l e g z c h =
+      let y : a + (b - a) ≡ b = omega arith in
+      let k = g .most in
+      subst (λ (i : ℕ). Coated (decided u s d ns pairs) l a i e) y
+      (coated-as (over (moved a a (floorFrom un s d ns f))) (decided u s d ns pairs) l e a (a + (b - a))
+      (λ x o p q.
+      let w : a + (x - a) ≡ x = omega arith in
+      ap (λ (i : ℕ). shownFour un (chosen (rowStack s d ns (record { 0 = i })) f)) w
+      ∙ shown-is u un (chosen (rowStack s d ns (record { 0 = x })) f) eu
+      ∙ ap (fourOf u) (rw (ne-eqb f dark (λ (v : f ≡ dark). omega arith)) (sym (g .shows x p (omega arith)) ∙ ap (decide (rowStack s d ns (record { 0 = x }))) z))) c)
+
+  pub floors-paired : (sel : List ℕ) → Sure s d ns f a (b - a) pairs sel → Paired sel 0 (b - a) pairs
+  floors-paired sel g = record { few = λ i p q n. g .held i q .most n }
+
+  pub floors-told : (sel l o : List ℕ) → Sure s d ns f a (b - a) pairs sel → Coated (shows un s d ns sel a) l a b o → Told u s d ns sel a b f o
+  unfolding shows floorFrom
+  floors-told sel l o g c =
+      record {
+        there = λ x p q.
+            let z : a + (x - a) ≡ x = omega arith in
+            let k = subst (λ (i : ℕ). Settled (rowStack s d ns (record { 0 = i })) f (getD sel (x - a) 0) pairs) z (g .held (x - a) (omega arith)) in
+            c .there x p q ∙ shown-is u un (chosen (rowStack s d ns (record { 0 = x })) (getD sel (x - a) 0)) eu
+            ∙ ap (fourOf u) (chosen-stage (rowStack s d ns (record { 0 = x })) f (getD sel (x - a) 0) pairs k);
+      }
+
+  pub part-painted : (sel l o e : List ℕ) → Sure s d ns f a (b - a) pairs sel → Coated (shows un s d ns sel a) l a b o → Told u s d ns sel a b pairs e × Kept a b o e → Coated (decided u s d ns pairs) l a b e
+  unfolding decided
+  part-painted sel l o e g c k =
+      record {
+        long = k .1 .long ∙ c .long;
+        there = λ x p q.
+            let z : a + (x - a) ≡ x = omega arith in
+            let h = subst (λ (i : ℕ). Settled (rowStack s d ns (record { 0 = i })) f (getD sel (x - a) 0) pairs) z (g .held (x - a) (omega arith)) in
+            k .0 .there x p q ∙ ap (fourOf u) (stage-end (rowStack s d ns (record { 0 = x })) f (getD sel (x - a) 0) pairs h);
+        before = λ i h. k .1 .before i h ∙ c .before i h;
+        behind = λ i h. k .1 .behind i h ∙ c .behind i h;
+      }
+
+pub ruleset parting = (needs, part-covered, floors-paired, floors-told, part-painted)
+
+-- ---- the row
+
+four-taken : (v : List ℕ) (x : ℕ) → x * 4 + 4 ≤ length v → fourFrom v (x * 4) ≡ fourAt v x
+unfolding fourFrom
+four-taken v x h =
+    let a = drop-octet v (x * 4) (omega arith) in
+    let b = drop-octet v (x * 4 + 1) (omega arith) in
+    let c = drop-octet v (x * 4 + 2) (omega arith) in
+    let d = drop-octet v (x * 4 + 3) (omega arith) in
+    let p : x * 4 + 1 + 1 ≡ x * 4 + 2 = omega arith in
+    let q : x * 4 + 2 + 1 ≡ x * 4 + 3 = omega arith in
+    sym (ap (take 4) (a ∙ ap (λ (r : List ℕ). getD v (x * 4) 0 ∷ r) (b ∙ ap (λ (r : List ℕ). getD v (x * 4 + 1) 0 ∷ r)
+    (ap (λ (i : ℕ). drop i v) p ∙ c ∙ ap (λ (r : List ℕ). getD v (x * 4 + 2) 0 ∷ r) (ap (λ (i : ℕ). drop i v) q ∙ d)))))
+
+pub record Painting (u : Colour) (s d ns : List ℕ) (pairs width : ℕ) (l out : List ℕ) (x : ℕ) : Type 0 where
+  pub upto : x ≤ width
+  pub long : length out ≡ length l
+  pub done : Coated (decided u s d ns pairs) l 0 x out
+
+module _ (u : Colour) (s d ns : List ℕ) (pairs width : ℕ) (l : List ℕ) where
+  pub painting-begun : Painting u s d ns pairs width l l 0
+  painting-begun = record { upto = omega arith; long = refl; done = coated-none (decided u s d ns pairs) l 0 0 (omega arith) }
+
+  pub painting-more : (out new : List ℕ) (x e : ℕ) → Painting u s d ns pairs width l out x → x < e → e ≤ width → Coated (decided u s d ns pairs) out x e new → Painting u s d ns pairs width l new e
+  painting-more out new x e c p q g =
+      record { upto = q; long = g .long ∙ c .long; done = coated-chain (decided u s d ns pairs) l out new 0 x e (omega arith) (omega arith) (c .done) g }
+
+  octet-at : (v : List ℕ) (x k : ℕ) → k < 4 → getD v (x * 4 + k) 0 ≡ getD (fourFrom v (x * 4)) k 0
+  unfolding fourFrom
+  octet-at v x zero h = let z : x * 4 + 0 ≡ x * 4 = omega arith in ap (λ (i : ℕ). getD v i 0) z
+  octet-at v x (suc zero) h = refl
+  octet-at v x (suc (suc zero)) h = refl
+  octet-at v x (suc (suc (suc zero))) h = refl
+  octet-at v x (suc (suc (suc (suc k)))) h = absurd (omega arith)
+
+  abbrev sample : MainPos → Sample
+  sample x = decide (rowStack s d ns x) pairs
+
+  four-pixels : (x : ℕ) → x < width → fourFrom (pixels u sample width) (x * 4) ≡ fourOf u (sample (record { 0 = x }))
+  unfolding fourFrom
+  four-pixels x h =
+      let e = pixels-four u sample width x h in
+      let n = length-pixels u sample width in
+      four-taken (pixels u sample width) x (omega arith) ∙ e
+
+  pub painting-end : (out : List ℕ) (x : ℕ) → Painting u s d ns pairs width l out x → width ≤ x → width * 4 ≤ length l → out ≡ putAt l 0 (pixels u sample width)
+  unfolding decided
+  painting-end out x c h r =
+      let p = c .upto in
+      let z : x ≡ width = omega arith in
+      let n = length-pixels u sample width in
+      let g = c .done in
+      ext-getD 0 out (putAt l 0 (pixels u sample width)) (c .long ∙ sym (put-length l 0 (pixels u sample width) (omega arith)))
+      (λ i k. ⊎-elim
+      (λ (y : i < width * 4).
+      let q : i / 4 * 4 + i % 4 ≡ i = omega arith in
+      let t : i % 4 < 4 = omega arith in
+      ap (λ (j : ℕ). getD out j 0) (sym q) ∙ octet-at out (i / 4) (i % 4) t
+      ∙ ap (λ (v : List ℕ). getD v (i % 4) 0) (g .there (i / 4) (omega arith) (omega arith) ∙ sym (four-pixels (i / 4) (omega arith)))
+      ∙ sym (octet-at (pixels u sample width) (i / 4) (i % 4) t) ∙ ap (λ (j : ℕ). getD (pixels u sample width) j 0) q
+      ∙ sym (put-getD l 0 (pixels u sample width) i (omega arith) (omega arith)) ∙ ap (λ (j : ℕ). getD (putAt l 0 (pixels u sample width)) j 0) (let w : 0 + i ≡ i = omega arith in w))
+      (λ (y : i < width * 4 → ⊥). g .behind i (omega arith) ∙ sym (put-getD-after l 0 (pixels u sample width) i (omega arith) (omega arith)))
+      (says-else (says-lt i (width * 4))))
+
+pub ruleset painting = (needs, painting-begun, painting-more, painting-end)
+
+module _ (s d ns : List ℕ) (pairs j : ℕ) (g : RowsFit s d ns pairs) (h : j < pairs) where
+  pub first-room : (j + 1) * 2 * rowSize ≤ length ns
+  first-room = mask-room s d ns pairs j g h
+
+  pub first-image-room : ((j + 1) * 2 + 1) * rowSize ≤ length ns
+  first-image-room = image-room s d ns pairs j g h
+
+pub part-some : (x w n r : ℕ) → 0 < n → Within (x + n) x w r → x < w → x < r
+part-some x w n r k g h =
+    ⊎-elim (λ (z : x < r). z) (λ (z : x < r → ⊥). let l = g .low in let p = g .behind x (omega arith) h in absurd (omega arith)) (says-else (says-lt x r))
+
+pub part-most : (x w n r : ℕ) → Within (x + n) x w r → r ≤ x + n
+part-most x w n r g =
+    ⊎-elim (λ (z : x + n < r). let p = g .before (x + n) (omega arith) z in absurd (omega arith)) (λ (z : x + n < r → ⊥). omega arith) (says-else (says-lt (x + n) r))
+
+pub unseen-word : (u : Colour) (w : ℕ) → octetsOf w ≡ u .c0 ∷ u .c1 ∷ u .c2 ∷ 0 ∷ [] → octetsOf w ≡ fourOf u Unknown
+unfolding fourOf
+unseen-word u w e = e
