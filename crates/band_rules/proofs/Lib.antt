@@ -1,0 +1,5 @@
+pub mod Octets
+pub mod Ruled
+pub mod Exactly
+pub mod Refused
+pub mod Bands
