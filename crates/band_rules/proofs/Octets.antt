@@ -24,8 +24,7 @@ module _ (u : Colour) (v : Scene) where
   pub length-lines : (n : ℕ) → length (bandLines u v n) ≡ n * lineSize v
   unfolding bandLines
   length-lines zero = sym (zero-mul (lineSize v))
-  length-lines (suc n) =
-      let l = length-lines n in let m = length-line u v n in let a = length-append (bandLines u v n) (linePixels u v n) in omega arith
+  length-lines (suc n) = simp (length-append, length-line, length-lines n) (omega arith)
 
   -- line y has the octets of its place
   pub lines-line : (n y : ℕ) → y < n → take (lineSize v) (drop (y * lineSize v) (bandLines u v n)) ≡ linePixels u v y

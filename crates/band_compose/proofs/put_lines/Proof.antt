@@ -1,7 +1,7 @@
 use native.Mathlib.Omega.{arith}
 use Prim.Native.Nat.{_-_}
 use Rattle.line_compose.specs.Composing.{sceneFrom}
-use Rattle.band_compose.proofs.Laws.{Stacked, stacked-room, stacking}
+use Rattle.band_compose.proofs.Laws.{Stacked, stacked-room, stacked-more, stacking}
 use Rattle.band_compose.proofs.put_lines.Statement.{statement}
 use Rattle.band_compose.proofs.put_lines.Tie as tie
 
@@ -35,7 +35,11 @@ loop-less : tie.Need-loop-less Inv-loop μ-loop
 loop-less c = search stacking
 
 loop-again : tie.Need-loop-again Inv-loop μ-loop
-loop-again c = search stacking
+loop-again c =
+    stacked-more _ _ _ _ _ _ _ _ _ _
+    (c .before .before .before .before .before .loop .inv) _
+    (c .before .before .before .before .loop-test .taken)
+    (c .before .before .put-line .ensures)
 
 same-length : tie.Need-same-length Inv-loop μ-loop
 same-length c = search stacking
