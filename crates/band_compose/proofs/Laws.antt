@@ -40,7 +40,7 @@ use Rattle.line_verdict.specs.declared.Ruled.{Ruled}
 use Rattle.line_verdict.specs.declared.Ruled.the-variants.{Shows, Refused}
 use Rattle.line_verdict.specs.Ruled.{listFrom, ruledOf}
 use Rattle.line_compose.specs.Composing.{sceneFrom, Showable}
-use Rattle.line_compose.proofs.Laws.{shown-place, shown-standing, shown-rows, shown-fits, shown-pixels, shown-wide, ruled-refused, ruled-shown, line-shown, listed-first}
+use Rattle.line_compose.proofs.Laws.{shown-place, shown-standing, shown-rows, rows-shown, shown-pixels, shown-wide, ruled-refused, ruled-shown, line-shown, listed-first}
 use Rattle.band_compose.specs.Banding.{LineFits, LinesFit, Banded}
 
 -- ---- the size
@@ -72,18 +72,18 @@ part-back d at v h =
     ∙ ap (λ (a : List ℕ). take at d ++ (v ++ a)) (drop-drop (0 + length v) at d)
     ∙ ap (λ (n : ℕ). take at d ++ (v ++ drop n d)) z
 
-module _ (s : List ℕ) (extent : Extent) (t : Listing) (d : List ℕ) (y width at : ℕ) (out : List ℕ) (g : LineFits (sceneFrom s extent t d) y width at (length out)) where
+module _ (s : List ℕ) (extent : Extent) (t : Listing) (d : List ℕ) (y width at : ℕ) (out base : List ℕ) (g : LineFits (sceneFrom s extent t d) y width at (length out) (length base)) where
   abbrev here : Scene
   here = sceneFrom s extent t d
 
   pub line-standing : Standing s extent
   line-standing = shown-standing s extent t d y (g .shown)
 
-  pub line-rows : extent .layers * rowSize ≤ length {A = ℕ} (replicate rowsSize 0)
-  line-rows = shown-rows s extent t d y (g .shown)
+  pub line-rows : extent .layers * rowSize ≤ length base
+  line-rows = g .rows
 
-  pub line-fits : (rows : List ℕ) → rows ≡ putAt (replicate rowsSize 0) 0 (rowsOf s extent (entriesOf t) (record { 0 = y }) (extent .layers)) → RowsFit s d rows (extent .layers / 2)
-  line-fits rows e = shown-fits s extent t d y (g .shown) rows e
+  pub line-fits : (rows : List ℕ) → rows ≡ putAt base 0 (rowsOf s extent (entriesOf t) (record { 0 = y }) (extent .layers)) → RowsFit s d rows (extent .layers / 2)
+  line-fits rows e = rows-shown s extent t d y (g .shown) base rows (g .rows) e
 
   pub line-room : width * 4 ≤ length (take (length out - at) (drop at out))
   line-room =
@@ -100,14 +100,14 @@ module _ (s : List ℕ) (extent : Extent) (t : Listing) (d : List ℕ) (y width 
       let m = n .1 in
       omega arith
 
-  pub line-put : (u : Colour) (rows e : List ℕ) → rows ≡ putAt (replicate rowsSize 0) 0 (rowsOf s extent (entriesOf t) (record { 0 = y }) (extent .layers))
+  pub line-put : (u : Colour) (rows e : List ℕ) → rows ≡ putAt base 0 (rowsOf s extent (entriesOf t) (record { 0 = y }) (extent .layers))
       → e ≡ putAt (take (length out - at) (drop at out)) 0 (pixels u (λ (x : MainPos). decide (rowStack s d rows x) (extent .layers / 2)) width)
       → take at out ++ (e ++ drop (length out - at) (drop at out)) ≡ putAt out at (linePixels u here y)
   line-put u rows e er ee =
       let w = g .wide in
       let f = g .fits in
       let l = length-line u here y in
-      let p = shown-pixels s extent t d y (g .shown) u rows er in
+      let p = shown-pixels s extent t d y (g .shown) base rows (g .rows) er u in
       ap (λ (a : List ℕ). take at out ++ (a ++ drop (length out - at) (drop at out)))
       (ee ∙ ap (λ (n : ℕ). putAt (take (length out - at) (drop at out)) 0 (pixels u (λ (x : MainPos). decide (rowStack s d rows x) (extent .layers / 2)) n)) w
       ∙ ap (putAt (take (length out - at) (drop at out)) 0) p)
@@ -171,8 +171,12 @@ module _ (u : Colour) (s : List ℕ) (extent : Extent) (t : Listing) (d : List �
         turned : (a b : ℕ) → a * b * 4 ≡ b * (a * 4)
         turned a b = omega arith
 
-    pub stacked-line : y < extent .height → LineFits scene y width at (length out)
-    stacked-line h = record { shown = showable-line s extent t d y h (g .fits .shown); wide = g .fits .wide; fits = stacked-room h }
+    -- and its rows in as many numbers as any line's
+    pub stacked-line : (numbers : ℕ) → rowsSize ≤ numbers → y < extent .height → LineFits scene y width at (length out) numbers
+    stacked-line numbers r h =
+        let c = shown-rows s extent t d 0 (g .fits .shown) in
+        let n : length {A = ℕ} (replicate rowsSize 0) ≡ rowsSize = refl in
+        record { shown = showable-line s extent t d y h (g .fits .shown); wide = g .fits .wide; fits = stacked-room h; rows = omega arith }
 
     pub stacked-more : (new : List ℕ) → y < extent .height → new ≡ putAt out at (linePixels u scene y) → Stacked u scene width out₀ new (at + width * 4) (y + 1)
     unfolding bandLines

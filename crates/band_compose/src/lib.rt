@@ -26,10 +26,11 @@ pub fn band_size(width: usize, height: usize) -> usize
     width * height * 4
 }
 
-// A line of a stripe that is to be shown, put at its place in the band.
+// A line of a stripe that is to be shown, put at its place in the band; `rows` is room for what the line needs of each layer.
 pub fn put_line(
     out: &mut [u8],
     at: usize,
+    rows: &mut [usize],
     sheet: &[u8],
     extent: Extent,
     list: Listing,
@@ -38,16 +39,15 @@ pub fn put_line(
     width: usize,
     unseen: Colour,
 )
-    requires { ⌜ LineFits (sceneFrom (now sheet) extent list (now samples)) y width at (length (now out)) ⌝ }
+    requires { ⌜ LineFits (sceneFrom (now sheet) extent list (now samples)) y width at (length (now out)) (length (now rows)) ⌝ }
     ensures { λ _. ⌜ now (out .exit) ≡ putAt (now (out .entry)) at (linePixels unseen (sceneFrom (now (sheet .entry)) extent list (now (samples .entry))) y) ⌝ }
 {
-    let mut rows: [usize; ROWS_SIZE] = [0; ROWS_SIZE];
-    line_rows::put_rows(&mut rows, sheet, extent, list, MainPos(y));
+    line_rows::put_rows(rows, sheet, extent, list, MainPos(y));
     line_put::put_pixels(
         &mut out[at..],
         sheet,
         samples,
-        &rows,
+        rows,
         extent.layers as usize / 2,
         width,
         unseen,
@@ -69,10 +69,22 @@ pub fn put_lines(
 {
     let height = extent.height as usize;
     let size = width * 4;
+    let mut rows: [usize; ROWS_SIZE] = [0; ROWS_SIZE];
     let mut at: usize = 0;
     let mut y: usize = 0;
     while y < height {
-        put_line(out, at, sheet, extent, list, samples, y, width, unseen);
+        put_line(
+            out,
+            at,
+            &mut rows,
+            sheet,
+            extent,
+            list,
+            samples,
+            y,
+            width,
+            unseen,
+        );
         at += size;
         y += 1;
     }

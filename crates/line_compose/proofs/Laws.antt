@@ -74,17 +74,20 @@ module _ (s : List ℕ) (extent : Extent) (t : Listing) (d : List ℕ) (y : ℕ)
   pub shown-rows : extent .layers * rowSize ≤ length {A = ℕ} (replicate rowsSize 0)
   shown-rows = let c = stage-layers stage in let n : length {A = ℕ} (replicate rowsSize 0) ≡ rowsSize = refl in omega arith
 
-  pub shown-fits : (rows : List ℕ) → rows ≡ putAt (replicate rowsSize 0) 0 (rowsOf s extent (entriesOf t) (record { 0 = y }) (extent .layers)) → RowsFit s d rows (extent .layers / 2)
-  shown-fits rows e = subst (λ (r : List ℕ). RowsFit s d r (extent .layers / 2)) (sym e) (rows-fit here list (g .stripe) y (record { 0 = y }) stage whole (replicate rowsSize 0) shown-rows)
+  -- the rows of the line, put in front of any numbers that hold as many
+  module _ (base rows : List ℕ) (room : extent .layers * rowSize ≤ length base) (e : rows ≡ putAt base 0 (rowsOf s extent (entriesOf t) (record { 0 = y }) (extent .layers))) where
+    pub rows-shown : RowsFit s d rows (extent .layers / 2)
+    rows-shown = subst (λ (r : List ℕ). RowsFit s d r (extent .layers / 2)) (sym e) (rows-fit here list (g .stripe) y (record { 0 = y }) stage whole base room)
 
-  -- the pixels that are put are those of the line
-  pub shown-pixels : (u : Colour) (rows : List ℕ) → rows ≡ putAt (replicate rowsSize 0) 0 (rowsOf s extent (entriesOf t) (record { 0 = y }) (extent .layers))
-      → pixels u (λ (x : MainPos). decide (rowStack s d rows x) (extent .layers / 2)) (widthOf here) ≡ linePixels u here y
-  unfolding linePixels
-  shown-pixels u rows er =
-      ap (λ (r : List ℕ). pixels u (λ (x : MainPos). decide (rowStack s d r x) (extent .layers / 2)) (widthOf here)) er
-      ∙ ap (λ (f : MainPos → Sample). pixels u f (widthOf here))
-      (λ i x. pixel-is here list (g .stripe) y (record { 0 = y }) stage whole (replicate rowsSize 0) shown-rows x i)
+    -- the pixels that are put are those of the line
+    pub shown-pixels : (u : Colour) → pixels u (λ (x : MainPos). decide (rowStack s d rows x) (extent .layers / 2)) (widthOf here) ≡ linePixels u here y
+    unfolding linePixels
+    shown-pixels u =
+        ap (λ (r : List ℕ). pixels u (λ (x : MainPos). decide (rowStack s d r x) (extent .layers / 2)) (widthOf here)) e
+        ∙ ap (λ (f : MainPos → Sample). pixels u f (widthOf here)) (λ i x. pixel-is here list (g .stripe) y (record { 0 = y }) stage whole base room x i)
+
+  pub shown-fits : (rows : List ℕ) → rows ≡ putAt (replicate rowsSize 0) 0 (rowsOf s extent (entriesOf t) (record { 0 = y }) (extent .layers)) → RowsFit s d rows (extent .layers / 2)
+  shown-fits rows e = rows-shown (replicate rowsSize 0) rows shown-rows e
 
   pub shown-wide : (second : Record) (width : ℕ) → second ≡ recordAt s (extent .first + 1) → width ≡ second .width → width ≡ widthOf here
   unfolding layerRecord
@@ -109,7 +112,7 @@ module _ (s : List ℕ) (extent : Extent) (t : Listing) (d : List ℕ) (y : ℕ)
           answers = rw z (ap (λ (n : ℕ). Done (n * 4)) wide-is);
           holds = rw z
               (ee ∙ ap (λ (n : ℕ). putAt out 0 (pixels u (λ (x : MainPos). decide (rowStack s d rows x) (extent .layers / 2)) n)) wide-is
-              ∙ ap (putAt out 0) (shown-pixels u rows er));
+              ∙ ap (putAt out 0) (shown-pixels (replicate rowsSize 0) rows shown-rows er u));
         }
 
 pub ruleset showing = (needs, shown-place, shown-standing, shown-rows, shown-fits, shown-no-room, shown-done)

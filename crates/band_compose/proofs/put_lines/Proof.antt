@@ -1,15 +1,18 @@
-use native.Mathlib.Omega.{arith}
 use Prim.Native.Nat.{_-_}
+use native.Mathlib.Omega.{arith}
+use mathlib.Core.Path.{_≡_}
+use lib.ListN.{length}
+use Rattle.line_fetch.specs.Rows.{rowsSize}
 use Rattle.line_compose.specs.Composing.{sceneFrom}
-use Rattle.band_compose.proofs.Laws.{Stacked, stacked-room, stacked-more, stacking}
+use Rattle.band_compose.proofs.Laws.{Stacked, stacked-room, stacked-line, stacked-more, stacking}
 use Rattle.band_compose.proofs.put_lines.Statement.{statement}
 use Rattle.band_compose.proofs.put_lines.Tie as tie
 
 abbrev Inv-loop : tie.InvT-loop
-Inv-loop out₀ sheet extent list samples width unseen height size at₀ y₀ out at y = Stacked unseen (sceneFrom sheet extent list samples) width out₀ out at y
+Inv-loop out₀ sheet extent list samples width unseen height size rows₀ at₀ y₀ out rows at y = Stacked unseen (sceneFrom sheet extent list samples) width out₀ out at y × (length rows ≡ rowsSize)
 
 abbrev μ-loop : tie.MeasureT-loop
-μ-loop out₀ sheet extent list samples width unseen height size at₀ y₀ out at y = extent .height - y
+μ-loop out₀ sheet extent list samples width unseen height size rows₀ at₀ y₀ out rows at y = extent .height - y
 
 cast-height : tie.Need-cast-height Inv-loop μ-loop
 cast-height c = search stacking
@@ -20,12 +23,15 @@ mul-size c = search stacking
 loop-holds : tie.Need-loop-holds Inv-loop μ-loop
 loop-holds c = search stacking
 
+slice-aggregate-put-line : tie.Need-slice-aggregate-put-line Inv-loop μ-loop
+slice-aggregate-put-line c = search stacking
+
 put-line-requires : tie.Need-put-line-requires Inv-loop μ-loop
-put-line-requires c κs = search stacking
+put-line-requires c κs = stacked-line _ _ _ _ _ _ _ _ _ _ (c .before .before .before .loop .inv .0) _ (omega arith) (c .before .before .loop-test .taken)
 
 add-at : tie.Need-add-at Inv-loop μ-loop
 add-at c =
-    let room = stacked-room _ _ _ _ _ _ _ _ _ _ (c .before .before .before .before .before .loop .inv) (c .before .before .before .before .loop-test .taken) in
+    let room = stacked-room _ _ _ _ _ _ _ _ _ _ (c .before .before .before .before .before .before .before .loop .inv .0) (c .before .before .before .before .before .before .loop-test .taken) in
     record { fits = omega arith }
 
 add-y : tie.Need-add-y Inv-loop μ-loop
@@ -35,11 +41,13 @@ loop-less : tie.Need-loop-less Inv-loop μ-loop
 loop-less c = search stacking
 
 loop-again : tie.Need-loop-again Inv-loop μ-loop
-loop-again c =
-    stacked-more _ _ _ _ _ _ _ _ _ _
-    (c .before .before .before .before .before .loop .inv) _
-    (c .before .before .before .before .loop-test .taken)
-    (c .before .before .put-line .ensures)
+loop-again c = (
+  stacked-more _ _ _ _ _ _ _ _ _ _
+      (c .before .before .before .before .before .before .before .loop .inv .0) _
+      (c .before .before .before .before .before .before .loop-test .taken)
+      (c .before .before .before .put-line .ensures),
+  search stacking,
+)
 
 same-length : tie.Need-same-length Inv-loop μ-loop
 same-length c = search stacking
@@ -56,6 +64,7 @@ put-lines-spec =
     cast-height
     mul-size
     loop-holds
+    slice-aggregate-put-line
     put-line-requires
     add-at
     add-y
