@@ -26,10 +26,11 @@ use Rattle.pixel_rules.specs.Planes.{PlaneList, listOf}
 use Rattle.pixel_rules.specs.Samples.{Scene, widthOf}
 use Rattle.pixel_rules.specs.Decide.{decide}
 use Rattle.picture_rules.specs.Line.{pixels, linePixels, rulingOf}
-use Rattle.picture_rules.proofs.Scenes.{shows-stage, stage-shows, scene-width}
+use Rattle.picture_rules.proofs.Scenes.{shows-stage, stage-extent, scene-width}
 use Rattle.picture_rules.proofs.Fours.{length-line}
 use Rattle.band_rules.specs.Band.{bandLines, bandSize, bandAnswer, bandOf, bandHolds, bandInto, Bands}
 use Rattle.band_rules.proofs.Octets.{lines-below, length-lines}
+use Rattle.band_rules.proofs.Ruled.{ruling-any-line}
 use Rattle.band_rules.proofs.Bands.{bands-first}
 use Rattle.line_fetch.specs.Rows.{rowSize, rowsSize}
 use Rattle.line_planes.specs.declared.Listing.{Listing}
@@ -121,22 +122,11 @@ pub ruleset lining = (needs, line-standing, line-rows, line-fits, line-room, lin
 showable-line : (s : List ℕ) (extent : Extent) (t : Listing) (d : List ℕ) (y : ℕ) → y < extent .height → Showable (sceneFrom s extent t d) 0 → Showable (sceneFrom s extent t d) y
 showable-line s extent t d y h g =
     let list : PlaneList = record { entries = entriesOf t; part = g .part } in
-    let a = shows-stage s list d (g .stripe) 0 (sceneFrom s extent t d) (g .ruling) in
+    let here = stage-extent (shows-stage s list d (g .stripe) 0 (sceneFrom s extent t d) (g .ruling)) in
     record {
       stripe = g .stripe;
       part = g .part;
-      ruling = stage-shows s list d (g .stripe) y (sceneFrom s extent t d)
-          (record {
-            records = a .records;
-            stripes = a .stripes;
-            good = a .good;
-            found = a .found;
-            line = h;
-            sheet = a .sheet;
-            planes = a .planes;
-            samples = a .samples;
-            judged = a .judged;
-          });
+      ruling = ruling-any-line s list d (g .stripe) y (subst (λ (x : Extent). y < x .height) here h) ∙ g .ruling;
     }
 
 -- so many lines are put, and the next stands behind them

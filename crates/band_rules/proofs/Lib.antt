@@ -3,3 +3,4 @@ pub mod Ruled
 pub mod Exactly
 pub mod Refused
 pub mod Bands
+pub mod Sizes
