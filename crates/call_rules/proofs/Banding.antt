@@ -1,8 +1,8 @@
 -- What a viewer may rely on after a band, of the exported calls' promise alone: its octets are those of line calls, and so are its refusals, but for the room.
 -- Assumes nothing.
-use Prim.Native.Nat.{ℕ, _+_, _*_, _<_}
+use Prim.Native.Nat.{ℕ, _+_, _*_, _≤_, _<_}
 use native.Mathlib.Omega.{arith}
-use mathlib.Core.Path.{_≡_, sym, ap, _∙_}
+use mathlib.Core.Path.{_≡_, refl, sym, ap, _∙_}
 use mathlib.Core.Logic.{_↔_}
 use mathlib.Core.List.{List, [], _∷_}
 use lib.ListN.{length, take, drop}
@@ -15,17 +15,17 @@ use Rattle.pixel_rules.specs.Planes.{listOf}
 use Rattle.pixel_rules.specs.Samples.{Scene, widthOf}
 use Rattle.pixel_rules.specs.Content.{SeenAs}
 use Rattle.picture_rules.specs.Line.{lineOf}
-use Rattle.picture_rules.specs.Sentences.{sceneOf}
+use Rattle.picture_rules.specs.Sentences.{sceneOf, lined}
 use Rattle.picture_rules.specs.Demand.{fourAt, at, Tells}
 use Rattle.picture_rules.proofs.Demand3.{octets-told}
 use Rattle.band_rules.specs.Band.{bandOf, Bands}
-use Rattle.band_rules.specs.Sentences.{lineSize, GivesBand, LineByLine}
+use Rattle.band_rules.specs.Sentences.{lineSize, GivesBand, banded, LineByLine}
 use Rattle.band_rules.proofs.Exactly.{band-exactly}
 use Rattle.band_rules.proofs.Refused.{band-refusal}
 use Rattle.band_rules.proofs.Bands.{bands-lines, bands-pixels, refused-band}
 use Rattle.call_rules.specs.Calls.{LineUnseenCall, BandCall}
 use Rattle.call_rules.proofs.Reports.{report-done, report-refused}
-use Rattle.call_rules.proofs.Lining.{lined-shown}
+use Rattle.call_rules.proofs.Lining.{lined-told, lined-shown}
 
 module _ (sheet planes samples : List ℕ) (k : ℕ) where
   abbrev scene : Scene
@@ -66,6 +66,14 @@ module _ (sheet planes samples : List ℕ) (k : ℕ) where
       -- the octets past the band stay
       pub banded-rest : drop (r .count) out′ ≡ drop (r .count) out
       banded-rest = banded-lines .past
+
+      -- a call of any line of the stripe is done too, where its buffer has room
+      pub banded-each : (y : ℕ) → y < scene .extent .height → (u′ : Colour) (put : List ℕ) (q : Report) (put′ : List ℕ) → LineUnseenCall sheet planes samples k y u′ put q put′
+          → lineSize scene ≤ length put → q ≡ reportOf (Done (lineSize scene))
+      banded-each y h u′ put q put′ l room = from (band-exactly sheet (listOf planes) samples k (length out) (Done (r .count)) .0 (sym (answered .answers)))
+        where
+          from : GivesBand sheet (listOf planes) samples k (length out) (Done (r .count)) → q ≡ reportOf (Done (lineSize scene))
+          from (banded ok has fine e f) = lined-told sheet planes samples k y u′ put q put′ l (Done (lineSize scene)) .1 (lined ok (record { stripe = has; line = h }) fine refl room)
 
       -- beside a call of line y with the same unseen colour: its octets stand y lines down in the band
       pub banded-lined : (y : ℕ) → y < scene .extent .height → (put : List ℕ) (q : Report) (put′ : List ℕ) → LineUnseenCall sheet planes samples k y u put q put′ → q .number ≡ 0
