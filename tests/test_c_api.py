@@ -18,7 +18,8 @@ KINDS = {"read": {**dict.fromkeys(range(1, 13), "octet"), 13: "0", 18: "0"},
          "write": {1: "record", 5: "record", 14: "record", 16: "record", 13: "0", 18: "0"},
          "line": {14: "record", 17: "0", 15: "entry", 13: "0"},
          "data": {14: "record", 17: "0", 1: "record"}, "judge": {14: "record"}}
-SIBLINGS = {"line_unseen": "line"}      # a call has the answers, and the column, of another
+# a call has the answers, and the column, of another
+SIBLINGS = {"line_unseen": "line", "band": "line"}
 
 
 def blocks(text, kind):
