@@ -21,8 +21,8 @@ import sheet_random
 from line_making import GREY
 
 GOOD = reference_run.trials(1200)    # random bands
-WORKED_OUT = 4       # every so manieth random band is worked out here too, which takes the longest
-HELD = 6             # and of the reference's to its lines
+WORKED_OUT = 4       # one random band in so many is worked out here too, which takes the longest
+HELD = 6             # and one of the reference's in so many is held to its lines
 PLANES = 500         # plane lists with faults
 SHEETS = 500         # damaged sheets
 STRIPES = 200        # stripes asked for beside those that there are
@@ -89,7 +89,7 @@ def check_held(tally, works):
                                   parts=reference_run.CALLS + reference_run.BAND_LINES)
     got = calls.ALL["band"].answers(program, [work.call() for work in works])
     for k, (answer, _) in enumerate(got):
-        tally.check(answer.startswith("done"), "random band %d of the reference beside its lines: %s"
+        tally.check(answer.startswith("done"), "random band %d, the reference beside its lines: %s"
                     % (k * HELD, answer))
 
 
@@ -98,7 +98,8 @@ def check_rooms(both, works):
     asked = []
     for k, work in enumerate(works):
         size, due = work.size(), work.due()
-        for room in {0, 1, 4 * work.named().width, size // 2, *range(size - 4, size + 5), size + 64}:
+        for room in {0, 1, 4 * work.named().width, size // 2, size + 64,
+                     *range(size - 4, size + 5)}:
             asked.append(("band %d in room %d" % (k, room), work.call(room=room),
                           due if room >= size else ("refused 13 0", b"")))
     both.check(asked)

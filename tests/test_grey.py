@@ -66,8 +66,8 @@ def scene(rng):
 
 
 def damage(rng, work):
-    """A change that both of a scene take, or that is refused of both at the same place: what differs
-    from the call of one of them."""
+    """A change that both of a scene take, or that is refused of both at the same place: what
+    differs from the call of one of them."""
     stripe = work.named()
     never = [0, 16, *work.planes, *(layer for layer in stripe.layers if layer not in work.coded())]
     changes = [{"room": 4 * stripe.width - 1}, {"room": 0}, {"stripe": len(work.stripes)},

@@ -1,11 +1,11 @@
-"""The widest and the largest bands, the largest layers, and the smallest stack, by the reference and
-by the library.
+"""The widest and the largest bands, the largest layers, and the smallest stack, by the reference
+and by the library.
 
-What is expected is worked out from how each call is put together, or is the reference's answer. Both
-painters run in a stack that is hardly more than a C program needs to begin at all. Layers of 65,535
-by 65,535 samples stand in memory that is never touched but for a few pages; a band of more than 2^32
-octets stands in memory that many of its lines share, and is painted by the library alone, for the
-reference takes its time over each pixel.
+What is expected is worked out from how each call is put together, or is the reference's answer.
+Both painters run in a stack that is hardly more than a C program needs to begin at all. Layers of
+65,535 by 65,535 samples stand in memory that is never touched but for a few pages; a band of more
+than 2^32 octets stands in memory that many of its lines share, and is painted by the library alone,
+for the reference takes its time over each pixel.
 """
 
 import os

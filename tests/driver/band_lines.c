@@ -1,7 +1,7 @@
-/* Paints bands (bands.h) by spirerook_band, and holds each that is Done to spirerook_line_unseen: it
- * must be that call's lines, octet for octet, from the top down and one behind the other; and the
- * line behind its last is BadLine.  Of a band of many lines every so manieth is asked for, the first
- * and the last always.  A breach is told in place of the answer, as any other. */
+/* Paints bands (bands.h) by spirerook_band, and holds each that is Done to spirerook_line_unseen:
+ * it must be that call's lines, octet for octet, from the top down and one behind the other; and
+ * the line behind its last is BadLine.  Of a band of many lines some are asked for, evenly spread,
+ * the first and the last among them.  A breach is told in place of the answer, as any other. */
 #include "bands.h"
 
 #include <string.h>
