@@ -12,7 +12,7 @@ PROGRAMS = spirerook-view spirerook-make
 
 # the programs over the library: host/NAME.c each
 BOTH = apart apart_inside colour digest file new_file lines names sheet_words turns
-VIEW = $(addprefix view/,view options choices book pencil colour_notes layers decode decode_fax decode_t85 decode_jpeg picture screen) $(BOTH)
+VIEW = $(addprefix view/,view options choices book pencil colour_notes layers compose decode decode_fax decode_t85 decode_jpeg picture screen) $(BOTH)
 MAKE_PAGE = $(addprefix make/,make plan plan_layer plan_words picture_in picture_png picture_pnm to_lab code_fax code_t85 code_jpeg layers sheets side notes outputs octets trouble) $(BOTH)
 # they open what strangers send
 HARDENED = -D_FORTIFY_SOURCE=2 -fstack-protector-strong
