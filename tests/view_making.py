@@ -151,6 +151,20 @@ class Page:
         return [(stripe, layer) for stripe, layers in enumerate(self.stripes) for layer in layers
                 if layer.is_coded()]
 
+    def samples(self, stripe):
+        """Octets of the samples of a stripe's layers that are read."""
+        return sum(layer.width * layer.height * (1 if layer.is_mask() or layer.grey else 3)
+                   for layer in self.stripes[stripe] if layer.is_coded() and not layer.unread)
+
+    def band(self, stripe):
+        """Octets of a stripe's band."""
+        return 4 * self.width * self.heights[stripe]
+
+    def least_memory(self):
+        """What the samples of each stripe fit into, and the pencil file, after octets() has been asked;
+        most bands do not."""
+        return max(len(self.sheet_and_pencil()[1]), *map(self.samples, range(len(self.stripes))), 1)
+
     def octets(self, image_coder=1):
         """The page; the place of each coded layer's data is kept for the sheet."""
         octets = bytearray(page_making.start(mask=self.mask_coder, image=image_coder,
@@ -330,6 +344,11 @@ class Shown:
     def drawn(self):
         """What it tells unseen to be drawn as; None where all is seen, or nothing is drawn."""
         return self.last_line() and self.last_line()[4] or None
+
+    def bands(self):
+        """(stripes composed as bands, all stripes) as --times tells them, or None."""
+        found = re.findall(r"^composed as bands: (\d+) of (\d+) stripes$", self.told, re.M)
+        return tuple(map(int, found[0])) if len(found) == 1 else None
 
     def is_read(self, stripe, layer):
         """Whether a layer's line ends with `read`; None if there is not one line for it."""
