@@ -16,6 +16,7 @@ import sys
 import page_making
 import reference_run
 import test_view
+import test_view_unseen
 import view_crafted
 import view_making
 from view_making import END, Coders, Page, Shown, bounded, random_grey, random_image, random_mask, three, write
@@ -126,12 +127,11 @@ def check_high(tally, coders, rng):
 def check_damaged(tally, coders, rng):
     """A layer that its decoder refuses is not counted, and is told of alike; a page that is refused is
     refused as ever."""
-    page = view_making.random_page(rng, coders, False, 1)
-    page.stripes, page.heights = [], []
-    layers = three(page.main)
-    coders.code(layers[1], page.mask_coder, random_mask(rng, page.width, 50))
-    coders.code(layers[0], 1, random_image(rng, page.width, 50, [(9, 9, 9)]))
-    octets = page.add(layers, 50).octets()
+    layers = three(400)
+    coders.code(layers[1], 4, [[int((x + y) % 3 == 0) for x in range(200)] for y in range(50)])
+    coders.code(layers[0], 1, random_image(rng, 200, 50, [(9, 9, 9)]))
+    page = Page(200, 400, 4).add(layers, 50)
+    octets = page.octets()
     place, end = page.places[0, 1], page.places[0, 1] + len(layers[0].data)
     name, out = coders.path("damaged.page"), coders.path("damaged.png")
     write(name, octets[:end - 40] + b"\xff\xd9" + octets[end:])
@@ -254,6 +254,21 @@ def check_address_space(tally, coders, _):
     tally.check({(0, (0, 2)), (0, (2, 2))} <= found, "found: %s" % found)
 
 
+def check_late(tally, coders, _):
+    """Time is up after so many looks at it: the lines of a band that are not drawn by then are unseen, as
+    those that are not composed."""
+    page, shim, found = test_view_unseen.blocks_page(coders, 60, 10), test_view_unseen.build_late(coders), set()
+    words, out = test_view.words_for(coders, page)
+    edge = page.samples(0) + page.band(0)
+    for looks in range(1, 10):
+        late = dict(os.environ, LD_PRELOAD=shim, LOOKS=str(looks))
+        bands, lines = (show(words, out, memory, env=late) for memory in (edge, edge - 1))
+        same(tally, "late after %d looks" % looks, bands, lines)
+        tally.check(lines.bands() == (0, 1), "late after %d looks: bands are %s" % (looks, lines.bands()))
+        found.add((bands.bands()[0], *re.findall(r": lines (\d+) to 79 were not composed within ", bands.told)))
+    tally.check({(0, "0"), (1, "16"), (1, "64"), (1,)} <= found, "late, found: %s" % found)
+
+
 def check_peak(tally, coders, _):
     """One band at a time, and none beside the samples of the next stripe."""
     page, out = large_page(coders, "peak.page", 4, 8000, 1000), coders.path("peak.png")
@@ -309,8 +324,8 @@ def main():
     seed = view_making.seed_of_run()
     if not view_making.prepare(tally):
         return tally.end()
-    for check in (check_random, check_pencil, check_high, check_damaged, check_calls, check_address_space,
-                  check_peak, check_system):
+    for check in (check_random, check_pencil, check_high, check_damaged, check_calls, check_late,
+                  check_address_space, check_peak, check_system):
         coders = Coders()
         check(tally, coders, random.Random(seed))
         shutil.rmtree(coders.folder, ignore_errors=True)

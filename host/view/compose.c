@@ -47,18 +47,17 @@ static bool is_memory_for(uint64_t octets, const options *asked, const stripe_la
 }
 
 /* Memory for so many octets, or null.  It comes in large pieces where the system has them: all of it
- * is written once and read once.  errno stays, which tells why a picture cannot be written. */
+ * is written once and read once. */
 static uint8_t *hold_band(size_t octets)
 {
-    int kept = errno;
     void *held = mmap(NULL, octets + ROOM_BESIDE, PROT_READ | PROT_WRITE,
                       MAP_PRIVATE | MAP_ANONYMOUS, -1, 0);
-    if (held != MAP_FAILED) {
-        mremap(held, octets + ROOM_BESIDE, octets, 0);
-        madvise(held, octets, MADV_HUGEPAGE);
+    if (held == MAP_FAILED) {
+        return NULL;
     }
-    errno = kept;
-    return held == MAP_FAILED ? NULL : held;
+    mremap(held, octets + ROOM_BESIDE, octets, 0);
+    madvise(held, octets, MADV_HUGEPAGE);
+    return held;
 }
 
 static spirerook_answer compose_band(composer *c)
@@ -85,6 +84,7 @@ spirerook_answer begin_lines(composer *c, size_t stripe, const stripe_layers *re
 {
     uint64_t octets = spirerook_band_octets(mask_of_stripe(c->opened, stripe));
     spirerook_answer done = {.number = SPIREROOK_DONE};
+    int kept = errno; /* it tells why a picture cannot be written; to have no band is no reason */
     c->stripe = stripe;
     c->read = read;
     c->next = 0;
@@ -92,6 +92,7 @@ spirerook_answer begin_lines(composer *c, size_t stripe, const stripe_layers *re
         c->band_octets = (size_t)octets;
         c->band = hold_band(c->band_octets);
     }
+    errno = kept;
     if (c->band != NULL) {
         c->bands++;
         done = compose_band(c);
