@@ -6,8 +6,8 @@
 #include <sys/mman.h>
 #include <unistd.h>
 
-/* Left free beside a band, for all that the picture may still need: a bound of the system's must not
- * refuse with a band what it would take line by line. */
+/* Left free beside a band, for all that the picture may still need: a bound of the system's must
+ * not refuse with a band what it would take line by line. */
 enum { ROOM_BESIDE = 4 << 20 };
 
 /* What a pixel takes at most, under all layers: a band cannot be broken off, so one is begun only
@@ -46,8 +46,8 @@ static bool is_memory_for(uint64_t octets, const options *asked, const stripe_la
            octets < SIZE_MAX - ROOM_BESIDE;
 }
 
-/* Memory for so many octets, or null.  It comes in large pieces where the system has them: all of it
- * is written once and read once. */
+/* Memory for so many octets, or null.  It comes in large pieces where the system has them: all of
+ * it is written once and read once, so that small ones would take as long as composing. */
 static uint8_t *hold_band(size_t octets)
 {
     void *held = mmap(NULL, octets + ROOM_BESIDE, PROT_READ | PROT_WRITE,
