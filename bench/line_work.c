@@ -16,15 +16,15 @@ struct shape pixel_shape(size_t row)
                           .layers = layer_counts[row / 24],
                           .k = ks[row / 4 % 6],
                           .run = row / 2 % 2 == 0 ? 64 : 0,
-                          .half = row % 2 == 1};
+                          .unread = row % 2 == 1 ? HALF_UNREAD : ALL_READ};
 }
 
 const char *pixel_name(const struct shape *s)
 {
+    static const char *const unread[] = {"all read", "half unread", "pairs unread"};
     static char name[80];
     snprintf(name, sizeof name, "%2u layers, k %2u, masks %s, %s", (unsigned)s->layers,
-             (unsigned)s->k, s->run != 0 ? "in runs  " : "at random",
-             s->half ? "half unread" : "all read");
+             (unsigned)s->k, s->run != 0 ? "in runs  " : "at random", unread[s->unread]);
     return name;
 }
 
@@ -109,7 +109,9 @@ static size_t sample_count(const uint8_t *record)
 
 static bool is_unread(const struct shape *s, uint32_t layer)
 {
-    return s->half && (layer % 4 == 3 || layer % 4 == 0);
+    if (s->unread == PAIRS_UNREAD)
+        return layer > 3 && layer % 4 < 2;
+    return s->unread == HALF_UNREAD && (layer % 4 == 3 || layer % 4 == 0);
 }
 
 static void list(struct work *w, uint32_t layer, size_t start)
@@ -134,7 +136,8 @@ static void read_layer(struct work *w, const struct shape *s, const uint8_t *rec
     starts[kind] = w->samples_size;
     list(w, layer, w->samples_size);
     if (layer % 2 == 0)
-        fill_mask(w->samples + w->samples_size, count, run == 0 ? 1 : run, layer > 8 ? s->ones : 0);
+        fill_mask(w->samples + w->samples_size, count, run == 0 ? 1 : run,
+                  layer > s->above ? s->ones : 0);
     else
         fill_image(w->samples + w->samples_size, count * size);
     w->samples_size += count * size;
