@@ -11,6 +11,7 @@
 #define MOST_WIDTH 32768
 #define MOST_PARTS 9   // of a row that are apart from each other
 #define MOST_COATS 192 // of a row: of eight images in three parts of each of those
+#define LOOK_AGAIN 8    // rows on, since the mask of a page may change its kind
 
 struct part {
     uint32_t from, to;
@@ -27,6 +28,7 @@ struct plane {
     bool crossed;              // whether the lines meet its area
     struct part area;          // within the page
     const uint8_t *row;        // of the line, where it is crossed and read
+    const uint8_t *last_row;
     uint32_t lines_left;       // of that row
     struct part wanted;        // of it by all coats together
     uint8_t *spread;           // its pixels, with k above 1, from the layer's left edge on
@@ -37,6 +39,7 @@ struct job {
     struct coat coat;
     struct part part;
     struct plane *mask, *image; // whose samples it needs, or null
+    uint32_t dense_lines;       // so far
 };
 
 struct band {
@@ -45,6 +48,7 @@ struct band {
     struct plane plane[MOST_LAYERS + 1];
     struct job jobs[MOST_COATS];
     size_t job_count;
+    bool one_line; // so that nothing is shared with the next
 };
 
 // Room for every row's pixels, too large for a stack.
@@ -67,7 +71,10 @@ static struct part common(struct part a, struct part b)
 // All that is not in the part.
 static void leave_out(struct parts *all, struct part p)
 {
-    struct parts left = {0};
+    struct parts left;
+    if (p.from == p.to)
+        return;
+    left.count = 0;
     for (uint32_t i = 0; i < all->count; i++) {
         struct part q = all->part[i], c = common(q, p);
         if (c.from == c.to) {
@@ -97,24 +104,55 @@ static void want(struct plane *plane, struct part p)
     plane->wanted.to = plane->wanted.to < p.to ? p.to : plane->wanted.to;
 }
 
-static void add_job(struct band *b, struct job job, struct part p)
+static struct job *add_job(struct band *b, enum way way, struct plane *mask, struct part p)
 {
-    if (p.from == p.to)
-        return;
-    want(job.mask, p);
-    want(job.image, p);
-    job.part = p;
-    b->jobs[b->job_count++] = job;
+    struct job *j = &b->jobs[b->job_count++];
+    *j = (struct job){.part = p, .mask = mask};
+    j->coat.way = way;
+    j->coat.unseen = b->unseen;
+    j->coat.count = p.to - p.from;
+    want(mask, p);
+    return j;
 }
 
-static void add_one(struct band *b, struct job job, struct part p, uint32_t word)
+static void add_one(struct band *b, enum way way, struct plane *mask, struct part p, uint32_t word)
 {
-    job.coat.source = ONE;
-    job.coat.word = word;
+    if (p.from >= p.to)
+        return;
     // what is not known does not agree with anything
-    if (word == b->unseen && job.coat.way == AGREE)
-        job.coat.way = LAY;
-    add_job(b, job, p);
+    if (word == b->unseen && way == AGREE)
+        way = LAY;
+    struct job *j = add_job(b, way, mask, p);
+    j->coat.source = ONE;
+    j->coat.word = word;
+}
+
+// Where the lines that share a row are many, or all pixels of it are needed in each of them, words are
+// worth their making.
+static enum source source_of(const struct band *b, const struct layer *l, enum way way)
+{
+    bool words = way == AGREE && !b->one_line;
+    if (l->k == 1)
+        return l->size == 3 ? THREES : GREYS;
+    if (l->k == 2 && !words)
+        return l->size == 3 ? THREES_BY_2 : GREYS_BY_2;
+    if (l->k == 4 && !words)
+        return l->size == 3 ? THREES_BY_4 : GREYS_BY_4;
+    return WORDS;
+}
+
+static void add_samples(struct band *b, struct plane *image, enum way way, struct plane *mask,
+                        struct part p)
+{
+    const struct layer *l = image->layer;
+    struct job *j = add_job(b, way, mask, p);
+    j->image = image;
+    j->coat.source = source_of(b, l, way);
+    want(image, p);
+    if (j->coat.source != WORDS) {
+        j->coat.before = (l->k - (p.from - l->x) % l->k) % l->k;
+        j->coat.count -= j->coat.before;
+    }
 }
 
 // An image over a part: its area, and its base colour beside that.
@@ -122,21 +160,17 @@ static void add_image(struct band *b, struct plane *image, enum way way, struct 
                       struct part p)
 {
     const struct layer *l = image->layer;
-    struct job job = {.coat = {.way = way, .unseen = b->unseen}, .mask = mask};
     struct part in = common(p, image->area);
     if (!image->crossed || in.from == in.to) {
-        add_one(b, job, p, base_word(l));
+        add_one(b, way, mask, p, base_word(l));
         return;
     }
-    add_one(b, job, (struct part){p.from, in.from}, base_word(l));
-    add_one(b, job, (struct part){in.to, p.to}, base_word(l));
-    if (l->samples == NULL) {
-        add_one(b, job, in, b->unseen);
-        return;
-    }
-    job.image = image;
-    job.coat.source = l->k > 1 ? WORDS : l->size == 3 ? THREES : GREYS;
-    add_job(b, job, in);
+    add_one(b, way, mask, (struct part){p.from, in.from}, base_word(l));
+    if (l->samples == NULL)
+        add_one(b, way, mask, in, b->unseen);
+    else
+        add_samples(b, image, way, mask, in);
+    add_one(b, way, mask, (struct part){in.to, p.to}, base_word(l));
 }
 
 // Layer 2 where it is not coded, over a stripe whose layer 3 is.
@@ -196,6 +230,8 @@ static void begin_plane(struct plane *p, uint32_t n, const struct stripe *s)
     const struct layer *l = &s->layer[n];
     *p = (struct plane){.layer = l};
     p->spread = n % 2 == 0 ? spread_masks[n / 2 - 1] : spread_images[n / 2];
+    if (l->samples != NULL)
+        p->last_row = l->samples + (size_t)(l->height - 1) * l->width * l->size;
     p->area = common((struct part){l->x, l->x + l->width * l->k}, (struct part){0, s->page_width});
 }
 
@@ -247,24 +283,41 @@ static void spread_row(struct plane *p, uint32_t octets)
     p->spread_row = p->row;
 }
 
-// The pixel at x, of so many octets where the samples are spread.
-static const uint8_t *pixel_at(struct plane *p, uint32_t x, uint32_t octets)
+// The pixel at x of a plane whose samples are spread, so many octets each.
+static const uint8_t *spread_at(struct plane *p, uint32_t x, uint32_t octets)
 {
-    const struct layer *l = p->layer;
-    if (l->k == 1)
-        return p->row + (size_t)(x - l->x) * l->size;
     if (p->spread_row != p->row)
         spread_row(p, octets);
-    return p->spread + (size_t)(x - l->x) * octets;
+    return p->spread + (size_t)(x - p->layer->x) * octets;
+}
+
+static const uint8_t *mask_at(struct plane *p, uint32_t x)
+{
+    return p->layer->k == 1 ? p->row + (x - p->layer->x) : spread_at(p, x, 1);
+}
+
+static void set_image(struct job *j, uint32_t x)
+{
+    const struct plane *p = j->image;
+    const struct layer *l = p->layer;
+    if (j->coat.source == WORDS) {
+        j->coat.up = spread_at(j->image, x, 4);
+        return;
+    }
+    j->coat.up = p->row + (size_t)((x - l->x) / l->k) * l->size;
+    j->coat.last = p->row == p->last_row;
 }
 
 static void do_job(struct job *j, uint8_t *out)
 {
-    if (j->mask != NULL)
-        j->coat.mask = pixel_at(j->mask, j->part.from, 1);
+    uint32_t first = j->part.from + (uint32_t)j->coat.before;
     if (j->image != NULL)
-        j->coat.up = pixel_at(j->image, j->part.from, 4);
-    put_coat(out + (size_t)j->part.from * 4, &j->coat, j->part.to - j->part.from);
+        set_image(j, first);
+    if (j->mask != NULL)
+        j->coat.mask = mask_at(j->mask, first);
+    enum look look = put_coat(out + (size_t)first * 4, &j->coat);
+    // what is mixed is told only by looking
+    j->coat.look = look == DENSE && ++j->dense_lines % LOOK_AGAIN == 0 ? PLAIN : look;
 }
 
 static void put_lines(struct band *b, uint32_t y, uint32_t end, uint8_t *out)
@@ -280,9 +333,10 @@ static void put_lines(struct band *b, uint32_t y, uint32_t end, uint8_t *out)
     }
 }
 
-static void begin_band(struct band *b, uint8_t u0, uint8_t u1, uint8_t u2)
+static void begin_band(struct band *b, bool one_line, uint8_t u0, uint8_t u1, uint8_t u2)
 {
     b->unseen = word_of(u0, u1, u2, 0);
+    b->one_line = one_line;
     for (uint32_t n = 1; n <= b->s.layers; n++)
         begin_plane(&b->plane[n], n, &b->s);
 }
@@ -300,7 +354,7 @@ spirerook_answer c_band(const uint8_t *sheet, size_t sheet_len, const uint8_t *p
     a.count = (uint64_t)b.s.page_width * b.s.height * 4;
     if (out_len < a.count)
         return (spirerook_answer){SPIREROOK_NO_ROOM, 0, 0};
-    begin_band(&b, u0, u1, u2);
+    begin_band(&b, false, u0, u1, u2);
     put_lines(&b, 0, b.s.height, out);
     return a;
 }
@@ -318,7 +372,7 @@ spirerook_answer c_band_line(const uint8_t *sheet, size_t sheet_len, const uint8
     a.count = (uint64_t)b.s.page_width * 4;
     if (out_len < a.count)
         return (spirerook_answer){SPIREROOK_NO_ROOM, 0, 0};
-    begin_band(&b, u0, u1, u2);
+    begin_band(&b, true, u0, u1, u2);
     put_lines(&b, line, line + 1, out);
     return a;
 }

@@ -1,114 +1,219 @@
 // The loops of the band composer, sixteen pixels a step. What is laid and how are constants in each:
-// one text, and twelve loops. A part is laid again without harm, by every way, so that the last step
-// may overlap the one before it.
+// one text, and a loop for each. A part is laid again without harm, by every way, so that the last
+// step may overlap the one before it.
 #include "coat.h"
 #include "four.h"
 
 #define ALWAYS static inline __attribute__((always_inline))
+#define STEP 16
 
-ALWAYS four up_four(enum source source, const struct coat *c, size_t i)
+// ---- what is laid
+
+ALWAYS ptrdiff_t pixels_of(enum source source)
 {
     switch (source) {
-    case ONE: return four_of(c->word);
-    case THREES: return four_of_threes(c->up + 3 * i);
-    case GREYS: return four_of_greys(c->up + i);
-    default: return four_at(c->up + 4 * i);
+    case THREES_BY_2:
+    case GREYS_BY_2: return 2;
+    case THREES_BY_4:
+    case GREYS_BY_4: return 4;
+    default: return 1;
     }
 }
 
-ALWAYS uint32_t up_word(enum source source, const struct coat *c, size_t i)
+ALWAYS bool is_three(enum source source)
 {
+    return source == THREES || source == THREES_BY_2 || source == THREES_BY_4;
+}
+
+ALWAYS const uint8_t *sample_of(enum source source, const struct coat *c, ptrdiff_t i)
+{
+    ptrdiff_t k = pixels_of(source), sample = (i + k) / k - 1;
+    return c->up + sample * (is_three(source) ? 3 : source == WORDS ? 4 : 1);
+}
+
+ALWAYS void up_step(enum source source, const struct coat *c, ptrdiff_t i, four up[4])
+{
+    const uint8_t *p = sample_of(source, c, i);
     switch (source) {
-    case ONE: return c->word;
-    case THREES: return word_of_three(c->up + 3 * i);
-    case GREYS: return word_of_grey(c->up + i);
-    default: return word_at(c->up + 4 * i);
+    case GREYS: sixteen_of_greys(p, up); break;
+    case THREES_BY_4: put_four_times(four_of_threes(p), up); break;
+    case GREYS_BY_4: put_four_times(four_of_greys(p), up); break;
+    case THREES_BY_2:
+        put_twice(four_of_threes(p), up);
+        put_twice(four_of_threes(p + 12), up + 2);
+        break;
+    case GREYS_BY_2:
+        put_twice(four_of_greys(p), up);
+        put_twice(four_of_greys(p + 4), up + 2);
+        break;
+    default:
+        for (int j = 0; j < 4; j++)
+            up[j] = source == ONE      ? four_of(c->word)
+                    : source == THREES ? four_of_threes(p + 12 * j)
+                                       : four_at(p + 16 * j);
     }
 }
 
-ALWAYS void step_lay(enum source source, uint8_t *out, const struct coat *c, size_t i)
+ALWAYS uint32_t up_word(enum source source, const struct coat *c, ptrdiff_t i)
 {
-    for (size_t j = i; j < i + 16; j += 4)
-        put_four(out + 4 * j, up_four(source, c, j));
+    const uint8_t *p = sample_of(source, c, i);
+    if (source == ONE)
+        return c->word;
+    if (source == WORDS)
+        return word_at(p);
+    return is_three(source) ? word_of_three(p) : word_of_grey(p);
 }
 
-ALWAYS void step_agree(enum source source, uint8_t *out, const struct coat *c, size_t i)
-{
-    for (size_t j = i; j < i + 16; j += 4)
-        put_four(out + 4 * j,
-                 four_agreed(four_at(out + 4 * j), up_four(source, c, j), four_of(c->unseen)));
-}
+// ---- how
 
-ALWAYS void step_pick(enum source source, uint8_t *out, const struct coat *c, size_t i)
+ALWAYS void put_step(enum source source, enum way way, uint8_t *out, const struct coat *c,
+                     ptrdiff_t i, sixteen zeros)
 {
-    sixteen zeros = zeros_at(c->mask + i);
-    unsigned bits = zero_bits(zeros);
-    four keep[4];
-    if (bits == 0xffff)
-        return;
-    if (bits == 0) {
-        step_lay(source, out, c, i);
-        return;
-    }
-    put_keeps(zeros, keep);
-    for (size_t j = 0; j < 4; j++) {
+    four up[4], keep[4];
+    up_step(source, c, i, up);
+    if (way == PICK)
+        put_keeps(zeros, keep);
+    for (int j = 0; j < 4; j++) {
         uint8_t *p = out + 4 * i + 16 * j;
-        put_four(p, four_picked(four_at(p), up_four(source, c, i + 4 * j), keep[j]));
+        if (way == LAY)
+            put_four(p, up[j]);
+        else if (way == PICK)
+            put_four(p, four_picked(four_at(p), up[j], keep[j]));
+        else
+            put_four(p, four_agreed(four_at(p), up[j], four_of(c->unseen)));
     }
 }
 
-ALWAYS void step(enum source source, enum way way, uint8_t *out, const struct coat *c, size_t i)
+// Where the way needs no mask, what is loaded in its place is never used.
+ALWAYS void step(enum source source, enum way way, uint8_t *out, const struct coat *c, ptrdiff_t i)
 {
-    if (way == LAY)
-        step_lay(source, out, c, i);
-    else if (way == PICK)
-        step_pick(source, out, c, i);
-    else
-        step_agree(source, out, c, i);
+    put_step(source, way, out, c, i, zeros_at(way == PICK ? c->mask + i : out + 4 * i));
 }
 
 // A pixel by itself, without a branch on what the samples are.
-ALWAYS void put_one(enum source source, enum way way, uint8_t *out, const struct coat *c, size_t i)
+ALWAYS void put_one(enum source source, enum way way, uint8_t *out, const struct coat *c,
+                    ptrdiff_t i)
 {
     uint32_t low = way == LAY ? 0 : word_at(out + 4 * i), up = up_word(source, c, i);
     if (way == PICK)
-        up = c->mask[i] != 0 ? up : low;
+        up ^= (low ^ up) & -(uint32_t)(c->mask[i] == 0);
     else if (way == AGREE)
-        up = low == up ? up : c->unseen;
+        up ^= (c->unseen ^ up) & -(uint32_t)(low != up);
     memcpy(out + 4 * i, &up, sizeof up);
 }
 
-// Behind samples of three octets another must stand: so the last step of them is not wide.
-ALWAYS void loop(enum source source, enum way way, uint8_t *out, const struct coat *given,
-                 size_t count)
+ALWAYS void put_all(enum source source, enum way way, uint8_t *out, const struct coat *c,
+                    ptrdiff_t end)
+{
+    for (ptrdiff_t i = 0; i + STEP <= end; i += STEP)
+        step(source, way, out, c, i);
+}
+
+struct found {
+    ptrdiff_t ones, mixed;
+};
+
+// A block of the mask by what is in it.
+ALWAYS void put_block(enum source source, uint8_t *out, const struct coat *c, ptrdiff_t i,
+                      struct found *found)
+{
+    sixteen zeros = zeros_at(c->mask + i);
+    unsigned bits = zero_bits(zeros);
+    if (bits == 0xffff)
+        return;
+    if (bits == 0) {
+        put_step(source, LAY, out, c, i, zeros);
+        found->ones++;
+    } else {
+        put_step(source, PICK, out, c, i, zeros);
+        found->mixed++;
+    }
+}
+
+ALWAYS struct found put_plain(enum source source, uint8_t *out, const struct coat *c,
+                              ptrdiff_t end)
+{
+    struct found found = {0, 0};
+    for (ptrdiff_t i = 0; i + STEP <= end; i += STEP)
+        put_block(source, out, c, i, &found);
+    return found;
+}
+
+ALWAYS struct found put_sparse(enum source source, uint8_t *out, const struct coat *c,
+                               ptrdiff_t end)
+{
+    struct found found = {0, 0};
+    ptrdiff_t i = 0;
+    for (; i + 4 * STEP <= end; i += 4 * STEP)
+        if (!four_blocks_zero(c->mask + i))
+            for (ptrdiff_t j = i; j < i + 4 * STEP; j += STEP)
+                put_block(source, out, c, j, &found);
+    for (; i + STEP <= end; i += STEP)
+        put_block(source, out, c, i, &found);
+    return found;
+}
+
+ALWAYS enum look look_after(struct found found, ptrdiff_t end)
+{
+    if (found.mixed * STEP > end / 4 * 3)
+        return DENSE;
+    return (found.mixed + found.ones) * STEP < end / 4 ? SPARSE : PLAIN;
+}
+
+// Behind samples of three octets that are read four at once other octets must stand.
+ALWAYS ptrdiff_t wide_end(enum source source, const struct coat *c)
+{
+    return c->count - (is_three(source) && c->last ? pixels_of(source) : 0);
+}
+
+ALWAYS enum look put_wide(enum source source, enum way way, uint8_t *out, const struct coat *c,
+                         ptrdiff_t end)
+{
+    if (way == PICK && c->look == SPARSE)
+        return look_after(put_sparse(source, out, c, end), end);
+    if (way == PICK && c->look == PLAIN)
+        return look_after(put_plain(source, out, c, end), end);
+    put_all(source, way, out, c, end);
+    return DENSE;
+}
+
+ALWAYS enum look loop(enum source source, enum way way, uint8_t *out, const struct coat *given)
 {
     const struct coat copy = *given, *c = &copy;
-    size_t i = 0, more = source == THREES;
-    for (; i + 16 + more <= count; i += 16)
-        step(source, way, out, c, i);
-    if (i < count && count >= 16 + more) {
-        step(source, way, out, c, count - 16 - more);
-        i = count - more;
-    }
-    for (; i < count; i++)
+    ptrdiff_t i, end = wide_end(source, c), k = pixels_of(source);
+    enum look look = PLAIN;
+    for (i = -c->before; i < 0 && i < c->count; i++)
         put_one(source, way, out, c, i);
+    if (end >= STEP) {
+        look = put_wide(source, way, out, c, end);
+        i = (end - STEP) / k * k;
+        step(source, way, out, c, i);
+        i += STEP;
+    }
+    for (; i < c->count; i++)
+        put_one(source, way, out, c, i);
+    return look;
 }
 
-ALWAYS void by_way(enum source source, uint8_t *out, const struct coat *c, size_t count)
+ALWAYS enum look by_way(enum source source, uint8_t *out, const struct coat *c)
 {
     switch (c->way) {
-    case LAY: loop(source, LAY, out, c, count); break;
-    case PICK: loop(source, PICK, out, c, count); break;
-    default: loop(source, AGREE, out, c, count);
+    case LAY: return loop(source, LAY, out, c);
+    case PICK: return loop(source, PICK, out, c);
+    default: return loop(source, AGREE, out, c);
     }
 }
 
-void put_coat(uint8_t *out, const struct coat *c, size_t count)
+enum look put_coat(uint8_t *out, const struct coat *c)
 {
     switch (c->source) {
-    case ONE: by_way(ONE, out, c, count); break;
-    case THREES: by_way(THREES, out, c, count); break;
-    case GREYS: by_way(GREYS, out, c, count); break;
-    default: by_way(WORDS, out, c, count);
+    case ONE: return by_way(ONE, out, c);
+    case THREES: return by_way(THREES, out, c);
+    case GREYS: return by_way(GREYS, out, c);
+    case THREES_BY_2: return by_way(THREES_BY_2, out, c);
+    case GREYS_BY_2: return by_way(GREYS_BY_2, out, c);
+    case THREES_BY_4: return by_way(THREES_BY_4, out, c);
+    case GREYS_BY_4: return by_way(GREYS_BY_4, out, c);
+    default: return by_way(WORDS, out, c);
     }
 }

@@ -2,23 +2,35 @@
 #ifndef BENCH_COAT_H
 #define BENCH_COAT_H
 
+#include <stdbool.h>
 #include <stddef.h>
 #include <stdint.h>
 
-// What is laid: one word all over; samples of three octets or of one, a pixel each; or words.
-enum source { ONE, THREES, GREYS, WORDS };
+// What is laid: one word all over; samples of three octets or of one, which are one pixel, two or
+// four; or words, a pixel each.
+enum source { ONE, THREES, GREYS, THREES_BY_2, GREYS_BY_2, THREES_BY_4, GREYS_BY_4, WORDS };
 
 // How: as it is; where the mask is not 0; or, the mask not being known, where it is what is there.
 enum way { LAY, PICK, AGREE };
 
+// How a mask is looked at, from what the line before had in it: in blocks of sixteen; in fours of
+// blocks first, most of them being 0; or not at all, most blocks being mixed.
+enum look { PLAIN, SPARSE, DENSE };
+
+// Pixels are counted from the first one at which a sample begins; before it are the last ones of
+// another sample, and where all are among those the count is below 0.
 struct coat {
     enum source source;
     enum way way;
-    const uint8_t *up, *mask; // of the first pixel
+    enum look look;
+    bool last; // no octets behind the samples may be read
     uint32_t word, unseen;
+    ptrdiff_t before, count;
+    const uint8_t *up, *mask; // of that first pixel
 };
 
-void put_coat(uint8_t *out, const struct coat *c, size_t count);
+// Answers how the mask should be looked at in the next line.
+enum look put_coat(uint8_t *out, const struct coat *c);
 
 // So many samples as k pixels each: of a mask as octets, of an image as words. Some octets behind
 // are written too.

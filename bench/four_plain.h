@@ -35,6 +35,24 @@ static inline four four_of_greys(const uint8_t *p)
     return (four){{word_of_grey(p), word_of_grey(p + 1), word_of_grey(p + 2), word_of_grey(p + 3)}};
 }
 
+static inline void sixteen_of_greys(const uint8_t *p, four up[4])
+{
+    for (int i = 0; i < 4; i++)
+        up[i] = four_of_greys(p + 4 * i);
+}
+
+static inline void put_twice(four v, four up[2])
+{
+    up[0] = (four){{v.w[0], v.w[0], v.w[1], v.w[1]}};
+    up[1] = (four){{v.w[2], v.w[2], v.w[3], v.w[3]}};
+}
+
+static inline void put_four_times(four v, four up[4])
+{
+    for (int i = 0; i < 4; i++)
+        up[i] = four_of(v.w[i]);
+}
+
 static inline four four_picked(four low, four up, four keep)
 {
     for (int i = 0; i < 4; i++)
@@ -63,6 +81,16 @@ static inline unsigned zero_bits(sixteen zeros)
     for (int i = 0; i < 16; i++)
         bits |= (unsigned)(zeros.o[i] & 1) << i;
     return bits;
+}
+
+static inline int four_blocks_zero(const uint8_t *mask)
+{
+    uint64_t any = 0, eight;
+    for (int i = 0; i < 64; i += 8) {
+        memcpy(&eight, mask + i, 8);
+        any |= eight;
+    }
+    return any == 0;
 }
 
 static inline void put_keeps(sixteen zeros, four keep[4])
