@@ -11,7 +11,8 @@
 #define MOST_WIDTH 32768
 #define MOST_PARTS 9   // of a row that are apart from each other
 #define MOST_COATS 192 // of a row: of eight images in three parts of each of those
-#define LOOK_AGAIN 8    // rows on, since the mask of a page may change its kind
+#define SHORT 64
+#define LOOK_AGAIN 8 // rows on, since the mask of a page may change its kind
 
 struct part {
     uint32_t from, to;
@@ -25,9 +26,9 @@ struct parts {
 // A layer where its row is followed from line to line.
 struct plane {
     const struct layer *layer;
-    bool crossed;              // whether the lines meet its area
-    struct part area;          // within the page
-    const uint8_t *row;        // of the line, where it is crossed and read
+    bool crossed;       // whether the lines meet its area
+    struct part area;   // within the page
+    const uint8_t *row; // of the line, where it is crossed and read
     const uint8_t *last_row;
     uint32_t lines_left;       // of that row
     struct part wanted;        // of it by all coats together
@@ -38,8 +39,9 @@ struct plane {
 struct job {
     struct coat coat;
     struct part part;
-    struct plane *mask, *image; // whose samples it needs, or null
-    uint32_t dense_lines;       // so far
+    struct plane *mask, *image;         // whose samples it needs, or null
+    uint32_t first_pixel, first_sample; // of the coat in the image's row, the latter in octets
+    uint32_t dense_lines;               // so far
 };
 
 struct band {
@@ -127,11 +129,13 @@ static void add_one(struct band *b, enum way way, struct plane *mask, struct par
     j->coat.word = word;
 }
 
-// Where the lines that share a row are many, or all pixels of it are needed in each of them, words are
-// worth their making.
-static enum source source_of(const struct band *b, const struct layer *l, enum way way)
+// Words are worth their making where several lines share them and each needs most of them, and for
+// a part that is short, which needs no sample to begin at its first pixel.
+static enum source source_of(const struct job *j, bool one_line)
 {
-    bool words = way == AGREE && !b->one_line;
+    const struct layer *l = j->image->layer;
+    bool most = j->coat.way == AGREE || (j->coat.look == DENSE && l->k > 2),
+         words = !one_line && (most || j->part.to - j->part.from < SHORT);
     if (l->k == 1)
         return l->size == 3 ? THREES : GREYS;
     if (l->k == 2 && !words)
@@ -141,18 +145,23 @@ static enum source source_of(const struct band *b, const struct layer *l, enum w
     return WORDS;
 }
 
+static void set_source(struct job *j, enum source source)
+{
+    const struct layer *l = j->image->layer;
+    j->coat.source = source;
+    j->coat.before = source == WORDS ? 0 : (l->k - (j->part.from - l->x) % l->k) % l->k;
+    j->coat.count = (ptrdiff_t)(j->part.to - j->part.from) - j->coat.before;
+    j->first_pixel = j->part.from - l->x + (uint32_t)j->coat.before;
+    j->first_sample = j->first_pixel / l->k * l->size;
+}
+
 static void add_samples(struct band *b, struct plane *image, enum way way, struct plane *mask,
                         struct part p)
 {
-    const struct layer *l = image->layer;
     struct job *j = add_job(b, way, mask, p);
     j->image = image;
-    j->coat.source = source_of(b, l, way);
     want(image, p);
-    if (j->coat.source != WORDS) {
-        j->coat.before = (l->k - (p.from - l->x) % l->k) % l->k;
-        j->coat.count -= j->coat.before;
-    }
+    set_source(j, source_of(j, b->one_line));
 }
 
 // An image over a part: its area, and its base colour beside that.
@@ -283,41 +292,53 @@ static void spread_row(struct plane *p, uint32_t octets)
     p->spread_row = p->row;
 }
 
-// The pixel at x of a plane whose samples are spread, so many octets each.
-static const uint8_t *spread_at(struct plane *p, uint32_t x, uint32_t octets)
+// Its pixels, of so many octets each.
+static const uint8_t *spread_of(struct plane *p, uint32_t octets)
 {
     if (p->spread_row != p->row)
         spread_row(p, octets);
-    return p->spread + (size_t)(x - p->layer->x) * octets;
+    return p->spread;
 }
 
-static const uint8_t *mask_at(struct plane *p, uint32_t x)
+static void set_image(struct job *j)
 {
-    return p->layer->k == 1 ? p->row + (x - p->layer->x) : spread_at(p, x, 1);
-}
-
-static void set_image(struct job *j, uint32_t x)
-{
-    const struct plane *p = j->image;
-    const struct layer *l = p->layer;
+    struct plane *p = j->image;
     if (j->coat.source == WORDS) {
-        j->coat.up = spread_at(j->image, x, 4);
+        j->coat.up = spread_of(p, 4) + 4 * (size_t)j->first_pixel;
         return;
     }
-    j->coat.up = p->row + (size_t)((x - l->x) / l->k) * l->size;
+    j->coat.up = p->row + j->first_sample;
     j->coat.last = p->row == p->last_row;
+}
+
+static void set_mask(struct job *j, uint32_t x)
+{
+    struct plane *p = j->mask;
+    j->coat.mask = (p->layer->k == 1 ? p->row : spread_of(p, 1)) + (x - p->layer->x);
+}
+
+// What is mixed is told only by looking.
+static void look_on(struct job *j, enum look look)
+{
+    if (look == DENSE && ++j->dense_lines % LOOK_AGAIN == 0)
+        look = PLAIN;
+    if (look == j->coat.look)
+        return;
+    j->coat.look = look;
+    if (j->image != NULL)
+        set_source(j, source_of(j, false));
 }
 
 static void do_job(struct job *j, uint8_t *out)
 {
     uint32_t first = j->part.from + (uint32_t)j->coat.before;
     if (j->image != NULL)
-        set_image(j, first);
+        set_image(j);
     if (j->mask != NULL)
-        j->coat.mask = mask_at(j->mask, first);
+        set_mask(j, first);
     enum look look = put_coat(out + (size_t)first * 4, &j->coat);
-    // what is mixed is told only by looking
-    j->coat.look = look == DENSE && ++j->dense_lines % LOOK_AGAIN == 0 ? PLAIN : look;
+    if (j->mask != NULL)
+        look_on(j, look);
 }
 
 static void put_lines(struct band *b, uint32_t y, uint32_t end, uint8_t *out)

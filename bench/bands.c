@@ -152,6 +152,30 @@ static uint64_t lines(const void *work)
     return timed(2, work);
 }
 
+static uint64_t proved_line(const void *work)
+{
+    return composed(spirerook_line_unseen, work, bands[0]).count;
+}
+static uint64_t tuned_line(const void *work)
+{
+    return composed(c_band_line, work, bands[1]).count;
+}
+
+// What no composer can be faster than: the band filled, and copied row by row.
+static uint64_t filled(const void *work)
+{
+    (void)work;
+    memset(bands[0], 128, MOST_OUT);
+    return bands[0][0];
+}
+static uint64_t copied(const void *work)
+{
+    (void)work;
+    for (size_t y = 0; y < BAND_HEIGHT; y++)
+        memcpy(bands[0] + 4 * BAND_WIDTH * y, bands[1] + 4 * BAND_WIDTH * y, 4 * BAND_WIDTH);
+    return bands[0][0];
+}
+
 #define BAND_ROWS (3 * 3 * 2 * 3)
 
 static struct shape band_shape(size_t row)
@@ -166,40 +190,132 @@ static struct shape band_shape(size_t row)
                           .unread = unread[row % 3]};
 }
 
-static double best[BAND_ROWS][SIDES];
+// Bands that differ from those in one thing.
+struct other {
+    const char *name;
+    struct shape shape;
+};
+
+#define OTHER(count, ratio, ...) \
+    { \
+        .width = BAND_WIDTH, .height = BAND_HEIGHT, .layers = count, .k = ratio, __VA_ARGS__ \
+    }
+
+static const struct other others[] = {
+    {" 9 layers, k  3, masks in runs", OTHER(9, 3, .run = 64)},
+    {" 9 layers, k  3, masks at random", OTHER(9, 3, .run = 0)},
+    {" 9 layers, k  6, masks in runs", OTHER(9, 6, .run = 64)},
+    {" 9 layers, k  6, masks at random", OTHER(9, 6, .run = 0)},
+    {" 9 layers, k 12, masks in runs", OTHER(9, 12, .run = 64)},
+    {" 9 layers, k 12, masks at random", OTHER(9, 12, .run = 0)},
+    {" 3 layers, k  1, runs of 300", OTHER(3, 1, .run = 300)},
+    {"15 layers, k  1, runs of 300", OTHER(15, 1, .run = 300)},
+    {"15 layers, k  4, runs of 300", OTHER(15, 4, .run = 300)},
+    {" 3 layers, k  1, 1 of 16 runs is 1", OTHER(3, 1, .run = 64, .ones = 1)},
+    {"15 layers, k  1, 1 of 16 runs is 1", OTHER(15, 1, .run = 64, .ones = 1)},
+    {"15 layers, k  4, 1 of 16 runs is 1", OTHER(15, 4, .run = 64, .ones = 1)},
+    {" 3 layers, k  1, grey, masks in runs", OTHER(3, 1, .run = 64, .grey = true)},
+    {"15 layers, k  1, grey, masks in runs", OTHER(15, 1, .run = 64, .grey = true)},
+    {"15 layers, k  1, grey, masks at random", OTHER(15, 1, .grey = true)},
+    {"15 layers, k  4, grey, masks in runs", OTHER(15, 4, .run = 64, .grey = true)},
+    {"15 layers, k  4, grey, masks at random", OTHER(15, 4, .grey = true)},
+};
+
+#define OTHERS (sizeof others / sizeof others[0])
+#define YARDSTICKS 2
+
+static double best[BAND_ROWS + OTHERS][SIDES], line_best[PIXEL_ROWS][2], yardsticks[YARDSTICKS];
+
+static void time_band(struct work *w, const char *name, const struct shape *s, double times[SIDES])
+{
+    static side *const sides[SIDES] = {rattle, tuned, lines};
+    make_behind(w, s, 0, 0);
+    make_room(w);
+    expect_done(name, agreed(name, w));
+    take_turns(sides, SIDES, w, ROUND_NS, ROUNDS, times);
+}
+
+static void time_line(struct work *w, const struct shape *s, double times[2])
+{
+    static side *const sides[] = {proved_line, tuned_line};
+    make_behind(w, s, 0, 0);
+    expect_done("a line", line_agreed("a line", w));
+    take_turns(sides, 2, w, ROUND_NS, ROUNDS, times);
+}
 
 static void time_all(struct work *w)
 {
-    static side *const sides[SIDES] = {rattle, tuned, lines};
+    static side *const bare[YARDSTICKS] = {filled, copied};
     for (size_t i = 0; i < BAND_ROWS; i++) {
         struct shape s = band_shape(i);
-        make_behind(w, &s, 0, 0);
-        make_room(w);
-        expect_done(pixel_name(&s), agreed(pixel_name(&s), w));
-        take_turns(sides, SIDES, w, ROUND_NS, ROUNDS, best[i]);
+        time_band(w, pixel_name(&s), &s, best[i]);
     }
+    for (size_t i = 0; i < OTHERS; i++)
+        time_band(w, others[i].name, &others[i].shape, best[BAND_ROWS + i]);
+    take_turns(bare, YARDSTICKS, w, ROUND_NS, ROUNDS, yardsticks);
+    for (size_t i = 0; i < PIXEL_ROWS; i++) {
+        struct shape s = pixel_shape(i);
+        time_line(w, &s, line_best[i]);
+    }
+}
+
+static void print_head(const char *what)
+{
+    printf("%-46s %10s %10s %10s %9s %9s\n", what, "Rattle", "C", "lines", "/ C", "/ lines");
+}
+
+static bool print_row(const char *name, const double t[SIDES])
+{
+    bool over = t[0] / t[1] > LIMIT;
+    printf("%-46s %10.3f %10.3f %10.3f %9.2f %9.2f%s\n", name, t[0] / PIXELS, t[1] / PIXELS,
+           t[2] / PIXELS, t[0] / t[1], t[0] / t[2], over ? "  over the limit" : "");
+    return over;
 }
 
 static void print_bands(void)
 {
     unsigned over = 0, least = 0, slow = 0;
-    printf("%-46s %10s %10s %10s %9s %9s\n", "bands, nanoseconds a pixel, best of many rounds",
-           "Rattle", "C", "lines", "/ C", "/ lines");
+    print_head("bands, ns a pixel, best of many rounds");
     for (size_t i = 0; i < BAND_ROWS; i++) {
         struct shape s = band_shape(i);
-        const double *t = best[i];
-        double ratio = t[0] / t[1];
-        over += ratio > LIMIT;
-        least += ratio <= 1;
-        slow += s.run != 0 && t[0] / t[2] > LINES_LIMIT;
-        printf("%-46s %10.3f %10.3f %10.3f %9.2f %9.2f%s\n", pixel_name(&s), t[0] / PIXELS,
-               t[1] / PIXELS, t[2] / PIXELS, ratio, t[0] / t[2],
-               ratio > LIMIT ? "  over the limit" : "");
+        over += print_row(pixel_name(&s), best[i]);
+        least += best[i][0] <= best[i][1];
+        slow += s.run != 0 && best[i][0] / best[i][2] > LINES_LIMIT;
     }
-    printf("\n%u of %d rows are over the limit, %.1f times C; %u are at most C's time\n", over,
+    printf("\n%u of %d bands are over the limit, %.1f times C; %u are at most C's time\n", over,
            BAND_ROWS, LIMIT, least);
-    printf("%u of %d rows with masks in runs are over %.2f times the line call\n", slow,
+    printf("%u of %d bands with masks in runs are over %.2f times the line call\n\n", slow,
            BAND_ROWS / 2, LINES_LIMIT);
+}
+
+static void print_others(void)
+{
+    unsigned over = 0;
+    print_head("other bands, ns a pixel, best of many rounds");
+    for (size_t i = 0; i < OTHERS; i++)
+        over += print_row(others[i].name, best[BAND_ROWS + i]);
+    printf("\n%u of %zu other bands are over the limit, %.1f times C\n", over, OTHERS, LIMIT);
+    printf("a band filled by memset takes %.3f ns a pixel, and one copied row by row %.3f\n\n",
+           yardsticks[0] / PIXELS, yardsticks[1] / PIXELS);
+}
+
+static void print_lines(void)
+{
+    unsigned over = 0;
+    printf("%-46s %10s %10s %9s\n", "one line, ns a pixel, best of many rounds", "Rattle",
+           "C of bands", "/ C");
+    for (size_t i = 0; i < PIXEL_ROWS; i++) {
+        struct shape s = pixel_shape(i);
+        const double *t = line_best[i], ratio = t[0] / t[1];
+        over += ratio > LINE_LIMIT;
+        printf("%-46s %10.3f %10.3f %9.2f%s\n", pixel_name(&s), t[0] / WIDTH, t[1] / WIDTH, ratio,
+               ratio > LINE_LIMIT ? "  over the limit" : "");
+    }
+    printf("\n%u of %d lines are over the limit, %.1f times the C of a band\n", over, PIXEL_ROWS,
+           LINE_LIMIT);
+    puts(
+        "\nratios: Rattle / the other, below 1 is faster; C paints a band layer by layer, lowest first, as Rattle does; lines is the line call, once a "
+        "line");
 }
 
 int main(void)
@@ -211,10 +327,14 @@ int main(void)
         return 1;
     }
     agree_on_small(&w);
-    forget(best[0], BAND_ROWS * SIDES);
+    forget(best[0], (BAND_ROWS + OTHERS) * SIDES);
+    forget(line_best[0], PIXEL_ROWS * 2);
+    forget(yardsticks, YARDSTICKS);
     for (int pass = 0; pass < PASSES; pass++)
         time_all(&w);
     print_bands();
+    print_others();
+    print_lines();
     free(w.samples);
     return 0;
 }

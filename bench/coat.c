@@ -90,6 +90,23 @@ ALWAYS void step(enum source source, enum way way, uint8_t *out, const struct co
     put_step(source, way, out, c, i, zeros_at(way == PICK ? c->mask + i : out + 4 * i));
 }
 
+// Four pixels, of what is one pixel a sample.
+ALWAYS void put_quad(enum source source, enum way way, uint8_t *out, const struct coat *c,
+                     ptrdiff_t i)
+{
+    const uint8_t *from = sample_of(source, c, i);
+    uint8_t *p = out + 4 * i;
+    four up = source == ONE      ? four_of(c->word)
+              : source == THREES ? four_of_threes(from)
+              : source == GREYS  ? four_of_greys(from)
+                                 : four_at(from);
+    if (way == PICK)
+        up = four_picked(four_at(p), up, keep_at(c->mask + i));
+    else if (way == AGREE)
+        up = four_agreed(four_at(p), up, four_of(c->unseen));
+    put_four(p, up);
+}
+
 // A pixel by itself, without a branch on what the samples are.
 ALWAYS void put_one(enum source source, enum way way, uint8_t *out, const struct coat *c,
                     ptrdiff_t i)
@@ -130,8 +147,7 @@ ALWAYS void put_block(enum source source, uint8_t *out, const struct coat *c, pt
     }
 }
 
-ALWAYS struct found put_plain(enum source source, uint8_t *out, const struct coat *c,
-                              ptrdiff_t end)
+ALWAYS struct found put_plain(enum source source, uint8_t *out, const struct coat *c, ptrdiff_t end)
 {
     struct found found = {0, 0};
     for (ptrdiff_t i = 0; i + STEP <= end; i += STEP)
@@ -167,7 +183,7 @@ ALWAYS ptrdiff_t wide_end(enum source source, const struct coat *c)
 }
 
 ALWAYS enum look put_wide(enum source source, enum way way, uint8_t *out, const struct coat *c,
-                         ptrdiff_t end)
+                          ptrdiff_t end)
 {
     if (way == PICK && c->look == SPARSE)
         return look_after(put_sparse(source, out, c, end), end);
@@ -189,6 +205,11 @@ ALWAYS enum look loop(enum source source, enum way way, uint8_t *out, const stru
         i = (end - STEP) / k * k;
         step(source, way, out, c, i);
         i += STEP;
+    } else if (end >= 4 && k == 1) {
+        for (; i + 4 <= end; i += 4)
+            put_quad(source, way, out, c, i);
+        put_quad(source, way, out, c, end - 4);
+        i = end;
     }
     for (; i < c->count; i++)
         put_one(source, way, out, c, i);

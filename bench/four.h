@@ -140,6 +140,13 @@ static inline void put_keeps(sixteen zeros, four keep[4])
     keep[3] = _mm_unpackhi_epi16(high, high);
 }
 
+static inline four keep_at(const uint8_t *mask)
+{
+    four v = _mm_cmpeq_epi8(_mm_cvtsi32_si128((int)word_at(mask)), _mm_setzero_si128());
+    v = _mm_unpacklo_epi8(v, v);
+    return _mm_unpacklo_epi16(v, v);
+}
+
 #else
 #include "four_plain.h"
 #endif

@@ -98,3 +98,11 @@ static inline void put_keeps(sixteen zeros, four keep[4])
     for (int i = 0; i < 16; i++)
         keep[i / 4].w[i % 4] = zeros.o[i] == 0 ? 0 : UINT32_MAX;
 }
+
+static inline four keep_at(const uint8_t *mask)
+{
+    four v;
+    for (int i = 0; i < 4; i++)
+        v.w[i] = mask[i] == 0 ? UINT32_MAX : 0;
+    return v;
+}
