@@ -295,8 +295,9 @@ static void print_others(void)
     for (size_t i = 0; i < OTHERS; i++)
         over += print_row(others[i].name, best[BAND_ROWS + i]);
     printf("\n%u of %zu other bands are over the limit, %.1f times C\n", over, OTHERS, LIMIT);
-    printf("a band filled by memset takes %.3f ns a pixel, and one copied row by row %.3f\n\n",
-           yardsticks[0] / PIXELS, yardsticks[1] / PIXELS);
+    printf(
+        "a band filled by memset takes %.2f, and one copied row by row %.2f, of C's time for the first band of all\n\n",
+        yardsticks[0] / best[0][1], yardsticks[1] / best[0][1]);
 }
 
 static void print_lines(void)
