@@ -29,7 +29,8 @@ struct plane {
     bool crossed;       // whether the lines meet its area
     struct part area;   // within the page
     const uint8_t *row; // of the line, where it is crossed and read
-    const uint8_t *last_row;
+    const uint8_t *end; // of all rows
+    size_t row_size;
     uint32_t lines_left;       // of that row
     struct part wanted;        // of it by all coats together
     uint8_t *spread;           // its pixels, with k above 1, from the layer's left edge on
@@ -129,27 +130,26 @@ static void add_one(struct band *b, enum way way, struct plane *mask, struct par
     j->coat.word = word;
 }
 
-// Words are worth their making where several lines share them and each needs most of them, and for
+// Words are worth their making where enough lines share them and each needs most of them, and for
 // a part that is short, which needs no sample to begin at its first pixel.
-static enum source source_of(const struct job *j, bool one_line)
+static bool wants_words(const struct job *j, bool one_line)
 {
     const struct layer *l = j->image->layer;
-    bool most = j->coat.way == AGREE || (j->coat.look == DENSE && l->k > 2),
-         words = !one_line && (most || j->part.to - j->part.from < SHORT);
-    if (l->k == 1)
-        return l->size == 3 ? THREES : GREYS;
-    if (l->k == 2 && !words)
-        return l->size == 3 ? THREES_BY_2 : GREYS_BY_2;
-    if (l->k == 4 && !words)
-        return l->size == 3 ? THREES_BY_4 : GREYS_BY_4;
-    return WORDS;
+    if (l->k == 1 || one_line)
+        return false;
+    if (j->coat.way == AGREE || j->part.to - j->part.from < SHORT)
+        return true;
+    return l->k > 4 || (l->k > 2 && j->coat.look == DENSE) ||
+           (l->k == 3 && l->size == 3 && j->coat.look == PLAIN);
 }
 
-static void set_source(struct job *j, enum source source)
+static void set_source(struct job *j, bool one_line)
 {
     const struct layer *l = j->image->layer;
-    j->coat.source = source;
-    j->coat.before = source == WORDS ? 0 : (l->k - (j->part.from - l->x) % l->k) % l->k;
+    bool words = wants_words(j, one_line);
+    j->coat.source = words ? WORDS : l->size == 3 ? THREES : GREYS;
+    j->coat.k = words ? 1 : l->k;
+    j->coat.before = words ? 0 : (l->k - (j->part.from - l->x) % l->k) % l->k;
     j->coat.count = (ptrdiff_t)(j->part.to - j->part.from) - j->coat.before;
     j->first_pixel = j->part.from - l->x + (uint32_t)j->coat.before;
     j->first_sample = j->first_pixel / l->k * l->size;
@@ -161,7 +161,7 @@ static void add_samples(struct band *b, struct plane *image, enum way way, struc
     struct job *j = add_job(b, way, mask, p);
     j->image = image;
     want(image, p);
-    set_source(j, source_of(j, b->one_line));
+    set_source(j, b->one_line);
 }
 
 // An image over a part: its area, and its base colour beside that.
@@ -237,10 +237,10 @@ static void find_jobs(struct band *b)
 static void begin_plane(struct plane *p, uint32_t n, const struct stripe *s)
 {
     const struct layer *l = &s->layer[n];
-    *p = (struct plane){.layer = l};
-    p->spread = n % 2 == 0 ? spread_masks[n / 2 - 1] : spread_images[n / 2];
+    *p = (struct plane){.layer = l, .row_size = (size_t)l->width * l->size};
     if (l->samples != NULL)
-        p->last_row = l->samples + (size_t)(l->height - 1) * l->width * l->size;
+        p->end = l->samples + l->height * p->row_size;
+    p->spread = n % 2 == 0 ? spread_masks[n / 2 - 1] : spread_images[n / 2];
     p->area = common((struct part){l->x, l->x + l->width * l->k}, (struct part){0, s->page_width});
 }
 
@@ -262,7 +262,7 @@ static uint32_t cross(struct band *b, uint32_t y)
         next = least(next, end);
         p->lines_left = l->k - (y - l->y) % l->k;
         if (l->samples != NULL)
-            p->row = l->samples + (size_t)((y - l->y) / l->k) * l->width * l->size;
+            p->row = l->samples + (y - l->y) / l->k * p->row_size;
     }
     return next;
 }
@@ -274,7 +274,7 @@ static void next_line(struct band *b)
         if (p->row == NULL || --p->lines_left != 0)
             continue;
         p->lines_left = p->layer->k;
-        p->row += (size_t)p->layer->width * p->layer->size;
+        p->row += p->row_size;
     }
 }
 
@@ -308,7 +308,7 @@ static void set_image(struct job *j)
         return;
     }
     j->coat.up = p->row + j->first_sample;
-    j->coat.last = p->row == p->last_row;
+    j->coat.last = (size_t)(p->end - p->row) < p->row_size + READ_MORE;
 }
 
 static void set_mask(struct job *j, uint32_t x)
@@ -326,7 +326,7 @@ static void look_on(struct job *j, enum look look)
         return;
     j->coat.look = look;
     if (j->image != NULL)
-        set_source(j, source_of(j, false));
+        set_source(j, false);
 }
 
 static void do_job(struct job *j, uint8_t *out)

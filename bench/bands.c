@@ -14,6 +14,7 @@
 #define PASSES 3 // over all rows, since a machine can be slow for seconds
 #define ROUNDS 15
 #define SMALL 20000
+#define LARGER 4000
 #define ROUND_NS 20000.0
 #define LIMIT 1.3        // of C, and
 #define LINES_LIMIT 0.25 // of the line call, where masks are in runs
@@ -112,23 +113,32 @@ static void make_room(struct work *w)
     w->room = spirerook_band_octets(second_of(w->sheet, w->stripe));
 }
 
+static void agree_on_good(struct work *w)
+{
+    expect_done("a small line", line_agreed("a small line", w));
+    make_room(w);
+    w->room += any(2);
+    expect_done("a small band", agreed("a small band", w));
+}
+
 static void agree_on_small(struct work *w)
 {
     unsigned good = 0;
+    for (int i = 0; i < LARGER; i++) {
+        make_larger(w);
+        agree_on_good(w);
+    }
     for (int i = 0; i < SMALL; i++) {
         make_small(w);
-        expect_done("a small line", line_agreed("a small line", w));
-        make_room(w);
-        w->room += any(2);
-        expect_done("a small band", agreed("a small band", w));
+        agree_on_good(w);
         for (uint32_t times = 1 + any(2); times != 0 && w->sheet_size != 0; times--)
             damage(w);
         good += agreed("a damaged call", w) == SPIREROOK_DONE;
         line_agreed("a damaged call", w);
     }
     printf(
-        "Rattle, C and the line call agree on %d bands and on each call once damaged: %u still good, %u refused\n\n",
-        SMALL, good, SMALL - good);
+        "Rattle, C and the line call agree on %d larger bands, on %d small ones and on each of these once damaged: %u still good, %u refused\n\n",
+        LARGER, SMALL, good, SMALL - good);
 }
 
 // ---- times

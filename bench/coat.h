@@ -6,9 +6,9 @@
 #include <stddef.h>
 #include <stdint.h>
 
-// What is laid: one word all over; samples of three octets or of one, which are one pixel, two or
-// four; or words, a pixel each.
-enum source { ONE, THREES, GREYS, THREES_BY_2, GREYS_BY_2, THREES_BY_4, GREYS_BY_4, WORDS };
+// What is laid: one word all over; samples of three octets or of one, k pixels each; or words, a
+// pixel each.
+enum source { ONE, THREES, GREYS, WORDS };
 
 // How: as it is; where the mask is not 0; or, the mask not being known, where it is what is there.
 enum way { LAY, PICK, AGREE };
@@ -21,13 +21,16 @@ enum look { PLAIN, SPARSE, DENSE };
 // another sample, and where all are among those the count is below 0.
 struct coat {
     enum source source;
+    uint32_t k; // 1, 2, 3, 4, 6 or 12
     enum way way;
     enum look look;
-    bool last; // no octets behind the samples may be read
+    bool last; // READ_MORE octets behind the row must not be read
     uint32_t word, unseen;
     ptrdiff_t before, count;
     const uint8_t *up, *mask; // of that first pixel
 };
+
+#define READ_MORE 8
 
 // Answers how the mask should be looked at in the next line.
 enum look put_coat(uint8_t *out, const struct coat *c);

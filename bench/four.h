@@ -84,20 +84,8 @@ static inline void sixteen_of_greys(const uint8_t *p, four up[4])
     up[3] = _mm_unpackhi_epi16(high, rest);
 }
 
-// Two pixels each of four, and four pixels each.
-static inline void put_twice(four v, four up[2])
-{
-    up[0] = _mm_unpacklo_epi32(v, v);
-    up[1] = _mm_unpackhi_epi32(v, v);
-}
-
-static inline void put_four_times(four v, four up[4])
-{
-    up[0] = _mm_shuffle_epi32(v, _MM_SHUFFLE(0, 0, 0, 0));
-    up[1] = _mm_shuffle_epi32(v, _MM_SHUFFLE(1, 1, 1, 1));
-    up[2] = _mm_shuffle_epi32(v, _MM_SHUFFLE(2, 2, 2, 2));
-    up[3] = _mm_shuffle_epi32(v, _MM_SHUFFLE(3, 3, 3, 3));
-}
+// Four of them by their numbers.
+#define CHOSEN(v, a, b, c, d) _mm_shuffle_epi32(v, _MM_SHUFFLE(d, c, b, a))
 
 static inline four four_picked(four low, four up, four keep)
 {
@@ -123,11 +111,12 @@ static inline unsigned zero_bits(sixteen zeros)
     return (unsigned)_mm_movemask_epi8(zeros);
 }
 
-static inline int four_blocks_zero(const uint8_t *mask)
+static inline int all_zero(const uint8_t *mask, int blocks)
 {
-    __m128i low = _mm_or_si128(four_at(mask), four_at(mask + 16)),
-            high = _mm_or_si128(four_at(mask + 32), four_at(mask + 48));
-    return zero_bits(_mm_cmpeq_epi8(_mm_or_si128(low, high), _mm_setzero_si128())) == 0xffff;
+    __m128i any = four_at(mask);
+    for (int i = 1; i < blocks; i++)
+        any = _mm_or_si128(any, four_at(mask + 16 * i));
+    return zero_bits(_mm_cmpeq_epi8(any, _mm_setzero_si128())) == 0xffff;
 }
 
 // The pixels to be kept of sixteen, four by four.

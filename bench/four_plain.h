@@ -41,17 +41,7 @@ static inline void sixteen_of_greys(const uint8_t *p, four up[4])
         up[i] = four_of_greys(p + 4 * i);
 }
 
-static inline void put_twice(four v, four up[2])
-{
-    up[0] = (four){{v.w[0], v.w[0], v.w[1], v.w[1]}};
-    up[1] = (four){{v.w[2], v.w[2], v.w[3], v.w[3]}};
-}
-
-static inline void put_four_times(four v, four up[4])
-{
-    for (int i = 0; i < 4; i++)
-        up[i] = four_of(v.w[i]);
-}
+#define CHOSEN(v, a, b, c, d) ((four){{(v).w[a], (v).w[b], (v).w[c], (v).w[d]}})
 
 static inline four four_picked(four low, four up, four keep)
 {
@@ -83,10 +73,10 @@ static inline unsigned zero_bits(sixteen zeros)
     return bits;
 }
 
-static inline int four_blocks_zero(const uint8_t *mask)
+static inline int all_zero(const uint8_t *mask, int blocks)
 {
     uint64_t any = 0, eight;
-    for (int i = 0; i < 64; i += 8) {
+    for (int i = 0; i < 16 * blocks; i += 8) {
         memcpy(&eight, mask + i, 8);
         any |= eight;
     }

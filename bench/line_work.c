@@ -226,11 +226,11 @@ static void code_small(uint8_t *p, uint32_t layer, uint32_t width, uint32_t heig
     put_area(p, any(width + 2), any(height + 1), 1 + any(width / k + 2), 1 + any(height / k + 2));
 }
 
-static void add_small(struct work *w, uint32_t stripe, uint32_t width)
+static void add_small(struct work *w, uint32_t stripe, uint32_t width, uint32_t most_height)
 {
     static const uint8_t types[] = {1, 2, 3,
                                     4, 6, 7}; // which of layers 1 to 3 are coded, a bit each
-    uint32_t layers = 3 + 2 * any(7), height = 1 + any(4), type = types[any(6)];
+    uint32_t layers = 3 + 2 * any(7), height = 1 + any(most_height), type = types[any(6)];
     for (uint32_t layer = 1; layer <= layers; layer++) {
         uint8_t *p = add_record(w, stripe, layer, MAIN);
         if (layer == 2)
@@ -242,14 +242,14 @@ static void add_small(struct work *w, uint32_t stripe, uint32_t width)
     }
 }
 
-void make_small(struct work *w)
+static void make_any(struct work *w, uint32_t most_width, uint32_t most_height)
 {
-    uint32_t stripes = 1 + any(3), width = 1 + any(40), share = any(5);
+    uint32_t stripes = 1 + any(3), width = 1 + any(most_width), share = any(5);
     size_t starts[3] = {SIZE_MAX, SIZE_MAX, SIZE_MAX};
     struct shape s = {.k = 1, .run = any(2) * 8};
     clear(w);
     for (uint32_t k = 0; k < stripes; k++)
-        add_small(w, k, width);
+        add_small(w, k, width, most_height);
     w->stripe = any(stripes);
     w->line = 0;
     for (int i = 0; i < 3; i++)
@@ -263,6 +263,16 @@ void make_small(struct work *w)
         if (p[2] == 2)
             w->line = any(be16(p + 10));
     }
+}
+
+void make_small(struct work *w)
+{
+    make_any(w, 40, 4);
+}
+
+void make_larger(struct work *w)
+{
+    make_any(w, 400, 30);
 }
 
 void damage(struct work *w)

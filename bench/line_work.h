@@ -51,8 +51,9 @@ void make_behind(struct work *w, const struct shape *s, uint32_t stripes, uint32
 // and have room.
 void make_coloured(struct work *w, const struct work *grey);
 
-// Small calls, good and damaged; some layers are grey.
+// Small calls, good and damaged; some layers are grey. Larger ones have rows of many blocks.
 void make_small(struct work *w);
+void make_larger(struct work *w);
 void damage(struct work *w);
 
 // The line that a composer makes of it.
