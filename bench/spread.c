@@ -7,7 +7,7 @@
 
 // ---- masks
 
-// By multiplication: k octets of 1 are the factor.
+// Eight octets at once, by multiplication.
 ALWAYS void octets_by(uint8_t *out, const uint8_t *p, size_t count, size_t k)
 {
     for (size_t i = 0; i < count; i++) {
@@ -67,11 +67,10 @@ void spread_mask(uint8_t *out, const uint8_t *samples, size_t count, uint32_t k)
 
 // ---- images
 
-#ifdef __SSE2__
-#define PUT(at, a, b, c, d) put_four(out + 16 * (at), _mm_shuffle_epi32(v, _MM_SHUFFLE(d, c, b, a)))
+#define PUT(at, a, b, c, d) put_four(out + 16 * (at), CHOSEN(v, a, b, c, d))
 
 // Four words, k pixels each.
-ALWAYS void put_spread(uint8_t *out, four v, uint32_t k)
+ALWAYS void put_spread(uint8_t *out, four v, size_t k)
 {
     switch (k) {
     case 2: PUT(0, 0, 0, 1, 1), PUT(1, 2, 2, 3, 3); break;
@@ -88,20 +87,13 @@ ALWAYS void put_spread(uint8_t *out, four v, uint32_t k)
         PUT(9, 3, 3, 3, 3), PUT(10, 3, 3, 3, 3), PUT(11, 3, 3, 3, 3);
     }
 }
-#else
-ALWAYS void put_spread(uint8_t *out, four v, uint32_t k)
-{
-    for (size_t i = 0; i < 4 * k; i++)
-        memcpy(out + 4 * i, &v.w[i / k], 4);
-}
-#endif
 
 ALWAYS void words_by(uint8_t *out, const uint8_t *p, size_t count, size_t k, size_t size)
 {
     size_t i = 0;
     for (; i + 4 < count; i += 4)
         put_spread(out + 4 * k * i, size == 3 ? four_of_threes(p + 3 * i) : four_of_greys(p + i),
-                   (uint32_t)k);
+                   k);
     for (; i < count; i++) {
         uint32_t w = size == 3 ? word_of_three(p + 3 * i) : word_of_grey(p + i);
         for (size_t j = i * k; j < i * k + k; j++)
