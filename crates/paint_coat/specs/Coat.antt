@@ -15,7 +15,7 @@ use mathlib.Core.Bool.{Bool, _&&_, cond}
 use mathlib.Core.List.{List}
 use lib.ListN.{length, getD}
 use lib.Dec.{eqb, ltb}
-use Rattle.paint_words.specs.Words.{octetsOf, fourFrom, seenFrom, greyFrom}
+use Rattle.paint_words.specs.Words.{fourFrom, seenFrom, greyFrom}
 
 pub record Coated (f : ℕ → List ℕ → List ℕ) (l : List ℕ) (a b : ℕ) (e : List ℕ) : Type 0 where
   pub long : length e ≡ length l
