@@ -164,8 +164,8 @@ def viewer(lines):
     for line in lines[at + 1:at + 6]:
         part, share = line.rsplit(None, 1)
         print("| %s | %s |" % (part.strip(), share))
-    ratio = re.search(r"literal C composer: ([\d.]+), limit ([\d.]+)", lines[at + 6])
-    print("\n" + wrapped("Composing through the library takes %s of what the same viewer takes with the literal C composer in "
+    ratio = re.search(r"C that paints bands: ([\d.]+), limit ([\d.]+)", lines[at + 6])
+    print("\n" + wrapped("Composing through the library takes %s of what the same viewer takes with the C that paints bands in "
                          "its place; the limit is %s. The picture is the same, octet for octet." % ratio.groups()))
     tell_lines(lines, "composing through the library", "a grey page of ")
 
