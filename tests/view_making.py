@@ -106,7 +106,7 @@ class Coders:
     def code(self, layer, coder, rows, x=0, y=0, words=()):
         """Fills a layer, whose resolution is set."""
         layer.coder, layer.rows, layer.x, layer.y = coder, rows, x, y
-        layer.grey = "grey" in words
+        layer.grey, layer.progressive = "grey" in words, "progressive" in words
         layer.width, layer.height = len(rows[0]), len(rows)
         layer.data = (self.mask(coder, rows) if layer.is_mask()
                       else self.jpeg(layer.resolution, rows, *words))
@@ -161,9 +161,10 @@ class Page:
         return 4 * self.width * self.heights[stripe]
 
     def least_memory(self):
-        """What the samples of each stripe fit into, and the pencil file, after octets() has been asked;
-        most bands do not."""
-        return max(len(self.sheet_and_pencil()[1]), *map(self.samples, range(len(self.stripes))), 1)
+        """What the samples of each stripe fit into, the pencil file, after octets() has been asked, and
+        each decoder; most bands do not."""
+        decoders = [decoder_memory(layer) for _, layer in self.coded() if not layer.unread]
+        return max(len(self.sheet_and_pencil()[1]), *map(self.samples, range(len(self.stripes))), *decoders, 1)
 
     def octets(self, image_coder=1):
         """The page; the place of each coded layer's data is kept for the sheet."""
@@ -289,6 +290,16 @@ def random_page(rng, coders, pencil, stripes=None):
         kind = rng.choice((1, 2, 3, 4, 6, 7))
         page.add(random_stripe(rng, coders, page, height, kind, most), height)
     return page
+
+
+def decoder_memory(layer):
+    """More than libjpeg takes for a layer, where it can be more than the samples: of a progressive one it
+    holds all coefficients, two octets each of whole blocks. Five rows of blocks it holds whatever is
+    allowed, and of other layers never more."""
+    if not layer.progressive or layer.height <= 40:
+        return 0
+    across, down = (-(-side // 8) * 8 for side in (layer.width, layer.height))
+    return 65536 + 2 * across * down * (1 if layer.grey else 3)
 
 
 # Running the viewer
