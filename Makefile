@@ -12,7 +12,7 @@ PROGRAMS = spirerook-view spirerook-make
 
 # the programs over the library: host/NAME.c each
 BOTH = apart apart_inside colour digest file new_file lines names sheet_words turns
-VIEW = $(addprefix view/,view options choices book pencil colour_notes layers decode decode_fax decode_t85 decode_jpeg picture screen) $(BOTH)
+VIEW = $(addprefix view/,view options choices book pencil colour_notes layers compose decode decode_fax decode_t85 decode_jpeg picture screen) $(BOTH)
 MAKE_PAGE = $(addprefix make/,make plan plan_layer plan_words picture_in picture_png picture_pnm to_lab code_fax code_t85 code_jpeg layers sheets side notes outputs octets trouble) $(BOTH)
 # they open what strangers send
 HARDENED = -D_FORTIFY_SOURCE=2 -fstack-protector-strong
@@ -43,12 +43,13 @@ faults:
 	@python3 tests/faults_page.py
 	@python3 tests/faults_write.py
 	@python3 tests/faults_line.py
+	@python3 tests/faults_band.py
 	@python3 tests/faults_data.py
 	@python3 tests/faults_boundary.py
 
 # FUZZ_SECONDS of changed pages, sheets and plane lists, the library beside the reference; what differs is kept in tests/cases.
 # Then the tests that try random cases, SPIREROOK_TRIALS times as many as in make test; times and sizes are then the full ones.
-RANDOM_TESTS = boundary valgrind pages_reference writes_reference lines_reference data_reference grey listing view view_unseen view_damage view_limits fill make files
+RANDOM_TESTS = boundary valgrind pages_reference writes_reference lines_reference bands_reference data_reference grey listing view view_unseen view_bands view_damage view_limits fill make files
 fuzz: export SPIREROOK_TRIALS ?= 5
 fuzz: build/libspirerook.a build/spirerook-view build/spirerook-make
 	@python3 tests/fuzz.py

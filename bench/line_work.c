@@ -16,15 +16,15 @@ struct shape pixel_shape(size_t row)
                           .layers = layer_counts[row / 24],
                           .k = ks[row / 4 % 6],
                           .run = row / 2 % 2 == 0 ? 64 : 0,
-                          .half = row % 2 == 1};
+                          .unread = row % 2 == 1 ? HALF_UNREAD : ALL_READ};
 }
 
 const char *pixel_name(const struct shape *s)
 {
+    static const char *const unread[] = {"all read", "half unread", "pairs unread"};
     static char name[80];
     snprintf(name, sizeof name, "%2u layers, k %2u, masks %s, %s", (unsigned)s->layers,
-             (unsigned)s->k, s->run != 0 ? "in runs  " : "at random",
-             s->half ? "half unread" : "all read");
+             (unsigned)s->k, s->run != 0 ? "in runs  " : "at random", unread[s->unread]);
     return name;
 }
 
@@ -109,7 +109,9 @@ static size_t sample_count(const uint8_t *record)
 
 static bool is_unread(const struct shape *s, uint32_t layer)
 {
-    return s->half && (layer % 4 == 3 || layer % 4 == 0);
+    if (s->unread == PAIRS_UNREAD)
+        return layer > 3 && layer % 4 < 2;
+    return s->unread == HALF_UNREAD && (layer % 4 == 3 || layer % 4 == 0);
 }
 
 static void list(struct work *w, uint32_t layer, size_t start)
@@ -134,7 +136,8 @@ static void read_layer(struct work *w, const struct shape *s, const uint8_t *rec
     starts[kind] = w->samples_size;
     list(w, layer, w->samples_size);
     if (layer % 2 == 0)
-        fill_mask(w->samples + w->samples_size, count, run == 0 ? 1 : run, layer > 8 ? s->ones : 0);
+        fill_mask(w->samples + w->samples_size, count, run == 0 ? 1 : run,
+                  layer > s->above ? s->ones : 0);
     else
         fill_image(w->samples + w->samples_size, count * size);
     w->samples_size += count * size;
@@ -223,11 +226,11 @@ static void code_small(uint8_t *p, uint32_t layer, uint32_t width, uint32_t heig
     put_area(p, any(width + 2), any(height + 1), 1 + any(width / k + 2), 1 + any(height / k + 2));
 }
 
-static void add_small(struct work *w, uint32_t stripe, uint32_t width)
+static void add_small(struct work *w, uint32_t stripe, uint32_t width, uint32_t most_height)
 {
     static const uint8_t types[] = {1, 2, 3,
                                     4, 6, 7}; // which of layers 1 to 3 are coded, a bit each
-    uint32_t layers = 3 + 2 * any(7), height = 1 + any(4), type = types[any(6)];
+    uint32_t layers = 3 + 2 * any(7), height = 1 + any(most_height), type = types[any(6)];
     for (uint32_t layer = 1; layer <= layers; layer++) {
         uint8_t *p = add_record(w, stripe, layer, MAIN);
         if (layer == 2)
@@ -239,14 +242,14 @@ static void add_small(struct work *w, uint32_t stripe, uint32_t width)
     }
 }
 
-void make_small(struct work *w)
+static void make_any(struct work *w, uint32_t most_width, uint32_t most_height)
 {
-    uint32_t stripes = 1 + any(3), width = 1 + any(40), share = any(5);
+    uint32_t stripes = 1 + any(3), width = 1 + any(most_width), share = any(5);
     size_t starts[3] = {SIZE_MAX, SIZE_MAX, SIZE_MAX};
     struct shape s = {.k = 1, .run = any(2) * 8};
     clear(w);
     for (uint32_t k = 0; k < stripes; k++)
-        add_small(w, k, width);
+        add_small(w, k, width, most_height);
     w->stripe = any(stripes);
     w->line = 0;
     for (int i = 0; i < 3; i++)
@@ -260,6 +263,16 @@ void make_small(struct work *w)
         if (p[2] == 2)
             w->line = any(be16(p + 10));
     }
+}
+
+void make_small(struct work *w)
+{
+    make_any(w, 40, 4);
+}
+
+void make_larger(struct work *w)
+{
+    make_any(w, 400, 30);
 }
 
 void damage(struct work *w)

@@ -22,14 +22,19 @@ struct work {
     size_t room;
 };
 
-// What a timed line is made of.
+// Which layers are not read: none; masks and images in turn, layers 3, 4, 7, 8, 11, 12 and 15; or
+// both layers of every other pair, 4, 5, 8, 9, 12 and 13.
+enum unread { ALL_READ, HALF_UNREAD, PAIRS_UNREAD };
+
+// What a timed line or band is made of.
 struct shape {
     uint32_t width, height, layers, k;
-    uint32_t run;  // main pixels of a mask that are alike; 0: each sample by itself
-    uint32_t ones; // of 16 runs in the masks of the highest pairs, above layer 8; 0: eight
-    bool half;     // layers 3, 4, 7, 8, 11, 12 and 15 are not read
-    bool shared;   // one stretch of samples for all image layers, one for all masks
-    bool grey;     // all image layers have one component
+    uint32_t run;   // main pixels of a mask that are alike; 0: each sample by itself
+    uint32_t ones;  // of 16 runs in masks above that layer; 0: eight
+    uint32_t above; // and below it eight
+    enum unread unread;
+    bool shared; // one stretch of samples for all image layers, one for all masks
+    bool grey;   // all image layers have one component
 };
 
 // The rows of every number of layers, ratio, kind of masks and share of what is read.
@@ -46,8 +51,9 @@ void make_behind(struct work *w, const struct shape *s, uint32_t stripes, uint32
 // and have room.
 void make_coloured(struct work *w, const struct work *grey);
 
-// Small calls, good and damaged; some layers are grey.
+// Small calls, good and damaged; some layers are grey. Larger ones have rows of many blocks.
 void make_small(struct work *w);
+void make_larger(struct work *w);
 void damage(struct work *w);
 
 // The line that a composer makes of it.

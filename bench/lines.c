@@ -145,7 +145,8 @@ struct other {
 // 15 layers, all read, masks in runs; of 16 runs above layer 8 so many are 1
 #define TOPS(count) \
     { \
-        .width = WIDTH, .height = LINES, .layers = 15, .k = 1, .run = 64, .ones = count \
+        .width = WIDTH, .height = LINES, .layers = 15, .k = 1, .run = 64, .ones = count, \
+        .above = 8 \
     }
 
 static const struct other others[] = {
@@ -227,7 +228,7 @@ static void print_others(void)
 #ifdef BEFORE
 static bool all_read(size_t i)
 {
-    return i >= PIXEL_ROWS || !pixel_shape(i).half;
+    return i >= PIXEL_ROWS || pixel_shape(i).unread == ALL_READ;
 }
 
 static void print_before(void)

@@ -111,17 +111,51 @@ def lines_of_pixels(lines):
             print("\n" + wrapped("B%s." % line[1:].rstrip()))
 
 
-def greys(lines):
-    groups, begin = {}, "grey layers, nanoseconds a pixel"
+def ratio_groups(lines, begin, columns):
+    """The least and the largest of some columns of a block, for each number of layers."""
+    groups = {}
     for line in block(lines, begin):
         numbers = re.findall(r"\d+\.\d+", line[46:])
-        groups.setdefault(int(line.split()[0]), []).append([float(ratio) for ratio in numbers[2:5]])
-    rows = [("%d layers, %d rows" % (layers, len(ratios)), *("%.2f to %.2f" % (min(column), max(column)) for column in zip(*ratios)))
+        groups.setdefault(int(line.split()[0]), []).append([float(numbers[k]) for k in columns])
+    return [("%d layers, %d rows" % (layers, len(ratios)), *("%.2f to %.2f" % (min(column), max(column)) for column in zip(*ratios)))
             for layers, ratios in sorted(groups.items())]
+
+
+def greys(lines):
+    begin = "grey layers, nanoseconds a pixel"
     table("A line of grey layers", "All image layers grey, one octet a sample, beside the same greys as coloured layers, three octets a sample: the "
           "same page, the same line octet for octet, in turns. Then beside the composers in C, which are lent the grey layers too.",
-          ("stripe", "beside coloured", "beside literal C", "beside C by rows"), rows)
+          ("stripe", "beside coloured", "beside literal C", "beside C by rows"), ratio_groups(lines, begin, (2, 3, 4)))
     tell_lines(lines, begin, "lines of grey layers take ")
+
+
+def band_rows(lines, begin):
+    """The rows of a block of bands, one table row for each stripe and kind of mask, a column for each kind of reading."""
+    rows = {}
+    for line in block(lines, begin):
+        name, numbers = line[:46].strip(), re.findall(r"\d+\.\d+", line[46:])
+        what, read = name.rsplit(", ", 1)
+        rows.setdefault(re.sub(" +", " ", what).strip(), {})[read] = (numbers[3], numbers[4])
+    return rows
+
+
+def bands(lines):
+    begin, beside = "bands, ns a pixel", ("beside C", "beside lines")
+    rows = band_rows(lines, begin)
+    kinds = list(next(iter(rows.values())))
+    table("A band of pixels", "A stripe of 2480 by 96 pixels in one call, beside tuned C that paints layer by layer too, sixteen pixels a step; then "
+          "beside the line call, once a line. All layers are read; or both of every other pair above layer 3 are unread; or masks and images in turn.",
+          ("stripe", *("%s, %s" % (kind, what) for what in beside for kind in kinds)),
+          [(name, *(row[kind][k] for k in range(2) for kind in kinds)) for name, row in rows.items()])
+    tell_lines(lines, begin, " bands are over the limit", " bands with masks in runs ")
+    begin = "other bands, ns a pixel"
+    table("Bands of other kinds", "The same, all layers read.", ("stripe", *beside),
+          [(re.sub(" +", " ", line[:46].strip()), *re.findall(r"\d+\.\d+", line[46:])[3:5]) for line in block(lines, begin)])
+    tell_lines(lines, begin, " other bands are over the limit", "a band filled by memset ")
+    begin = "one line, ns a pixel"
+    table("A line beside the C of a band", "The line call beside one line by the C that paints bands; the limit is 1.5.", ("stripe", "beside C"),
+          ratio_groups(lines, begin, (2,)))
+    tell_lines(lines, begin, " lines are over the limit")
 
 
 def viewer(lines):
@@ -130,8 +164,8 @@ def viewer(lines):
     for line in lines[at + 1:at + 6]:
         part, share = line.rsplit(None, 1)
         print("| %s | %s |" % (part.strip(), share))
-    ratio = re.search(r"literal C composer: ([\d.]+), limit ([\d.]+)", lines[at + 6])
-    print("\n" + wrapped("Composing through the library takes %s of what the same viewer takes with the literal C composer in "
+    ratio = re.search(r"C that paints bands: ([\d.]+), limit ([\d.]+)", lines[at + 6])
+    print("\n" + wrapped("Composing through the library takes %s of what the same viewer takes with the C that paints bands in "
                          "its place; the limit is %s. The picture is the same, octet for octet." % ratio.groups()))
     tell_lines(lines, "composing through the library", "a grey page of ")
 
@@ -139,7 +173,7 @@ def viewer(lines):
 def main():
     lines = sys.stdin.read().splitlines()
     print(HEAD, end="")
-    for part in (judge, pages, writes, lines_of_pixels, greys, viewer):
+    for part in (judge, pages, writes, lines_of_pixels, greys, bands, viewer):
         part(lines)
 
 

@@ -1,10 +1,11 @@
-"""The viewer's profile on an A4 page at 300 to the inch, its composing beside the literal C composer,
+"""The viewer's profile on an A4 page at 300 to the inch, its composing beside the C that paints bands,
 and a grey page beside the same page in colour.
 
 A page of text on paper with coloured words and two passes of pencil is made by spirerook-make. The
-viewer is built twice, over the library and over bench/line.c in the place of spirerook_line_unseen;
-both show the page in turns, their pictures must be the same, and medians are told. Then text on a grey
-scan at the page's resolution, made with a grey layer and with a coloured one, is shown in turns.
+viewer is built twice, over the library and over bench/band.c and bench/line.c in the place of
+spirerook_band and spirerook_line_unseen; both show the page in turns, all of it as bands, their
+pictures must be the same, and medians are told. Then text on a grey scan at the page's resolution, made
+with a grey layer and with a coloured one, is shown in turns.
 """
 
 import os
@@ -47,7 +48,9 @@ def text(stripe):
         line += word[:40] + " "
     small = run(["pbmtext", "-builtin", "fixed", "-nomargins"], "\n".join(lines[:13]).encode())
     large = run(["pbmpscale", "5"], small)
-    cut = run(["pamcut", "-pad", "-left=-120", "-top=-10", "-width=%d" % WIDTH, "-height=%d" % HEIGHT], large)
+    # white on all sides first: what pamcut adds is black, and what it is told left of 0 counts from the right
+    padded = run(["pnmpad", "-white", "-left=120", "-top=10", "-right=%d" % WIDTH, "-bottom=%d" % HEIGHT], large)
+    cut = run(["pamcut", "-left=0", "-top=0", "-width=%d" % WIDTH, "-height=%d" % HEIGHT], padded)
     return run(["pamtopnm"], cut) if cut[:2] == b"P7" else cut
 
 
@@ -134,22 +137,26 @@ def tell_grey():
     return whole <= GREY_LIMIT and memory < 1
 
 
-def build_literal():
-    """The viewer with the C composer where it calls the library's."""
-    objects = ["build/host/%s.o" % name for name in run(["make", "-s", "view-objects"]).decode().split() if name != "view/view"]
+def build_in_c():
+    """The viewer with C where it has the library compose."""
+    objects = ["build/host/%s.o" % name for name in run(["make", "-s", "view-objects"]).decode().split() if name != "view/compose"]
     strict = ["cc", "-std=c11", "-D_GNU_SOURCE", "-Wall", "-Wextra", "-Iinclude", "-Ihost"]
-    run([*strict, "-O2", "-Dspirerook_line_unseen=c_line", "-c", "-o", "build/bench_view/view.o", "host/view/view.c"])
-    if b" U c_line\n" not in run(["nm", "build/bench_view/view.o"]):
-        sys.exit("bench: the viewer composes lines by another call than spirerook_line_unseen")
-    for name in ("line", "judge"):
+    run([*strict, "-O2", "-Dspirerook_line_unseen=c_line", "-Dspirerook_band=c_band", "-c", "-o", "build/bench_view/compose.o", "host/view/compose.c"])
+    for call in (b"c_line", b"c_band"):
+        if b" U %s\n" % call not in run(["nm", "build/bench_view/compose.o"]):
+            sys.exit("bench: the viewer composes by other calls than spirerook_line_unseen and spirerook_band")
+    inside = ("line", "band", "coat", "spread", "judge")
+    for name in inside:
         run([*strict, "-O3", "-falign-functions=64", "-c", "-o", "build/bench_view/%s.o" % name, "bench/%s.c" % name])
-    own = ["build/bench_view/%s.o" % name for name in ("view", "line", "judge")]
+    own = ["build/bench_view/%s.o" % name for name in ("compose", *inside)]
     run(["cc", "-o", "build/bench_view/view_c", *own, *objects, "build/libspirerook.a", "-ltiff", "-ljbig", "-ljpeg", "-lnettle", "-lz", "-lm"])
     return "build/bench_view/view_c"
 
 
 def times(program, page, out):
     told = run([program, *page, "--times", "-o", out]).decode()
+    if "composed as bands: %d of %d stripes" % (STRIPES, STRIPES) not in told:
+        sys.exit("bench: not all stripes were composed as bands: %s" % told)
     line = re.search(r"^([\d.]+) s: decoding ([\d.]+), composing ([\d.]+), colour ([\d.]+), PNG ([\d.]+), all else ([\d.]+)$", told, re.M)
     return [float(each) for each in line.groups()]
 
@@ -158,7 +165,7 @@ def main():
     run(["bash", "tests/need", "pbmtext:netpbm"])
     run(["make", "build/spirerook-view", "build/spirerook-make"])
     page = make_page()
-    programs = {"library": "build/spirerook-view", "C": build_literal()}
+    programs = {"library": "build/spirerook-view", "C": build_in_c()}
     outs = {name: os.path.join(FOLDER, name + ".png") for name in programs}
     found = {name: [] for name in programs}
     for _ in range(ROUNDS):
@@ -173,7 +180,7 @@ def main():
     for part, seconds in zip(PARTS, parts):
         print("%-12s %5.2f" % (part, seconds / whole))
     ratio = medians["library"][2] / medians["C"][2]
-    print("composing through the library beside the literal C composer: %.2f, limit %.1f" % (ratio, LIMIT))
+    print("composing through the library beside the C that paints bands: %.2f, limit %.1f" % (ratio, LIMIT))
     good = ratio <= LIMIT and parts[-1] / whole <= ELSE_LIMIT
     good = tell_grey() and good
     print("within the limits" if good else "OVER A LIMIT")

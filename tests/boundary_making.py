@@ -5,6 +5,7 @@ most of the damage come from the generators that each call has for itself; here
 they are mixed, cut, and changed octet by octet without regard to what they mean.
 """
 
+import band_random
 import calls
 import data_random
 import line_random
@@ -17,6 +18,7 @@ from write_random import page_of, sheet_of
 
 LONGEST = 16777215
 MOST_ROOM = 20000
+SMALL_BANDS = [(3, 4), (12, 5)]      # the widest and the highest
 EDGES = [0, 1, 2, 3, 63, 64, 127, 128, 255, 256, 65535, 65536, 2 ** 31, 2 ** 32 - 1]
 
 
@@ -43,6 +45,12 @@ def good_line(rng):
     return work.call(room=some_room(rng, 4 * work.named().width))
 
 
+def good_band(rng):
+    """Small ones most often: in a band every pixel takes its time."""
+    work = band_random.Work(rng, band_random.SIZES if rng.random() < 0.15 else SMALL_BANDS)
+    return work.call(room=some_room(rng, work.size()))
+
+
 def good_data(rng):
     return data_random.Work(rng).call()
 
@@ -59,7 +67,7 @@ def and_unseen(make):
 
 
 GOOD = {"read": good_read, "write": good_write, "line": good_line, "data": good_data,
-        "judge": good_judge, "line_unseen": and_unseen(good_line)}
+        "judge": good_judge, "line_unseen": and_unseen(good_line), "band": good_band}
 
 
 # Damaged cases
@@ -120,19 +128,34 @@ def damaged_write(rng):
     return sheet, data, rng.choice([len(data) + 3000, len(data) + 3000, len(data), 30, 0])
 
 
-def damaged_line(rng):
-    work = line_random.Work(rng)
-    kind = rng.randrange(4)
+def damaged_scene(rng, work, kind):
+    """A line or a band with a fault in its plane list, or in its sheet."""
     if kind == 0:
         planes, samples = line_random.damaged_planes(rng, work)
         return work.call(planes=planes, samples=samples)
-    if kind == 1:
-        sheet = bytes(sheet_random.damaged(rng, bytearray(work.sheet)))
-        return work.call(sheet=sheet, room=rng.choice([4 * 32768, work.room]))
+    sheet = bytes(sheet_random.damaged(rng, bytearray(work.sheet)))
+    return work.call(sheet=sheet, room=rng.choice([4 * 32768, work.room]))
+
+
+def damaged_line(rng):
+    work = line_random.Work(rng)
+    kind = rng.randrange(4)
+    if kind < 2:
+        return damaged_scene(rng, work, kind)
     if kind == 2:
         return work.call(stripe=rng.choice([work.number, len(work.stripes), rng.choice(EDGES)]),
                          line=rng.choice([work.named().height, rng.choice(EDGES)]))
     return mutated(rng, "line", work.call())
+
+
+def damaged_band(rng):
+    work = band_random.Work(rng, SMALL_BANDS)
+    kind = rng.randrange(4)
+    if kind < 2:
+        return damaged_scene(rng, work, kind)
+    if kind == 2:
+        return work.call(stripe=rng.choice([len(work.stripes), rng.choice(EDGES)]))
+    return mutated(rng, "band", work.call())
 
 
 def damaged_data(rng):
@@ -148,7 +171,8 @@ def damaged_judge(rng):
 
 
 DAMAGED = {"read": damaged_read, "write": damaged_write, "line": damaged_line,
-           "data": damaged_data, "judge": damaged_judge, "line_unseen": and_unseen(damaged_line)}
+           "data": damaged_data, "judge": damaged_judge, "line_unseen": and_unseen(damaged_line),
+           "band": damaged_band}
 
 
 # Changes without regard to meaning

@@ -15,6 +15,7 @@ import boundary_making
 import calls
 import faults_fill
 import faults_grey
+import faults_painting
 import faults_unseen
 import fuzz
 import planting
@@ -22,9 +23,9 @@ import reference_run
 
 SEED = 20
 COUNT = reference_run.trials(200)    # good cases, and as many damaged
-READ, WRITE, LINE, DATA, JUDGE, LINE_UNSEEN = (
+READ, WRITE, LINE, DATA, JUDGE, LINE_UNSEEN, BAND = (
     "    return same;", "    return told;", "    return shown;", "    return handed;",
-    "    return judged;", "    return given;")
+    "    return judged;", "    return given;", "    return painted;")
 LINE_INPUTS = [("sheet", "sheet_len"), ("planes", "planes_len"), ("samples", "samples_len")]
 
 
@@ -70,6 +71,15 @@ def answered(call, answer):
         yield (call, what, *before(answer, code))
 
 
+# what a few hundred random bands must meet
+OF_PAINTING = [(what, "band.c", old, new) for what, old, new in faults_painting.ALL if what in (
+    "an unknown mask keeps the lower colour", "the crop in samples and not in main pixels",
+    "the image layer's area for the crop", "the mask's area for the image",
+    "a crop's columns kept from pair to pair", "leftovers of the buffer outside layer 1",
+    "a row too few below", "a column too few at the left", "lines from the bottom up",
+    "from the highest pair down", "no virtual mask", "x divided before the offset is taken away",
+    "no grey", "what is behind the last whole block left out")]
+
 # (call, what goes wrong, file, the text of the file, the text in its place)
 FAULTS = [
     *lent("read", READ, "sheet", "sheet_len", [("page", "page_len")]),
@@ -89,7 +99,11 @@ FAULTS = [
     *answered("line", LINE),
     *lent("line_unseen", LINE_UNSEEN, "out", "out_len", LINE_INPUTS),
     *answered("line_unseen", LINE_UNSEEN),
+    *lent("band", BAND, "out", "out_len", LINE_INPUTS),
+    *answered("band", BAND),
+    *(("band", what, *fault) for what, *fault in OF_PAINTING),
     *faults_unseen.OF_COLOUR,
+    *faults_unseen.OF_BAND,
     *faults_fill.OF_CALLS,
     *faults_grey.OF_CALLS,
     ("line", "octets past the line 0", *before(

@@ -1,14 +1,17 @@
-"""Faults of the unseen colour, and of the two calls that compose lines: for tests/faults_line.py,
-and most of them for tests/faults_boundary.py: (call, what goes wrong, the file, its text, the text
-in its place).
+"""Faults of the unseen colour, and of the calls that compose lines and paint bands: for
+tests/faults_line.py and tests/faults_band.py, and most of them for tests/faults_boundary.py: (call,
+what goes wrong, the file, its text, the text in its place).
 
 A fault stands in the call that it names and in no other, so that only cases of that call can find
 it. The wrong programs of request 2026-01 are among them.
 """
 
 # in tests/reference/as_library.c: the answer of each call before it gives it, and the unseen colour
-ANSWERS = {"line": "shown", "line_unseen": "given"}
-COLOURS = {"line": ("128", "128", "96"), "line_unseen": ("u0", "u1", "u2")}
+ANSWERS = {"line": "shown", "line_unseen": "given", "band": "painted"}
+COLOURS = {"line": ("128", "128", "96"), "line_unseen": ("u0", "u1", "u2"),
+           "band": ("u0", "u1", "u2")}
+TOLD = {"line": "line,   {%s}", "line_unseen": "line,   {%s}", "band": "samples_len, stripe, {%s}"}
+LINES = ("line", "line_unseen")
 EACH = "for (size_t k = 0; !ANSWER.number && k < ANSWER.count; k += 4) "
 IS_UNSEEN = "out[k] == U0 && out[k + 1] == U1 && out[k + 2] == U2"
 PAINT = "{ out[k] = U0; out[k + 1] = U1; out[k + 2] = U2; }"
@@ -25,7 +28,8 @@ def before(call, what, code):
 
 def colour(call, what, octets):
     """Another unseen colour than the one that is due."""
-    return call, what, "as_library.c", "{%s}" % ", ".join(COLOURS[call]), "{%s}" % octets
+    return (call, what, "as_library.c", TOLD[call] % ", ".join(COLOURS[call]),
+            TOLD[call] % octets)
 
 
 # what is lent to each call, and its answer
@@ -65,7 +69,7 @@ PIXELS = [
     ("unseen pixels of 0 0 0 0", EACH + "if (!out[k + 3]) out[k] = out[k + 1] = out[k + 2] = 0;"),
 ]
 
-# what the sibling may do where the other call refuses
+# what a call may do where the line call refuses
 REFUSED = [
     ("another number where there is no room", "if (ANSWER.number == 13) ANSWER.number = 15;"),
     ("another number where the line is none", "if (ANSWER.number == 17) ANSWER.number = 14;"),
@@ -113,17 +117,23 @@ SHARED = [
 OTHER_COLOURS = [colour("line", what, octets) for what, octets in (
     ("unseen as it was", "0, 0, 0"), ("128 96 128", "128, 96, 128"), ("96 128 128", "96, 128, 128"),
     ("128 128 128", "128, 128, 128"), ("127 128 96", "127, 128, 96"))]
-OTHER_COLOURS += [colour("line_unseen", what, octets) for what, octets in (
+# of a call that is told the unseen colour
+U_OTHERWISE = [
     ("u ignored, grey", "128, 128, 96"), ("u ignored, as it was", "0, 0, 0"),
     ("u0 and u1 exchanged", "u1, u0, u2"), ("u1 and u2 exchanged", "u0, u2, u1"),
     ("u0 and u2 exchanged", "u2, u1, u0"), ("u0 thrice", "u0, u0, u0"), ("u2 thrice", "u2, u2, u2"),
     ("seven bits of each octet", "u0 % 128, u1 % 128, u2 % 128"),
-    ("grey for 0 0 0", "u0 | u1 | u2 ? u0 : 128, u0 | u1 | u2 ? u1 : 128, u0 | u1 | u2 ? u2 : 96"))]
+    ("grey for 0 0 0", "u0 | u1 | u2 ? u0 : 128, u0 | u1 | u2 ? u1 : 128, u0 | u1 | u2 ? u2 : 96")]
+OTHER_COLOURS += [colour("line_unseen", *fault) for fault in U_OTHERWISE]
 # as a sibling would that goes over the other call's line and looks at its colours
 BY_COLOUR = before("line_unseen", "u over the seen pixels that are grey",
                    EACH + "if (out[k] == 128 && out[k + 1] == 128 && out[k + 2] == 96) " + PAINT)
 
 OF_COLOUR = [*OTHER_COLOURS, BY_COLOUR,
-             *(before(call, *fault) for call in ANSWERS for fault in PIXELS),
+             *(before(call, *fault) for call in LINES for fault in PIXELS),
              *(before("line_unseen", *fault) for fault in REFUSED)]
-OF_LENT = [before(call, *fault) for call in ANSWERS for fault in LENT]
+OF_LENT = [before(call, *fault) for call in LINES for fault in LENT]
+
+OF_BAND = [*(colour("band", *fault) for fault in U_OTHERWISE),
+           *(before("band", *fault) for fault in PIXELS + REFUSED)]
+OF_BAND_LENT = [before("band", *fault) for fault in LENT]

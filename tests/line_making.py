@@ -180,15 +180,16 @@ def with_unseen(case, unseen):
 class Case:
     """A line of the table: its number, name, what is lent, the call, the answer and the line."""
 
+    room = ROOM
+
     def __init__(self, cells):
         self.number, self.name, self.rule, sheet, read, call, changes, self.answer = cells[:8]
         self.pixels = cells[8]
         stripes = stripes_of(sheet)
         self.stripe, self.line = map(int, call.split())
-        named = stripes[self.stripe] if self.stripe < len(stripes) else None
+        self.named = stripes[self.stripe] if self.stripe < len(stripes) else None
         self.sheet = bytearray().join(stripe.records(k) for k, stripe in enumerate(stripes))
-        self.planes, self.samples = read_of(read, named)
-        self.room = ROOM
+        self.planes, self.samples = read_of(read, self.named)
         for change in filter(None, (words.strip() for words in changes.split(";"))):
             self.change(change)
 
@@ -233,7 +234,7 @@ class Case:
         return "line %s, %s: %s" % (self.number, self.name, self.answer)
 
 
-def table(path=None):
-    path = path or os.path.join(os.path.dirname(os.path.abspath(__file__)), "lines.md")
-    return [Case(cells) for cells in page_making.rows(path)
+def table(name="lines.md", kind=Case):
+    path = os.path.join(os.path.dirname(os.path.abspath(__file__)), name)
+    return [kind(cells) for cells in page_making.rows(path)
             if len(cells) == 9 and cells[0].isdigit()]

@@ -115,15 +115,7 @@ class Work:
 
     def __init__(self, rng):
         main, self.colours = rng.choice(LISTED), rng.sample(COLOURS, rng.choice([1, 2, 2, 3, 6]))
-        width = rng.choice([1, 2, rng.randint(1, WIDEST), WIDEST])
-        if rng.random() < 0.03:
-            width = rng.randint(WIDEST, WIDER)
-        if rng.random() < 0.04:
-            self.stripes = [random_stripe(rng, rng.choice([1, 2, 3]), main, self.colours,
-                                          rng.choice(HIGHER))]
-        else:
-            self.stripes = [random_stripe(rng, width, main, self.colours)
-                            for _ in range(rng.choice([1, 1, 1, 2, 3]))]
+        self.stripes = self.some_stripes(rng, main)
         self.sheet = b"".join(bytes(stripe.records(k)) for k, stripe in enumerate(self.stripes))
         self.number = rng.randrange(len(self.stripes))
         height = self.named().height
@@ -134,6 +126,20 @@ class Work:
         read = [layer for layer in self.coded() if rng.random() < share]
         for layer in rng.sample(read, len(read)):
             self.read(rng, layer)
+
+    def some_stripes(self, rng, main):
+        width = rng.choice([1, 2, rng.randint(1, WIDEST), WIDEST])
+        if rng.random() < 0.03:
+            width = rng.randint(WIDEST, WIDER)
+        if rng.random() < 0.04:
+            return [random_stripe(rng, rng.choice([1, 2, 3]), main, self.colours,
+                                  rng.choice(HIGHER))]
+        return [random_stripe(rng, width, main, self.colours)
+                for _ in range(rng.choice([1, 1, 1, 2, 3]))]
+
+    def some_octets(self, rng, layer):
+        """The samples of a layer that is read."""
+        return layer_octets(rng, self.named(), layer, self.colours)
 
     def named(self):
         return self.stripes[self.number]
@@ -152,7 +158,7 @@ class Work:
             self.planes[layer] = rng.randint(0, fit - size)
             return
         self.planes[layer] = fit
-        self.samples += layer_octets(rng, self.named(), layer, self.colours)
+        self.samples += self.some_octets(rng, layer)
 
     def plane_octets(self):
         return b"".join(entry(*pair) for pair in sorted(self.planes.items()))

@@ -20,8 +20,8 @@ WARNINGS = ["-std=c11", "-Wall", "-Wextra", "-Wpedantic", "-Werror"]
 SECONDS = 60         # by the clock; a run takes a few, but others may work on the machine
 TURNS = itertools.count()   # of programs run here
 LIST = ("sheet.c", "console.c", "list.c")
-CALLS = ("page.c", "reading.c", "stripe.c", "jpeg.c", "write.c", "line.c", "data.c", "sheet.c",
-         "as_library.c")
+CALLS = ("page.c", "reading.c", "stripe.c", "jpeg.c", "write.c", "line.c", "band.c", "data.c",
+         "sheet.c", "as_library.c")
 
 
 def in_driver(*files):
@@ -29,6 +29,7 @@ def in_driver(*files):
 
 
 FAR_DRIVER = ("console.c", *in_driver("line_far.c"))
+BAND_LINES = ("console.c", *in_driver("lent.c", "drive.c", "band_lines.c"))
 
 
 def driver_of(name):

@@ -1,5 +1,6 @@
-"""docs/C-API.md followed word for word: its program is saved and compiled, its steps are run, and
-what they print is what the page shows. Its table of numbers is the header's.
+"""docs/C-API.md followed word for word: its program, the last piece of C, is saved and compiled, its
+steps are run, and what they print is what the page shows; the piece before it is a function, which is
+compiled alone. Its table of numbers is the header's.
 """
 
 import os
@@ -18,7 +19,8 @@ KINDS = {"read": {**dict.fromkeys(range(1, 13), "octet"), 13: "0", 18: "0"},
          "write": {1: "record", 5: "record", 14: "record", 16: "record", 13: "0", 18: "0"},
          "line": {14: "record", 17: "0", 15: "entry", 13: "0"},
          "data": {14: "record", 17: "0", 1: "record"}, "judge": {14: "record"}}
-SIBLINGS = {"line_unseen": "line"}      # a call has the answers, and the column, of another
+# a call has the answers, and the column, of another
+SIBLINGS = {"line_unseen": "line", "band": "line"}
 
 
 def blocks(text, kind):
@@ -28,10 +30,10 @@ def blocks(text, kind):
 def check_steps(tally, text):
     """The program saved where the page says, then each block of steps in one shell."""
     program, steps, shown = (blocks(text, kind) for kind in ("c", "sh", "text"))
-    tally.check((len(program), len(steps), len(shown)) == (1, 2, 2), "other blocks: %s" % steps)
+    tally.check((len(program), len(steps), len(shown)) == (2, 2, 2), "other blocks: %s" % steps)
     tally.check("Save it as build/example.c:" in text, "where the program is saved")
     with open(os.path.join(reference_run.ROOT, "build", "example.c"), "w", encoding="ascii") as file:
-        file.write(program[0])
+        file.write(program[-1])
     clean = {key: value for key, value in os.environ.items() if not key.startswith("MAKE")}
     done = subprocess.run(["bash", "-c", PARTED.join(steps) + PARTED], cwd=reference_run.ROOT,
                           env=clean, check=False, stdout=subprocess.PIPE, stderr=subprocess.PIPE)
@@ -43,12 +45,13 @@ def check_steps(tally, text):
 
 
 def check_program(tally, text):
-    """Clean where the header is, and short functions."""
+    """Clean where the header is."""
     strict = ["-Wall", "-Wextra", "-Wpedantic", "-Wconversion", "-Wshadow", "-Werror"]
     folders = ["-I", reference_run.HEADERS, "-I", os.path.join(reference_run.ROOT, "host")]
-    done = subprocess.run(["cc", "-std=c11", *strict, "-fsyntax-only", *folders, "-x", "c", "-"],
-                          input=blocks(text, "c")[0].encode(), check=False, stderr=subprocess.PIPE)
-    tally.check(done.returncode == 0, done.stderr.decode("utf-8", "replace")[:600])
+    for piece in blocks(text, "c"):
+        done = subprocess.run(["cc", "-std=c11", *strict, "-fsyntax-only", *folders, "-x", "c", "-"],
+                              input=piece.encode(), check=False, stderr=subprocess.PIPE)
+        tally.check(done.returncode == 0, done.stderr.decode("utf-8", "replace")[:600])
 
 
 def check_page(tally):

@@ -8,6 +8,7 @@ the reference and of the library.
 import os
 import sys
 
+import band_making
 import calls
 import data_making
 import line_making
@@ -28,6 +29,11 @@ def words(name, parts, room=0, numbers=(0, 0), shown=0):
     told = [calls.NUMBERS[name], *(size for _, size in parts),
             *(len(octets) for octets, _ in parts), room, shown, *calls.told_numbers(numbers)]
     return b"".join(big(n, 8) for n in told) + b"".join(octets for octets, _ in parts)
+
+
+def sheet_of(stripe):
+    """The sheet of one stripe, in the words of tests/lines.md."""
+    return bytes(line_making.stripes_of(stripe)[0].records(0))
 
 
 def read_calls():
@@ -57,8 +63,7 @@ def write_calls():
 
 
 def line_calls(name, unseen):
-    stripe_of_4 = line_making.stripes_of("4x1 2 1=W 3=K")[0]
-    sheet, planes = bytes(stripe_of_4.records(0)), line_making.entry(2, 0)
+    sheet, planes = sheet_of("4x1 2 1=W 3=K"), line_making.entry(2, 0)
     samples, numbers = b"\1\0\0\1", line_making.with_unseen((0, 0), unseen)
 
     def line(parts, room, due):
@@ -81,6 +86,36 @@ def line_calls(name, unseen):
     last = line_making.entry(2, TOP - 4)
     yield name + ", the last samples before 2^32", *line([sheet, last, (b"", TOP)], 16, "W W W W")
     yield name + ", an octet less", *line([sheet, last, (b"", TOP - 1)], 16, "15 0 0 0 0 ")
+
+
+def band_calls():
+    """Beside lengths those bands that have 2^32 octets and more themselves: in a room that is an
+    octet short of them, or of as much as 32 bits of the size are, nothing is touched."""
+    sheet, planes = sheet_of("4x2 2 1=W 3=K"), line_making.entry(2, 0)
+    samples, numbers = b"\1\0\0\1\0\1\1\0", (0, *UNSEEN)
+    seen = "0 0 32 0 0 " + band_making.band_of("K W W K / W K K W", UNSEEN).hex()
+    for size in (TOP, TOP + 3, TOP + 32):
+        yield "band in room %d" % size, words("band", [sheet, planes, samples], size, numbers,
+                                              33), seen + "00"
+        yield "band, unseen, in room %d" % size, words("band", [sheet], size, numbers, 32), (
+            "0 0 32 0 0 " + band_making.band_of("2*(4*.)", UNSEEN).hex())
+        yield "band, samples of %d octets" % size, words(
+            "band", [sheet, planes, (samples, size)], 32, numbers, 32), seen
+        yield "band, a plane list of %d octets" % size, words(
+            "band", [sheet, (planes, size), samples], 32, numbers), "15 1 0 0 0 "
+        yield "band, a sheet of %d octets" % size, words(
+            "band", [(sheet, size), planes, samples], 32, numbers), "14 3 0 0 0 "
+    for width, height in ((32768, 32768), (32768, 32769), (16385, 65535), (32768, 65535)):
+        large, size = sheet_of("%dx%d 1:1x1" % (width, height)), 4 * width * height
+        for room in {size - 1, size - TOP, size % TOP + 1, TOP - 1}:
+            yield "band of %d octets in room %d" % (size, room), words(
+                "band", [large], room, numbers), "13 0 0 0 0 "
+    last = line_making.entry(2, TOP - 8)
+    yield "band, the last samples before 2^32", words(
+        "band", [sheet, last, (b"", TOP)], 32, numbers, 32), (
+            "0 0 32 0 0 " + band_making.band_of("2*(4*W)", UNSEEN).hex())
+    yield "band, an octet less", words("band", [sheet, last, (b"", TOP - 1)], 32, numbers), (
+        "15 0 0 0 0 ")
 
 
 def data_calls():
@@ -110,7 +145,7 @@ def judge_calls():
 
 def check(tally, told, program):
     works = [*read_calls(), *write_calls(), *line_calls("line", None),
-             *line_calls("line_unseen", UNSEEN), *data_calls(), *judge_calls()]
+             *line_calls("line_unseen", UNSEEN), *band_calls(), *data_calls(), *judge_calls()]
     printed, wrong, signal = reference_run.ended(program, b"".join(each[1] for each in works),
                                                  ["many"])
     lines = printed.decode("ascii", "replace").split("\n")[:-1]

@@ -1,7 +1,7 @@
 """What holds between grey layers and coloured ones, of the reference and of the library, each by
-itself (request 2026-07): a grey plane gives the line that its expanded plane, of (v, 128, 96) for
-each octet v, gives on the sheet with octet 17 cleared, and both are refused alike; a sheet with
-octet 17 turned over is judged and handed out as before, and written no more.
+itself (request 2026-07): a grey plane gives the line, or the band, that its expanded plane, of
+(v, 128, 96) for each octet v, gives on the sheet with octet 17 cleared, and both are refused alike;
+a sheet with octet 17 turned over is judged and handed out as before, and written no more.
 
 SEED makes a run again; LIBRARY names another archive than build/libspirerook.a.
 """
@@ -11,6 +11,7 @@ import os
 import random
 import sys
 
+import band_random
 import calls
 import counts
 import line_random
@@ -18,10 +19,13 @@ import page_random
 import reference_run
 import sheet_making
 import write_random
+from band_making import as_band
 from line_making import Stripe, entry, grey, with_unseen
 
 SCENES = reference_run.trials(350)
 PAGES = reference_run.trials(120)
+KINDS = [line_random.Work, line_random.Work, band_random.Work]      # of scenes
+BY_PARTS = {6: "line", 9: "line_unseen", 8: "band"}     # the call of a case, by its parts
 # of a record; another width or height asks for other samples, which differ in size
 FIELDS = [field for field in sheet_making.FIELDS
           if field not in ("width", "height", "grey", "octet17")
@@ -51,17 +55,19 @@ def packed(work, clear, order):
 
 def scene(rng):
     """Two works that show the same, the first with a grey layer in the stripe called for."""
-    work = line_random.Work(rng)
+    kind = rng.choice(KINDS)
+    work = kind(rng)
     while not any(fields["grey"] for fields in work.named().layers.values()):
-        work = line_random.Work(rng)
-    work.unseen = line_random.maybe_unseen(rng)
+        work = kind(rng)
+    if kind is line_random.Work:
+        work.unseen = line_random.maybe_unseen(rng)
     order = rng.sample(sorted(work.planes), len(work.planes))
     return packed(work, False, order), packed(work, True, order)
 
 
 def damage(rng, work):
-    """A change that both of a scene take, or that is refused of both at the same place: what differs
-    from the call of one of them."""
+    """A change that both of a scene take, or that is refused of both at the same place: what
+    differs from the call of one of them."""
     stripe = work.named()
     never = [0, 16, *work.planes, *(layer for layer in stripe.layers if layer not in work.coded())]
     changes = [{"room": 4 * stripe.width - 1}, {"room": 0}, {"stripe": len(work.stripes)},
@@ -129,7 +135,8 @@ def every_lightness(layer):
 def check_lightness(tally, whom):
     for layer in range(1, 16, 2):
         case, due = every_lightness(layer)
-        for got in whom.lines([case, with_unseen(case, (255, 128, 96))]):
+        white = (255, 128, 96)
+        for got in whom.lines([case, with_unseen(case, white), as_band(case, 1024, white)]):
             tally.check(got == due, "every lightness of layer %d: %s"
                         % (layer, calls.difference(due, got, "the paper", whom.told)))
 
@@ -182,8 +189,8 @@ class Asked:
         return calls.ALL[name].answers(self.programs[name], cases)
 
     def lines(self, cases):
-        """Of the call that is told the unseen colour, or of its sibling."""
-        names = ["line" if len(case) == 6 else "line_unseen" for case in cases]
+        """Of lines and bands, each case by the call that it is for."""
+        names = [BY_PARTS[len(case)] for case in cases]
         got = {name: iter(self.answers(name, [case for case, own in zip(cases, names)
                                               if own == name])) for name in set(names)}
         return [next(got[name]) for name in names]
@@ -191,7 +198,7 @@ class Asked:
 
 def asked(tally):
     """The reference, and beside it the library, if there is one."""
-    names = ("line", "line_unseen", "judge", "data", "write")
+    names = ("line", "line_unseen", "band", "judge", "data", "write")
     boths = {name: calls.Both(tally, calls.ALL[name]) for name in names}
     yield Asked("the reference", {name: both.reference for name, both in boths.items()})
     if all(both.library for both in boths.values()):

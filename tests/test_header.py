@@ -102,8 +102,10 @@ def check_bounds(tally, program):
 
 def check_records(tally, program, rng):
     """Each field from its own octets, and back; all octets random, but lengths and octet 17 often
-    those that tell something."""
+    those that tell something; and one of the largest band."""
     sheet = bytearray(rng.randbytes(28 * RECORDS))
+    sheet_making.put(sheet, 0, "width", 32768)
+    sheet_making.put(sheet, 0, "height", 65535)
     for k in range(RECORDS):
         if rng.random() < 0.5:
             sheet_making.put(sheet, k, "length", 0)
@@ -115,7 +117,7 @@ def check_records(tally, program, rng):
         row = [sheet_making.get(sheet, k, field) for field in FIELDS]
         coded, mask = int(row[12] != 0), int(row[1] % 2 == 0)
         samples = coded * row[5] * row[6] * (1 if mask or row[13] == 1 else 3)
-        due = " ".join(map(str, [*row, coded, mask, samples]))
+        due = " ".join(map(str, [*row, coded, mask, samples, 4 * row[5] * row[6]]))
         tally.check(lines[2 * k] == due, "record %d: %s is due, not %s" % (k, due, lines[2 * k]))
         due = sheet[28 * k:28 * k + 26].hex() + "0000"      # the last two octets are no field
         tally.check(lines[2 * k + 1] == due, "record %d made again: %s" % (k, lines[2 * k + 1]))

@@ -11,11 +11,13 @@ import re
 import subprocess
 import sys
 
+import band_random
 import boundary_making
 import calls
 import data_making
 import reference_run
 import test_limits
+from band_making import as_band
 from test_limits_line import Wide
 from page_making import ROOM
 from write_random import page_of, rows_of, sheet_of
@@ -54,6 +56,12 @@ def largest():
         yield name, work.call()
         yield name, unread.call()
         yield name, work.call(planes=work.plane_octets() + b"\1")
+        if unseen is not None:
+            # stripe 63 has one line, so that its band is that line
+            yield "band", as_band(work.call(), work.room)
+            yield "band", as_band(unread.call(), work.room)
+            yield "band", as_band(work.call(), work.room - 1)
+    yield "band", band_random.Work(random.Random(2), [(400, 16)]).call()
     sheet = bytes(data_making.sheet_of(STRIPES))
     for layer in (2, 15, 16):
         yield "data", (sheet, bytes(1010), bytes(1010), 63, layer)

@@ -1,7 +1,7 @@
 """The viewer's pictures, pixel for pixel, beside tests/view_reference.py.
 
 Random pages of all types, coders, resolutions and places, with pencil sheets and unread layers, half
-of them with a plain colour for unseen; stored layers of outside coders; colours. SEED repeats a run,
+of them with a plain colour for unseen, and half with no memory for most bands; stored layers of outside coders; colours. SEED repeats a run,
 PAGES sets how many pages it has.
 """
 
@@ -86,9 +86,11 @@ def check_told(results, name, page, shown, stripe):
                           "%s: no line '%s' in\n%s" % (name, due, shown.told))
 
 
-def check_page(results, coders, page, name, stripe=None, unseen=view_reference.Squares()):
-    """A page is shown as the reference has it, and what is told of it is true."""
+def check_page(results, coders, page, name, stripe=None, unseen=view_reference.Squares(), least=False):
+    """A page is shown as the reference has it, and what is told of it is true; with the least memory
+    that all its layers are read in, if that is asked for."""
     words, out = words_for(coders, page, stripe, unseen)
+    words += ["--memory", str(page.least_memory())] if least else []
     if os.path.exists(out):
         os.remove(out)
     shown, lines = Shown(words, out), due_lines(page, stripe)
@@ -158,7 +160,7 @@ def check_random(seed, count):
             layer.unread = rng.random() < share
         stripe = rng.randrange(len(page.stripes)) if rng.random() < 0.2 else None
         check_page(results, coders, page, "random page %d of %d" % (number, seed), stripe,
-                   random_unseen(rng, page))
+                   random_unseen(rng, page), rng.random() < 0.5)
     return results
 
 

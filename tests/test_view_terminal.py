@@ -1,5 +1,6 @@
 """Progress on a terminal: a long page tells the line that it is at, over the same line of the screen and
-only there; a short one, or one whose standard error is no terminal, says nothing of the kind.
+only there, composed as bands or line by line; a short one, or one whose standard error is no terminal,
+says nothing of the kind.
 """
 
 import os
@@ -15,14 +16,15 @@ import test_outside
 
 VIEW = os.path.join(reference_run.ROOT, "build", "spirerook-view")
 WIDTH, LONG, SHORT = 32768, 60000, 10
+PARTS = 60           # of the long page: the band of one of them is allowed, that of the whole is not
 END = b"\xff\xd9\xff\xd9"
 
 
-def page(height):
-    """A page of one image in its corner: composing takes all the time."""
+def page(height, stripes=1):
+    """A page of one image in the corner of each stripe: composing takes all the time."""
+    stripe = page_making.stripe(type=4, x1=0, y1=0, x3=0, y3=0, height=height // stripes, mask=0)
     return (page_making.start(mask=4, main=300, width=WIDTH)
-            + page_making.stripe(type=4, x1=0, y1=0, x3=0, y3=0, height=height, mask=0)
-            + test_outside.stored()["cjpeg.jpg"].octets + END)
+            + (stripe + test_outside.stored()["cjpeg.jpg"].octets) * stripes + END)
 
 
 def on_terminal(words):
@@ -44,10 +46,10 @@ def on_terminal(words):
     return status, shown
 
 
-def check_page(tally, folder, height):
+def check_page(tally, folder, height, stripes=1):
     name = os.path.join(folder, "%d.page" % height)
     with open(name, "wb") as file:
-        file.write(page(height))
+        file.write(page(height, stripes))
     status, shown = on_terminal([VIEW, name])
     if height == SHORT:
         tally.check((status, shown) == (0, b""), "a short page on a terminal: %s, %s" % (status, shown))
@@ -55,7 +57,7 @@ def check_page(tally, folder, height):
         tally.check((piped.returncode, piped.stderr) == (0, b""), "a short page: %s" % piped)
         return
     lines = [int(line) for line in re.findall(rb"\rline (\d+) of %d " % height, shown)]
-    tally.check(len(lines) >= 3 and lines == sorted(lines), "a long page on a terminal: %s" % shown[:300])
+    tally.check(len(lines) >= 3 and lines == sorted(lines), "a long page of %d stripes on a terminal: %s" % (stripes, shown[:300]))
     tally.check(b"\n" not in shown, "progress takes more than one line: %s" % shown[:300])
 
 
@@ -77,6 +79,7 @@ def main():
         return tally.end()
     with tempfile.TemporaryDirectory() as folder:
         check_page(tally, folder, SHORT)
+        check_page(tally, folder, LONG, PARTS)
         check_page(tally, folder, LONG)
         check_pipe(tally, folder)
     return tally.end()

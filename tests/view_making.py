@@ -106,7 +106,7 @@ class Coders:
     def code(self, layer, coder, rows, x=0, y=0, words=()):
         """Fills a layer, whose resolution is set."""
         layer.coder, layer.rows, layer.x, layer.y = coder, rows, x, y
-        layer.grey = "grey" in words
+        layer.grey, layer.progressive = "grey" in words, "progressive" in words
         layer.width, layer.height = len(rows[0]), len(rows)
         layer.data = (self.mask(coder, rows) if layer.is_mask()
                       else self.jpeg(layer.resolution, rows, *words))
@@ -150,6 +150,21 @@ class Page:
         """(stripe, layer) of each coded layer."""
         return [(stripe, layer) for stripe, layers in enumerate(self.stripes) for layer in layers
                 if layer.is_coded()]
+
+    def samples(self, stripe):
+        """Octets of the samples of a stripe's layers that are read."""
+        return sum(layer.width * layer.height * (1 if layer.is_mask() or layer.grey else 3)
+                   for layer in self.stripes[stripe] if layer.is_coded() and not layer.unread)
+
+    def band(self, stripe):
+        """Octets of a stripe's band."""
+        return 4 * self.width * self.heights[stripe]
+
+    def least_memory(self):
+        """What the samples of each stripe fit into, the pencil file, after octets() has been asked, and
+        each decoder; most bands do not."""
+        decoders = [decoder_memory(layer) for _, layer in self.coded() if not layer.unread]
+        return max(len(self.sheet_and_pencil()[1]), *map(self.samples, range(len(self.stripes))), *decoders, 1)
 
     def octets(self, image_coder=1):
         """The page; the place of each coded layer's data is kept for the sheet."""
@@ -277,6 +292,16 @@ def random_page(rng, coders, pencil, stripes=None):
     return page
 
 
+def decoder_memory(layer):
+    """More than libjpeg takes for a layer, where it can be more than the samples: of a progressive one it
+    holds all coefficients, two octets each of whole blocks. Five rows of blocks it holds whatever is
+    allowed, and of other layers never more."""
+    if not layer.progressive or layer.height <= 40:
+        return 0
+    across, down = (-(-side // 8) * 8 for side in (layer.width, layer.height))
+    return 65536 + 2 * across * down * (1 if layer.grey else 3)
+
+
 # Running the viewer
 
 def write(path, octets):
@@ -330,6 +355,11 @@ class Shown:
     def drawn(self):
         """What it tells unseen to be drawn as; None where all is seen, or nothing is drawn."""
         return self.last_line() and self.last_line()[4] or None
+
+    def bands(self):
+        """(stripes composed as bands, all stripes) as --times tells them, or None."""
+        found = re.findall(r"^composed as bands: (\d+) of (\d+) stripes$", self.told, re.M)
+        return tuple(map(int, found[0])) if len(found) == 1 else None
 
     def is_read(self, stripe, layer):
         """Whether a layer's line ends with `read`; None if there is not one line for it."""

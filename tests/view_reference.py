@@ -27,7 +27,7 @@ class Layer:
     def __init__(self, number, base=(0, 0, 0), resolution=0):
         self.number, self.base, self.resolution = number, base, resolution
         self.coder = self.x = self.y = self.width = self.height = 0
-        self.rows, self.data, self.unread, self.grey = None, b"", False, False
+        self.rows, self.data, self.unread, self.grey, self.progressive = None, b"", False, False, False
 
     def is_mask(self):
         return self.number % 2 == 0

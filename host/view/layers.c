@@ -144,6 +144,7 @@ void read_layers(const options *asked, const book *opened, size_t stripe, second
             spirerook_put_plane(read->planes + read->planes_octets, (uint32_t)k + 1,
                                 (uint32_t)placed.start[k]);
             read->planes_octets += SPIREROOK_PLANE_OCTETS;
+            read->held += spirerook_record_samples(record_of(opened, stripe, k));
         }
     }
 }

@@ -20,6 +20,7 @@ static const double all_decoders = 2.5, all_lines = 4.5;
 typedef struct {
     uint8_t *samples;
     size_t octets;
+    uint64_t held; /* octets of the samples themselves, as --memory counts them */
     uint8_t planes[SPIREROOK_LAYERS * SPIREROOK_PLANE_OCTETS];
     size_t planes_octets;
     finding found[SPIREROOK_LAYERS]; /* by layer, from layer 1; of uncoded ones LAYER_READ */

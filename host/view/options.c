@@ -18,7 +18,7 @@ static const char help[] =
     "  --unread STRIPE:LAYER .. shows the page as if these layers could not be read\n"
     "  --unseen RRGGBB          draws unseen pixels in this colour, not as green squares on magenta\n"
     "  --stripe N               shows this stripe only; stripes count from 0, layers from 1\n"
-    "  --memory SIZE            for the samples of a stripe, as 512M or 2G (1G if not given)\n"
+    "  --memory SIZE            for the samples of a stripe and its band, as 512M or 2G (1G if not given)\n"
     "  --seconds N or N:M       for a decoder: N of the processor (10 if not given), M by the clock (6 N)\n"
     "  --no-sandbox             lets decoders run where the system cannot shut them in\n"
     "  --times                  tells how long the parts of the work took\n"

@@ -19,7 +19,7 @@ typedef struct {
     uint8_t unseen[3]; /* the codes of that colour, or of the library's own */
     bool one_stripe;
     uint32_t stripe;
-    uint64_t memory; /* octets of samples that a stripe's layers may take together */
+    uint64_t memory; /* octets that a stripe's samples and, beside them, its band may take */
     uint32_t seconds, clock_seconds; /* of a decoder: the processor's, and by the clock */
 } options;
 

@@ -10,6 +10,7 @@
 #include "choices.h"
 #include "clock.h"
 #include "colour_notes.h"
+#include "compose.h"
 #include "layers.h"
 #include "lines.h"
 #include "new_file.h"
@@ -33,7 +34,8 @@ typedef struct {
     uint32_t y, composed; /* rows done, and those of them that were composed in time */
     picture *picture;     /* null where none is asked for */
     screen *colours;
-    uint8_t *line, *before, *row; /* a line, the one before it, and the row that is shown */
+    composer composer;
+    uint8_t *row; /* that is shown */
     size_t line_unseen;
 } run;
 
@@ -55,13 +57,12 @@ static bool set_up(run *r, const options *asked, const book *opened)
         r->height += spirerook_record_height(mask_of_stripe(opened, stripe));
     }
     r->colours = calloc(1, sizeof *r->colours);
-    r->line = malloc((size_t)r->width * SPIREROOK_PIXEL_OCTETS);
-    r->before = calloc(r->width, SPIREROOK_PIXEL_OCTETS);
     r->row = malloc((size_t)r->width * 3);
     if (asked->plain_unseen && r->colours != NULL) {
         draw_plain(r->colours, asked->unseen);
     }
-    return r->colours != NULL && r->line != NULL && r->before != NULL && r->row != NULL;
+    bool has_lines = begin_composer(&r->composer, asked, opened, r->width);
+    return has_lines && r->colours != NULL && r->row != NULL;
 }
 
 static void clear_away(run *r)
@@ -69,9 +70,8 @@ static void clear_away(run *r)
     if (r->picture != NULL) {
         drop_picture(r->picture);
     }
+    end_composer(&r->composer);
     free(r->colours);
-    free(r->line);
-    free(r->before);
     free(r->row);
 }
 
@@ -97,30 +97,26 @@ static void end_progress(run *r)
  * change with the rows. */
 static void colour_line(run *r)
 {
-    bool like = r->y > 0 &&
-                memcmp(r->line, r->before, (size_t)r->width * SPIREROOK_PIXEL_OCTETS) == 0;
+    const composer *c = &r->composer;
+    bool like = c->before != NULL && memcmp(c->line, c->before, c->line_octets) == 0;
     if (!like || (r->line_unseen > 0 && r->y % SQUARE == 0)) {
-        uint8_t *line = r->line;
-        r->line_unseen = row_of_line(r->colours, line, r->width, r->y, r->row);
-        r->line = r->before;
-        r->before = line;
+        r->line_unseen = row_of_line(r->colours, c->line, r->width, r->y, r->row);
     }
     r->unseen += r->line_unseen;
 }
 
-static bool compose_line(run *r, const stripe_layers *read, size_t stripe, uint32_t line)
+/* False, and said, where the library refused a line, or all lines of a stripe at once. */
+static bool is_composed(run *r, spirerook_answer done)
 {
-    const book *b = r->opened;
-    const uint8_t *unseen = r->asked->unseen;
-    spirerook_answer done = spirerook_line_unseen(
-        b->sheet, b->sheet_octets, read->planes, read->planes_octets, read->samples, read->octets,
-        (uint32_t)stripe, line, unseen[0], unseen[1], unseen[2], r->line,
-        (size_t)r->width * SPIREROOK_PIXEL_OCTETS);
+    const composer *c = &r->composer;
+    char line[32] = "";
     if (done.number != SPIREROOK_DONE) {
+        if (c->band == NULL) {
+            snprintf(line, sizeof line, ", line %u", (unsigned)c->next);
+        }
         end_progress(r);
-        complain("%s: stripe %zu, line %u: refused: %s (%u) at %u", r->asked->page, stripe,
-                 (unsigned)line, spirerook_name(done.number), (unsigned)done.number,
-                 (unsigned)done.place);
+        complain("%s: stripe %zu%s: refused: %s (%u) at %u", r->asked->page, c->stripe, line,
+                 spirerook_name(done.number), (unsigned)done.number, (unsigned)done.place);
     }
     return done.number == SPIREROOK_DONE;
 }
@@ -143,11 +139,11 @@ static bool is_time_left(run *r)
 }
 
 /* A row of the picture: the line composed and coloured or, when time is up, all unseen. */
-static bool show_line(run *r, const stripe_layers *read, size_t stripe, uint32_t line)
+static bool show_line(run *r)
 {
     double began = seconds_now(), composed = began;
     if (r->composed == r->y && is_time_left(r)) {
-        if (!compose_line(r, read, stripe, line)) {
+        if (!is_composed(r, next_line(&r->composer))) {
             return false;
         }
         composed = seconds_now();
@@ -168,10 +164,8 @@ static bool show_line(run *r, const stripe_layers *read, size_t stripe, uint32_t
     return good;
 }
 
-static bool show_stripe(run *r, size_t stripe)
+static void read_stripe(run *r, size_t stripe, stripe_layers *read)
 {
-    stripe_layers read;
-    uint32_t height = spirerook_record_height(mask_of_stripe(r->opened, stripe));
     double began = seconds_now();
     seconds left = seconds_left(r);
     if (left.processor < r->decoders_left.processor) {
@@ -180,17 +174,30 @@ static bool show_stripe(run *r, size_t stripe)
     if (left.clock < r->decoders_left.clock) {
         r->decoders_left.clock = left.clock;
     }
-    read_layers(r->asked, r->opened, stripe, &r->decoders_left, &read);
+    read_layers(r->asked, r->opened, stripe, &r->decoders_left, read);
     r->decoding += seconds_now() - began;
+}
+
+static bool show_stripe(run *r, size_t stripe)
+{
+    stripe_layers read;
+    uint32_t height = spirerook_record_height(mask_of_stripe(r->opened, stripe));
+    read_stripe(r, stripe, &read);
     end_progress(r);
     tell_layers(r->asked, r->opened, stripe, &read);
-    bool good = true;
+    tell_progress(r);
+    double began = seconds_now();
+    bool good = is_composed(r, begin_lines(&r->composer, stripe, &read, seconds_left(r)));
+    r->composing += seconds_now() - began;
     for (uint32_t line = 0; good && line < height; line++) {
-        good = show_line(r, &read, stripe, line);
+        good = show_line(r);
         if (line % LOOK_EACH == 0) {
             tell_progress(r);
         }
     }
+    began = seconds_now();
+    end_lines(&r->composer);
+    r->composing += seconds_now() - began;
     free_layers(&read);
     return good;
 }
@@ -248,6 +255,7 @@ static void tell_times(const run *r, double began)
     say_line("%.3f s: decoding %.3f, composing %.3f, colour %.3f, PNG %.3f, all else %.3f", all,
              r->decoding, r->composing, r->colouring, r->writing,
              all - r->decoding - r->composing - r->colouring - r->writing);
+    say_line("composed as bands: %zu of %zu stripes", r->composer.bands, r->to - r->from);
 }
 
 static int cannot_write(const char *name, const char *why)

@@ -5,9 +5,9 @@
  *   header bounds    a line a constant: its value and its name
  *   header records   28 octets a record from standard input: a line of its
  *                    fields each, as "A listing" has them, octet 17 last; then
- *                    whether it is coded and a mask, and the octets of its
- *                    samples; the same record made again of its fields follows
- *                    in hexadecimal
+ *                    whether it is coded and a mask, the octets of its samples,
+ *                    and those of a band of its width and height; the same
+ *                    record made again of its fields follows in hexadecimal
  *   header planes    lines of a layer and a start: the entry in hexadecimal
  *   header colours   three octets a colour from standard input: its sRGB in
  *                    hexadecimal
@@ -108,8 +108,9 @@ static void print_record(const uint8_t *record)
            (unsigned)r.coder, (unsigned)r.x, (unsigned)r.y, (unsigned)r.width, (unsigned)r.height,
            (unsigned)r.resolution, (unsigned)r.base[0], (unsigned)r.base[1], (unsigned)r.base[2],
            (unsigned)r.start, (unsigned)r.length, (unsigned)r.grey);
-    printf("%d %d %llu\n", spirerook_record_coded(record), spirerook_record_mask(record),
-           (unsigned long long)spirerook_record_samples(record));
+    printf("%d %d %llu %llu\n", spirerook_record_coded(record), spirerook_record_mask(record),
+           (unsigned long long)spirerook_record_samples(record),
+           (unsigned long long)spirerook_band_octets(record));
     memset(again, 0xEE, sizeof again);
     spirerook_put_record(again, &r);
     print_octets(again, sizeof again);

@@ -1,4 +1,5 @@
 /* The reference behind the library's header, so that one driver serves both. */
+#include "band.h"
 #include "data.h"
 #include "line.h"
 #include "page.h"
@@ -53,6 +54,19 @@ spirerook_answer spirerook_line_unseen(const uint8_t *sheet, size_t sheet_len,
                                              samples_len, stripe,    line,   {u0, u1, u2}};
     spirerook_answer given = compose(&call, out, out_len);
     return given;
+}
+
+/* "a stripe painted layer by layer into a band buffer" */
+spirerook_answer spirerook_band(const uint8_t *sheet, size_t sheet_len, const uint8_t *planes,
+                                size_t planes_len, const uint8_t *samples, size_t samples_len,
+                                uint32_t stripe, uint8_t u0, uint8_t u1, uint8_t u2, uint8_t *out,
+                                size_t out_len)
+{
+    const struct reference_band_call call = {sheet,   sheet_len,   planes, planes_len,
+                                             samples, samples_len, stripe, {u0, u1, u2}};
+    struct reference_answer band = reference_band(&call, out, out_len);
+    spirerook_answer painted = {band.number, band.place, band.count};
+    return painted;
 }
 
 /* "Done has place 0 and returns the records"; "a refusal returns 0 of them". */

@@ -7,7 +7,7 @@ use Rattle.sheet_rules.specs.declared.Colour.{Colour}
 use Rattle.data_report.specs.declared.DataReport.{DataReport}
 use Rattle.answers_report.specs.declared.Report.{Report}
 use Rattle.picture_rules.specs.Line.{unseenGrey}
-use Rattle.call_rules.specs.Calls.{JudgeCall, ReadCall, WriteCall, LineUnseenCall, LineCall, DataCall}
+use Rattle.call_rules.specs.Calls.{JudgeCall, ReadCall, WriteCall, LineUnseenCall, LineCall, BandCall, DataCall}
 
 pub judge-firm : (sheet : List ℕ) (r q : Report) → JudgeCall sheet r → JudgeCall sheet q → r ≡ q
 judge-firm sheet r q x y = x .reports ∙ sym (y .reports)
@@ -28,3 +28,7 @@ line-unseen-firm sheet planes samples k y u out r q e f x z = (x .reports ∙ sy
 pub line-firm : (sheet planes samples : List ℕ) (k y : ℕ) (out : List ℕ) (r q : Report) (e f : List ℕ) → LineCall sheet planes samples k y out r e → LineCall sheet planes samples k y out q f
     → (r ≡ q) × (e ≡ f)
 line-firm sheet planes samples k y out r q e f x z = line-unseen-firm sheet planes samples k y unseenGrey out r q e f x z
+
+pub band-firm : (sheet planes samples : List ℕ) (k : ℕ) (u : Colour) (out : List ℕ) (r q : Report) (e f : List ℕ)
+    → BandCall sheet planes samples k u out r e → BandCall sheet planes samples k u out q f → (r ≡ q) × (e ≡ f)
+band-firm sheet planes samples k u out r q e f x z = (x .reports ∙ sym (z .reports), x .holds ∙ sym (z .holds))

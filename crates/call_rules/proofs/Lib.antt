@@ -4,4 +4,5 @@ pub mod Judging
 pub mod Reading
 pub mod Writing
 pub mod Lining
+pub mod Banding
 pub mod Handing

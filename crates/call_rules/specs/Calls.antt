@@ -6,6 +6,7 @@
 --   WriteCall sheet d page r page′   a page is written from a sheet and its data d, the report is r, and the buffer is then page′
 --   LineUnseenCall sheet planes samples k y u out r out′   line y of stripe k is composed, u being the unseen colour, the report is r, and the buffer is then out′
 --   LineCall sheet planes samples k y out r out′   the same, and the unseen colour is 128 128 96
+--   BandCall sheet planes samples k u out r out′   all lines of stripe k are composed, u being the unseen colour, the report is r, and the buffer is then out′
 --   BaseLineCall sheet planes samples k y out r out′   the line call before there was an unseen colour, frozen
 use Prim.Native.Nat.{ℕ}
 use mathlib.Core.Path.{_≡_}
@@ -22,6 +23,7 @@ use Rattle.write_rules.specs.Writing.{writeOf, writeInto}
 use Rattle.pixel_rules.specs.Planes.{listOf}
 use Rattle.picture_rules.specs.Line.{unseenGrey, lineOf, lineInto}
 use Rattle.picture_rules.specs.BaseLine.{baseOf, baseInto}
+use Rattle.band_rules.specs.Band.{bandOf, bandInto}
 
 pub record JudgeCall (sheet : List ℕ) (r : Report) : Type 0 where
   pub reports : r ≡ reportOf (sheetAnswer sheet)
@@ -43,6 +45,10 @@ pub record LineUnseenCall (sheet planes samples : List ℕ) (k y : ℕ) (u : Col
 
 abbrev pub LineCall : List ℕ → List ℕ → List ℕ → ℕ → ℕ → List ℕ → Report → List ℕ → Type 0
 LineCall sheet planes samples k y out r out′ = LineUnseenCall sheet planes samples k y unseenGrey out r out′
+
+pub record BandCall (sheet planes samples : List ℕ) (k : ℕ) (u : Colour) (out : List ℕ) (r : Report) (out′ : List ℕ) : Type 0 where
+  pub reports : r ≡ reportOf (bandOf sheet (listOf planes) samples k (length out))
+  pub holds : out′ ≡ bandInto sheet (listOf planes) samples k u out
 
 pub record BaseLineCall (sheet planes samples : List ℕ) (k y : ℕ) (out : List ℕ) (r : Report) (out′ : List ℕ) : Type 0 where
   pub reports : r ≡ reportOf (baseOf sheet (listOf planes) samples k y (length out))

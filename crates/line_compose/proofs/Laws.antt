@@ -2,7 +2,7 @@
 -- Assumes nothing.
 use Prim.Native.Nat.{ℕ, _+_, _*_, _/_, _%_, _≤_, _<_}
 use native.Mathlib.Omega.{arith}
-use mathlib.Core.Path.{_≡_, refl, sym, ap, ap₂, subst, _∙_}
+use mathlib.Core.Path.{_≡_, refl, sym, ap, subst, _∙_}
 use mathlib.Core.Bool.{Bool, not}
 use mathlib.Core.List.{List}
 use lib.ListN.{length, replicate, take}
@@ -74,13 +74,28 @@ module _ (s : List ℕ) (extent : Extent) (t : Listing) (d : List ℕ) (y : ℕ)
   pub shown-rows : extent .layers * rowSize ≤ length {A = ℕ} (replicate rowsSize 0)
   shown-rows = let c = stage-layers stage in let n : length {A = ℕ} (replicate rowsSize 0) ≡ rowsSize = refl in omega arith
 
+  -- the rows of the line, put in front of any numbers that hold as many
+  module _ (base rows : List ℕ) (room : extent .layers * rowSize ≤ length base) (e : rows ≡ putAt base 0 (rowsOf s extent (entriesOf t) (record { 0 = y }) (extent .layers))) where
+    pub rows-shown : RowsFit s d rows (extent .layers / 2)
+    rows-shown = subst (λ (r : List ℕ). RowsFit s d r (extent .layers / 2)) (sym e) (rows-fit here list (g .stripe) y (record { 0 = y }) stage whole base room)
+
+    -- the pixels that are put are those of the line
+    pub shown-pixels : (u : Colour) → pixels u (λ (x : MainPos). decide (rowStack s d rows x) (extent .layers / 2)) (widthOf here) ≡ linePixels u here y
+    unfolding linePixels
+    shown-pixels u =
+        ap (λ (r : List ℕ). pixels u (λ (x : MainPos). decide (rowStack s d r x) (extent .layers / 2)) (widthOf here)) e
+        ∙ ap (λ (f : MainPos → Sample). pixels u f (widthOf here)) (λ i x. pixel-is here list (g .stripe) y (record { 0 = y }) stage whole base room x i)
+
   pub shown-fits : (rows : List ℕ) → rows ≡ putAt (replicate rowsSize 0) 0 (rowsOf s extent (entriesOf t) (record { 0 = y }) (extent .layers)) → RowsFit s d rows (extent .layers / 2)
-  shown-fits rows e = subst (λ (r : List ℕ). RowsFit s d r (extent .layers / 2)) (sym e) (rows-fit here list (g .stripe) y (record { 0 = y }) stage whole (replicate rowsSize 0) shown-rows)
+  shown-fits rows e = rows-shown (replicate rowsSize 0) rows shown-rows e
+
+  pub shown-wide : (second : Record) (width : ℕ) → second ≡ recordAt s (extent .first + 1) → width ≡ second .width → width ≡ widthOf here
+  unfolding layerRecord
+  shown-wide second width es ew = ew ∙ ap (λ (r : Record). r .width) es
 
   module _ (u : Colour) (out : List ℕ) (second : Record) (width : ℕ) (es : second ≡ recordAt s (extent .first + 1)) (ew : width ≡ second .width) where
     wide-is : width ≡ widthOf here
-    unfolding layerRecord
-    wide-is = ew ∙ ap (λ (r : Record). r .width) es
+    wide-is = shown-wide second width es ew
 
     pub shown-no-room : length out < width * 4 → Composed here y u out NoRoom out
     unfolding lineAnswer lineHolds
@@ -90,65 +105,69 @@ module _ (s : List ℕ) (extent : Extent) (t : Listing) (d : List ℕ) (y : ℕ)
 
     pub shown-done : (rows e : List ℕ) → width * 4 ≤ length out → rows ≡ putAt (replicate rowsSize 0) 0 (rowsOf s extent (entriesOf t) (record { 0 = y }) (extent .layers))
         → e ≡ putAt out 0 (pixels u (λ (x : MainPos). decide (rowStack s d rows x) (extent .layers / 2)) width) → Composed here y u out (Done (width * 4)) e
-    unfolding lineAnswer lineHolds linePixels
+    unfolding lineAnswer lineHolds
     shown-done rows e h er ee =
         let z = le-ltb (length out) (widthOf here * 4) (subst (λ (n : ℕ). n * 4 ≤ length out) wide-is h) in
         record {
           answers = rw z (ap (λ (n : ℕ). Done (n * 4)) wide-is);
           holds = rw z
-              (ee ∙ ap₂ (λ (r : List ℕ) (n : ℕ). putAt out 0 (pixels u (λ (x : MainPos). decide (rowStack s d r x) (extent .layers / 2)) n)) er wide-is
-              ∙ ap (λ (f : MainPos → Sample). putAt out 0 (pixels u f (widthOf here)))
-              (λ i x. pixel-is here list (g .stripe) y (record { 0 = y }) stage whole (replicate rowsSize 0) shown-rows x i));
+              (ee ∙ ap (λ (n : ℕ). putAt out 0 (pixels u (λ (x : MainPos). decide (rowStack s d rows x) (extent .layers / 2)) n)) wide-is
+              ∙ ap (putAt out 0) (shown-pixels (replicate rowsSize 0) rows shown-rows er u));
         }
 
 pub ruleset showing = (needs, shown-place, shown-standing, shown-rows, shown-fits, shown-no-room, shown-done)
 
 -- ---- after the verdict
 
-module _ (s : List ℕ) (t : Listing) (part : Bool) (d : List ℕ) (k y : ℕ) where
-  by-ruling : (u : Colour) (a : Answer) (out : List ℕ) (x : Ruling) → rulingOf s (listFrom t part) d k y ≡ x → Refused a ≡ ruledOf x → Lines s (listFrom t part) d k y u out a out
-  unfolding ruledOf lineOf lineInto lineAnswer lineHolds
-  by-ruling u a out (shows v) q z = clash cc
-  by-ruling u a out (refused b) q z =
-      let w : a ≡ b = cc in
-      record { answers = w ∙ sym (ap (lineAnswer (length out)) q); holds = sym (ap (lineHolds u out y) q) }
-
-  ruling-by : (extent : Extent) (x : Ruling) → rulingOf s (listFrom t part) d k y ≡ x → Shows extent ≡ ruledOf x → rulingOf s (listFrom t part) d k y ≡ shows (sceneFrom s extent t d)
-  unfolding ruledOf
-  ruling-by extent (shows v) q z =
-      let w : v .extent ≡ extent = cc in
-      let g = shows-stage s (listFrom t part) d k y v q in
-      q ∙ ap shows (λ i. record { sheet = g .sheet i; extent = w i; planes = g .planes i; samples = g .samples i })
-  ruling-by extent (refused b) q z = clash cc
-
-  shown-by : (extent : Extent) (x : Ruling) → rulingOf s (listFrom t part) d k y ≡ x → Shows extent ≡ ruledOf x → Showable (sceneFrom s extent t d) y
-  shown-by extent x q z = record { stripe = k; part = part; ruling = ruling-by extent x q z }
-
 module _ (s : List ℕ) (t : Listing) (part : Bool) (d : List ℕ) (k y : ℕ) (r : Ruled) (e : r ≡ ruledOf (rulingOf s (listFrom t part) d k y)) where
-  pub line-refused : (u : Colour) (a : Answer) (out : List ℕ) → r ≡ Refused a → Lines s (listFrom t part) d k y u out a out
-  unfolding lineOf lineInto
-  line-refused u a out z = go (rulingOf s (listFrom t part) d k y) refl (sym z ∙ e)
+  pub ruled-refused : (a : Answer) → r ≡ Refused a → rulingOf s (listFrom t part) d k y ≡ refused a
+  unfolding ruledOf
+  ruled-refused a z = by (rulingOf s (listFrom t part) d k y) refl (sym z ∙ e)
     where
-      go : (x : Ruling) → rulingOf s (listFrom t part) d k y ≡ x → Refused a ≡ ruledOf x → Lines s (listFrom t part) d k y u out a out
-      go x q = by-ruling s t part d k y u a out x q
+      by : (x : Ruling) → rulingOf s (listFrom t part) d k y ≡ x → Refused a ≡ ruledOf x → rulingOf s (listFrom t part) d k y ≡ refused a
+      by (shows v) q w = clash cc
+      by (refused b) q w = let c : a ≡ b = cc in q ∙ ap refused (sym c)
+
+  pub ruled-shown : (extent : Extent) → r ≡ Shows extent → rulingOf s (listFrom t part) d k y ≡ shows (sceneFrom s extent t d)
+  unfolding ruledOf
+  ruled-shown extent z = by (rulingOf s (listFrom t part) d k y) refl (sym z ∙ e)
+    where
+      by : (x : Ruling) → rulingOf s (listFrom t part) d k y ≡ x → Shows extent ≡ ruledOf x → rulingOf s (listFrom t part) d k y ≡ shows (sceneFrom s extent t d)
+      by (shows v) q w =
+          let c : v .extent ≡ extent = cc in
+          let g = shows-stage s (listFrom t part) d k y v q in
+          q ∙ ap shows (λ i. record { sheet = g .sheet i; extent = c i; planes = g .planes i; samples = g .samples i })
+      by (refused b) q w = clash cc
+
+  pub line-refused : (u : Colour) (a : Answer) (out : List ℕ) → r ≡ Refused a → Lines s (listFrom t part) d k y u out a out
+  unfolding lineOf lineInto lineAnswer lineHolds
+  line-refused u a out z =
+      let q = ruled-refused a z in
+      record { answers = sym (ap (lineAnswer (length out)) q); holds = sym (ap (lineHolds u out y) q) }
 
   pub line-shown : (extent : Extent) → r ≡ Shows extent → Showable (sceneFrom s extent t d) y
-  line-shown extent z = shown-by s t part d k y extent (rulingOf s (listFrom t part) d k y) refl (sym z ∙ e)
+  line-shown extent z = record { stripe = k; part = part; ruling = ruled-shown extent z }
 
   pub line-composed : (extent : Extent) (u : Colour) (out : List ℕ) (a : Answer) (f : List ℕ) → r ≡ Shows extent → Composed (sceneFrom s extent t d) y u out a f → Lines s (listFrom t part) d k y u out a f
   unfolding lineOf lineInto
   line-composed extent u out a f z c =
-      let q = ruling-by s t part d k y extent (rulingOf s (listFrom t part) d k y) refl (sym z ∙ e) in
+      let q = ruled-shown extent z in
       record { answers = c .answers ∙ ap (lineAnswer (length out)) (sym q); holds = c .holds ∙ ap (lineHolds u out y) (sym q) }
 
 -- ---- a list in octets
 
+-- the numbers hold its first sixteen entries
+pub listed-first : (planes : List ℕ) (t : Listing) (part : Bool) → t ≡ listingOf planes → part ≡ not (eqb (length planes % 5) 0)
+    → listFrom t part ≡ record { entries = take 16 (listOf planes .entries); part = listOf planes .part }
+unfolding listingOf
+listed-first planes t part et ep =
+    let q : entriesOf t ≡ take 16 (listOf planes .entries) = ap entriesOf et ∙ gathered-holds (listOf planes .entries) .entries in
+    λ i. record { entries = q i; part = ep i }
+
 pub line-listed : (s planes d : List ℕ) (k y : ℕ) (u : Colour) (t : Listing) (part : Bool) (out : List ℕ) (a : Answer) (e : List ℕ) → t ≡ listingOf planes → part ≡ not (eqb (length planes % 5) 0)
     → Lines s (listFrom t part) d k y u out a e → Lines s (listOf planes) d k y u out a e
-unfolding listingOf
 line-listed s planes d k y u t part out a e et ep h =
-    let q : entriesOf t ≡ take 16 (listOf planes .entries) = ap entriesOf et ∙ gathered-holds (listOf planes .entries) .entries in
     lines-first s d k y (listOf planes .entries) (listOf planes .part) u out a e
-    (subst (λ (l : PlaneList). Lines s l d k y u out a e) (λ i. record { entries = q i; part = ep i }) h)
+    (subst (λ (l : PlaneList). Lines s l d k y u out a e) (listed-first planes t part et ep) h)
 
 pub ruleset composing = (needs, line-refused, line-shown, line-composed, line-listed)

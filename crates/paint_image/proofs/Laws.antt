@@ -1,6 +1,6 @@
 -- One law for each way out of the functions that lay an image layer: its premises are what is known there.
 -- Assumes nothing.
-use Prim.Native.Nat.{ℕ, suc, _+_, _-_, _*_, _/_, _%_, _≤_, _<_}
+use Prim.Native.Nat.{ℕ, suc, _+_, _-_, _*_, _/_, _≤_, _<_}
 use native.Mathlib.Omega.{arith}
 use native.Mathlib.Nat.{div-add-mod', mod-lt, div-le-self, div-eq-of-lt-le, mul-le-mul-right, add-mul, one-mul, add-mul-div-right, suc-mul}
 use mathlib.Core.Path.{_≡_, refl, sym, ap, subst, _∙_}
@@ -9,10 +9,9 @@ use mathlib.Core.Bool.{Bool, true, false, cond}
 use mathlib.Core.List.{List}
 use lib.ListN.{length, getD}
 use lib.Dec.{eqb}
-use borrow.Author.Tests.{eq-eqb, ne-eqb}
+use borrow.Author.Tests.{ne-eqb}
 use borrow.Author.Needs.{needs}
 use Rattle.laws.proofs.Says.{says-lt, says-else}
-use Rattle.pixel_rules.specs.declared.MainPos.{MainPos}
 use Rattle.pixel_rules.specs.declared.SamplePos.{SamplePos}
 use Rattle.pixel_rules.specs.Place.{scale}
 use Rattle.line_sample.specs.Factor.{Steps}

@@ -18,7 +18,6 @@ use mathlib.Core.List.{List, [], _∷_}
 use lib.ListN.{length}
 use Rattle.pixel_rules.specs.declared.Sample.{Sample}
 use Rattle.pixel_rules.specs.declared.Sample.the-variants.{Known, Unknown}
-use Rattle.pixel_rules.specs.declared.MainPos.{MainPos}
 use Rattle.line_fetch.specs.declared.Row.{Row}
 use Rattle.line_fetch.specs.Rows.{rowImage, Turns}
 use Rattle.paint_coat.specs.Coat.{fourIn}

@@ -1,13 +1,10 @@
 -- A floor from pair to pair, and the pixel from the floor up: at the end it is decided.
 -- Assumes nothing.
-use Prim.Native.Nat.{ℕ, zero, suc, _+_, _≤_, _<_}
+use Prim.Native.Nat.{ℕ, suc, _≤_, _<_}
 use native.Mathlib.Omega.{arith}
-use mathlib.Core.Path.{_≡_, refl, sym, ap, ap₂, subst, _∙_}
-use mathlib.Core.Logic.{_≢_, _⊎_, ⊎-elim}
-use mathlib.Core.Bool.{Bool, true, false, cond}
-use lib.Dec.{eqb, leb}
+use mathlib.Core.Path.{_≡_, refl, sym, ap, subst, _∙_}
+use mathlib.Core.Logic.{_≢_, ⊎-elim}
 use borrow.Author.Tests.{eq-eqb, ne-eqb, le-leb, lt-leb}
-use Rattle.laws.proofs.Cases.{clash}
 use Rattle.laws.proofs.Says.{says-eq, says-le, says-lt, says-else}
 use Rattle.pixel_rules.specs.declared.Sample.{Sample}
 use Rattle.pixel_rules.specs.declared.Sample.the-variants.{Known, Unknown}

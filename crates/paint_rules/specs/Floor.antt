@@ -13,9 +13,8 @@ use mathlib.Core.Logic.{_≢_}
 use mathlib.Core.Bool.{cond}
 use lib.Dec.{eqb, leb}
 use Rattle.pixel_rules.specs.declared.Sample.{Sample}
-use Rattle.pixel_rules.specs.declared.Sample.the-variants.{Known, Unknown}
-use Rattle.pixel_rules.specs.declared.Mask.{Mask}
-use Rattle.pixel_rules.specs.declared.Mask.the-variants.{Zero, One, Hidden}
+use Rattle.pixel_rules.specs.declared.Sample.the-variants.{Unknown}
+use Rattle.pixel_rules.specs.declared.Mask.the-variants.{Zero, One}
 use Rattle.pixel_rules.specs.Decide.{Stack, decide}
 
 abbrev pub dark : ℕ

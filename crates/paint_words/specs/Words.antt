@@ -4,8 +4,7 @@
 --   seenFrom s i   three octets of s from i on, and the mark 1
 --   greyFrom s i   the octet of s at i as a grey, and the mark 1
 -- Assumes nothing.
-use Prim.Native.Nat.{ℕ, _+_, _*_, _/_, _%_, _<_}
-use mathlib.Core.Path.{_≡_}
+use Prim.Native.Nat.{ℕ, _+_, _/_, _%_}
 use mathlib.Core.List.{List, [], _∷_}
 use lib.ListN.{getD}
 

@@ -51,17 +51,17 @@ Each (p ∷ ps) = Holds p × Each ps
 
 -- ---- the records
 
-abbrev white : Colour
+abbrev pub white : Colour
 white = record { c0 = 255; c1 = 128; c2 = 96 }
 
-abbrev black : Colour
+abbrev pub black : Colour
 black = record { c0 = 0; c1 = 128; c2 = 96 }
 
-abbrev none : Colour
+abbrev pub none : Colour
 none = record { c0 = 0; c1 = 0; c2 = 0 }
 
 -- layer, coder, offsets, size, resolution, base colour, length of coded data
-abbrev layer : ℕ → ℕ → ℕ → ℕ → ℕ → ℕ → ℕ → Colour → ℕ → Record
+abbrev pub layer : ℕ → ℕ → ℕ → ℕ → ℕ → ℕ → ℕ → Colour → ℕ → Record
 layer l c x y w h res base n = made 0 l c x y w h res (base .c0) (base .c1) (base .c2) 0 n
 
 -- a coded layer, and one that is not; layer 2 is 8 by 2
@@ -71,7 +71,7 @@ image l x w h res base = layer l 1 x 0 w h res base 5
 abbrev mask : ℕ → ℕ → ℕ → ℕ → ℕ → Record
 mask l x w h res = layer l 4 x 0 w h res none 5
 
-abbrev blankImage : ℕ → Colour → Record
+abbrev pub blankImage : ℕ → Colour → Record
 blankImage l base = layer l 0 0 0 0 0 400 base 0
 
 abbrev blankMask : ℕ → Record
@@ -84,7 +84,7 @@ abbrev mask2 : Record
 mask2 = mask 2 0 8 2 400
 
 -- a plane list's entry: the layer, and the start of its samples
-abbrev entry : ℕ → ℕ → List ℕ
+abbrev pub entry : ℕ → ℕ → List ℕ
 entry l at = l ∷ 0 ∷ 0 ∷ 0 ∷ at ∷ []
 
 -- ---- the table
@@ -173,7 +173,7 @@ pixel-i =
     }
 
 -- the same record, of stripe 1
-abbrev below : Record → Record
+abbrev pub below : Record → Record
 below r = made 1 (r .layer) (r .coder) (r .x) (r .y) (r .width) (r .height) (r .res) (r .base0) (r .base1) (r .base2) (r .start) (r .len)
 
 -- (j): only layer 3 coded, read, inside; in the second of two stripes

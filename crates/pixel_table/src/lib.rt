@@ -1,1 +1,1 @@
-// The pixels of 01, "Pixels to prove", and four of grey layers: a theorem over the definitions, apart from them since each edit of a definition rechecks its crate.
+// The pixels of 01, "Pixels to prove", four of grey layers, and a band: theorems over the definitions, apart from them since each edit of a definition rechecks its crate.

@@ -1,5 +1,5 @@
 // The calls that a viewer in C links (include/spirerook.h). Each is thin: it calls the library's function and reports its answer.
-ghost use Rattle.call_rules.specs.Calls.{JudgeCall, ReadCall, WriteCall, LineUnseenCall, LineCall, DataCall};
+ghost use Rattle.call_rules.specs.Calls.{JudgeCall, ReadCall, WriteCall, LineUnseenCall, LineCall, BandCall, DataCall};
 use answers_report::Report;
 use data_report::DataReport;
 use sheet_rules::Colour;
@@ -67,6 +67,30 @@ pub extern "C" fn spirerook_line_unseen(
         c2: u2,
     };
     let a = line_compose::line_of(sheet, planes, samples, stripe, line, unseen, out);
+    answers_report::reported(a)
+}
+
+// All lines of a stripe, one behind the other.
+#[no_mangle]
+pub extern "C" fn spirerook_band(
+    sheet: &[u8],
+    planes: &[u8],
+    samples: &[u8],
+    stripe: u32,
+    u0: u8,
+    u1: u8,
+    u2: u8,
+    out: &mut [u8],
+) -> Report
+    ensures { λ r.
+        ⌜ BandCall (now (sheet .entry)) (now (planes .entry)) (now (samples .entry)) stripe (record { c0 = u0; c1 = u1; c2 = u2 }) (now (out .entry)) r (now (out .exit)) ⌝ }
+{
+    let unseen = Colour {
+        c0: u0,
+        c1: u1,
+        c2: u2,
+    };
+    let a = band_compose::band_of(sheet, planes, samples, stripe, unseen, out);
     answers_report::reported(a)
 }
 

@@ -1,18 +1,16 @@
-use Rattle.paint_coat.proofs.Laws.{Sampling, sampling-room, sampling-more, three-is, grey-is}
+use Rattle.paint_coat.proofs.Laws.{Sampling, sampling-room, sampling-more, grey-is}
 use Prim.Native.Nat.{_-_}
 use native.Mathlib.Omega.{arith}
 use Rattle.paint_coat.proofs.Laws.{sampling}
 use Rattle.paint_coat.proofs.grey_by.Statement.{statement}
 use Rattle.paint_coat.proofs.grey_by.Tie as tie
-use Rattle.paint_coat.proofs.grey_by.Reads as reads
-use Rattle.paint_coat.proofs.grey_by.Lts as lts
-use Rattle.paint_coat.proofs.lay_flat.Reads as lay-flat-reads
-use Rattle.paint_words.proofs.grey.Reads as grey-reads
 
 abbrev Inv-loop : tie.InvT-loop
 Inv-loop out₀ s t n i k q₀ p₀ out q p = Sampling 1 k s t i n out₀ out q p
+
 abbrev μ-loop : tie.MeasureT-loop
 μ-loop out₀ s t n i k q₀ p₀ out q p = n - q
+
 -- src/lib.rt:61:5
 loop-holds : tie.Need-loop-holds Inv-loop μ-loop
 loop-holds c = search sampling
@@ -28,6 +26,7 @@ grey-requires c κs = search sampling
 -- src/lib.rt:63:26
 add-lay-flat : tie.Need-add-lay-flat Inv-loop μ-loop
 add-lay-flat c = let h = sampling-room _ _ _ _ _ _ _ _ _ _ (c .before .before .before .loop .inv) (omega arith) in omega arith
+
 -- src/lib.rt:63:9
 lay-flat-requires : tie.Need-lay-flat-requires Inv-loop μ-loop
 lay-flat-requires c κs = search sampling
@@ -39,6 +38,7 @@ add-q c = search sampling
 -- src/lib.rt:65:9
 add-p : tie.Need-add-p Inv-loop μ-loop
 add-p c = let h = sampling-room _ _ _ _ _ _ _ _ _ _ (c .before .before .before .before .before .before .loop .inv) (omega arith) in omega arith
+
 -- src/lib.rt:61:5
 loop-less : tie.Need-loop-less Inv-loop μ-loop
 loop-less c = search sampling

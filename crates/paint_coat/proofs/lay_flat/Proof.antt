@@ -5,14 +5,13 @@ use Rattle.paint_coat.specs.Coat.{over, flat}
 use Rattle.paint_coat.proofs.Laws.{coating}
 use Rattle.paint_coat.proofs.lay_flat.Statement.{statement}
 use Rattle.paint_coat.proofs.lay_flat.Tie as tie
-use Rattle.paint_coat.proofs.lay_flat.Reads as reads
-use Rattle.paint_coat.proofs.lay_flat.Lts as lts
-use Rattle.paint_words.proofs.put_word.Reads as put-word-reads
 
 abbrev Inv-loop : tie.InvT-loop
 Inv-loop out₀ a b w x₀ out x = Coating (over (flat (octetsOf w))) out₀ a b out x
+
 abbrev μ-loop : tie.MeasureT-loop
 μ-loop out₀ a b w x₀ out x = b - x
+
 -- src/lib.rt:15:5
 loop-holds : tie.Need-loop-holds Inv-loop μ-loop
 loop-holds c = search coating

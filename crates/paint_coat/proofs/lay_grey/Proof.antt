@@ -2,9 +2,6 @@ use Rattle.paint_coat.proofs.Laws.{ratios}
 use borrow.Author.Needs.{needs}
 use Rattle.paint_coat.proofs.lay_grey.Statement.{statement}
 use Rattle.paint_coat.proofs.lay_grey.Tie as tie
-use Rattle.paint_coat.proofs.lay_grey.Reads as reads
-use Rattle.paint_coat.proofs.lay_grey.Lts as lts
-use Rattle.paint_coat.proofs.grey_by.Reads as grey-by-reads
 
 -- src/lib.rt:89:14
 grey-by-requires : tie.Need-grey-by-requires

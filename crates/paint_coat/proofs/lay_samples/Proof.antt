@@ -2,10 +2,6 @@ use Rattle.paint_coat.proofs.Laws.{kinds}
 use borrow.Author.Needs.{needs}
 use Rattle.paint_coat.proofs.lay_samples.Statement.{statement}
 use Rattle.paint_coat.proofs.lay_samples.Tie as tie
-use Rattle.paint_coat.proofs.lay_samples.Reads as reads
-use Rattle.paint_coat.proofs.lay_samples.Lts as lts
-use Rattle.paint_coat.proofs.lay_grey.Reads as lay-grey-reads
-use Rattle.paint_coat.proofs.lay_three.Reads as lay-three-reads
 
 -- src/lib.rt:107:9
 lay-three-requires : tie.Need-lay-three-requires

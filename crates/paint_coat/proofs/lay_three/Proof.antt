@@ -2,9 +2,6 @@ use Rattle.paint_coat.proofs.Laws.{ratios}
 use borrow.Author.Needs.{needs}
 use Rattle.paint_coat.proofs.lay_three.Statement.{statement}
 use Rattle.paint_coat.proofs.lay_three.Tie as tie
-use Rattle.paint_coat.proofs.lay_three.Reads as reads
-use Rattle.paint_coat.proofs.lay_three.Lts as lts
-use Rattle.paint_coat.proofs.three_by.Reads as three-by-reads
 
 -- src/lib.rt:74:14
 three-by-requires : tie.Need-three-by-requires

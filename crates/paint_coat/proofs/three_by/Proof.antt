@@ -4,12 +4,6 @@ use Rattle.paint_coat.proofs.Laws.{threes}
 use borrow.Author.Needs.{needs}
 use Rattle.paint_coat.proofs.three_by.Statement.{statement}
 use Rattle.paint_coat.proofs.three_by.Tie as tie
-use Rattle.paint_coat.proofs.three_by.Reads as reads
-use Rattle.paint_coat.proofs.three_by.Lts as lts
-use Rattle.paint_coat.proofs.lay_flat.Reads as lay-flat-reads
-use Rattle.paint_coat.proofs.wide_by.Reads as wide-by-reads
-use Rattle.paint_coat.proofs.wide_samples.Reads as wide-samples-reads
-use Rattle.paint_words.proofs.seen.Reads as seen-reads
 
 -- src/lib.rt:49:9
 wide-samples-requires : tie.Need-wide-samples-requires

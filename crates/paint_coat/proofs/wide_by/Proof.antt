@@ -4,15 +4,13 @@ use native.Mathlib.Omega.{arith}
 use Rattle.paint_coat.proofs.Laws.{widening}
 use Rattle.paint_coat.proofs.wide_by.Statement.{statement}
 use Rattle.paint_coat.proofs.wide_by.Tie as tie
-use Rattle.paint_coat.proofs.wide_by.Reads as reads
-use Rattle.paint_coat.proofs.wide_by.Lts as lts
-use Rattle.paint_coat.proofs.lay_flat.Reads as lay-flat-reads
-use Rattle.paint_words.proofs.seen_wide.Reads as seen-wide-reads
 
 abbrev Inv-loop : tie.InvT-loop
 Inv-loop out₀ s t n i k q₀ p₀ out q p = Sampling 3 k s t i n out₀ out q p
+
 abbrev μ-loop : tie.MeasureT-loop
 μ-loop out₀ s t n i k q₀ p₀ out q p = n - q
+
 -- src/lib.rt:36:5
 loop-holds : tie.Need-loop-holds Inv-loop μ-loop
 loop-holds c = search widening
@@ -32,6 +30,7 @@ seen-wide-requires c κs = search widening
 -- src/lib.rt:38:26
 add-lay-flat : tie.Need-add-lay-flat Inv-loop μ-loop
 add-lay-flat c = let h = sampling-room _ _ _ _ _ _ _ _ _ _ (c .before .before .before .loop .inv) (omega arith) in omega arith
+
 -- src/lib.rt:38:9
 lay-flat-requires : tie.Need-lay-flat-requires Inv-loop μ-loop
 lay-flat-requires c κs = search widening
@@ -43,6 +42,7 @@ add-q c = search widening
 -- src/lib.rt:40:9
 add-p : tie.Need-add-p Inv-loop μ-loop
 add-p c = let h = sampling-room _ _ _ _ _ _ _ _ _ _ (c .before .before .before .before .before .before .loop .inv) (omega arith) in omega arith
+
 -- src/lib.rt:36:5
 loop-less : tie.Need-loop-less Inv-loop μ-loop
 loop-less c = search widening
@@ -50,6 +50,7 @@ loop-less c = search widening
 -- src/lib.rt:36:5
 loop-again : tie.Need-loop-again Inv-loop μ-loop
 loop-again c = sampling-more _ _ _ _ _ _ _ _ _ _ (c .before .before .before .before .before .before .loop .inv) _ _ (omega arith) (three-is _ _ _ (c .before .before .before .before .seen-wide .ensures)) (c .before .before .lay-flat .ensures)
+
 -- src/lib.rt:30:1
 same-length : tie.Need-same-length Inv-loop μ-loop
 same-length c = search widening

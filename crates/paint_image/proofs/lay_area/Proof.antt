@@ -4,11 +4,6 @@ use Rattle.paint_image.proofs.Laws.{areas}
 use borrow.Author.Needs.{needs}
 use Rattle.paint_image.proofs.lay_area.Statement.{statement}
 use Rattle.paint_image.proofs.lay_area.Tie as tie
-use Rattle.paint_image.proofs.lay_area.Reads as reads
-use Rattle.paint_image.proofs.lay_area.Lts as lts
-use Rattle.paint_image.proofs.lay_from.Reads as lay-from-reads
-use Rattle.paint_image.proofs.lay_one.Reads as lay-one-reads
-use Rattle.paint_image.proofs.sample_of.Reads as sample-of-reads
 
 -- src/lib.rt:86:9
 sample-of-requires : tie.Need-sample-of-requires

@@ -2,10 +2,6 @@ use Rattle.paint_image.proofs.Laws.{laying}
 use borrow.Author.Needs.{needs}
 use Rattle.paint_image.proofs.lay_base.Statement.{statement}
 use Rattle.paint_image.proofs.lay_base.Tie as tie
-use Rattle.paint_image.proofs.lay_base.Reads as reads
-use Rattle.paint_image.proofs.lay_base.Lts as lts
-use Rattle.paint_coat.proofs.lay_flat.Reads as lay-flat-reads
-use Rattle.paint_words.proofs.seen.Reads as seen-reads
 
 -- src/lib.rt:107:9
 returns : tie.Need-returns

@@ -5,11 +5,6 @@ use Rattle.paint_image.proofs.Laws.{froms}
 use borrow.Author.Needs.{needs}
 use Rattle.paint_image.proofs.lay_from.Statement.{statement}
 use Rattle.paint_image.proofs.lay_from.Tie as tie
-use Rattle.paint_image.proofs.lay_from.Reads as reads
-use Rattle.paint_image.proofs.lay_from.Lts as lts
-use Rattle.paint_image.proofs.lay_one.Reads as lay-one-reads
-use Rattle.paint_image.proofs.lay_whole.Reads as lay-whole-reads
-use Rattle.paint_image.proofs.sample_of.Reads as sample-of-reads
 
 -- src/lib.rt:74:9
 sample-of-requires : tie.Need-sample-of-requires

@@ -4,11 +4,6 @@ use Rattle.paint_image.proofs.Laws.{imaging}
 use borrow.Author.Needs.{needs}
 use Rattle.paint_image.proofs.lay_image.Statement.{statement}
 use Rattle.paint_image.proofs.lay_image.Tie as tie
-use Rattle.paint_image.proofs.lay_image.Reads as reads
-use Rattle.paint_image.proofs.lay_image.Lts as lts
-use Rattle.paint_image.proofs.lay_base.Reads as lay-base-reads
-use Rattle.paint_image.proofs.lay_inside.Reads as lay-inside-reads
-use Rattle.paint_image.proofs.within.Reads as within-reads
 
 -- src/lib.rt:133:9
 within-requires : tie.Need-within-requires

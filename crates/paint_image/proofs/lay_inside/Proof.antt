@@ -2,10 +2,6 @@ use Rattle.paint_image.proofs.Laws.{laying}
 use borrow.Author.Needs.{needs}
 use Rattle.paint_image.proofs.lay_inside.Statement.{statement}
 use Rattle.paint_image.proofs.lay_inside.Tie as tie
-use Rattle.paint_image.proofs.lay_inside.Reads as reads
-use Rattle.paint_image.proofs.lay_inside.Lts as lts
-use Rattle.paint_coat.proofs.lay_flat.Reads as lay-flat-reads
-use Rattle.paint_image.proofs.lay_area.Reads as lay-area-reads
 
 -- src/lib.rt:119:9
 returns : tie.Need-returns

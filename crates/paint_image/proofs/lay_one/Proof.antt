@@ -2,10 +2,6 @@ use Rattle.paint_image.proofs.Laws.{ones}
 use borrow.Author.Needs.{needs}
 use Rattle.paint_image.proofs.lay_one.Statement.{statement}
 use Rattle.paint_image.proofs.lay_one.Tie as tie
-use Rattle.paint_image.proofs.lay_one.Reads as reads
-use Rattle.paint_image.proofs.lay_one.Lts as lts
-use Rattle.paint_coat.proofs.lay_flat.Reads as lay-flat-reads
-use Rattle.paint_image.proofs.sample_word.Reads as sample-word-reads
 
 -- src/lib.rt:53:35
 mul-sample-word : tie.Need-mul-sample-word

@@ -4,9 +4,6 @@ use Rattle.paint_image.proofs.Laws.{wholes}
 use borrow.Author.Needs.{needs}
 use Rattle.paint_image.proofs.lay_whole.Statement.{statement}
 use Rattle.paint_image.proofs.lay_whole.Tie as tie
-use Rattle.paint_image.proofs.lay_whole.Reads as reads
-use Rattle.paint_image.proofs.lay_whole.Lts as lts
-use Rattle.paint_coat.proofs.lay_samples.Reads as lay-samples-reads
 
 -- src/lib.rt:64:9
 returns : tie.Need-returns

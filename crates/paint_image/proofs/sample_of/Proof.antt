@@ -1,9 +1,6 @@
 use Rattle.paint_image.proofs.Laws.{placing}
 use Rattle.paint_image.proofs.sample_of.Statement.{statement}
 use Rattle.paint_image.proofs.sample_of.Tie as tie
-use Rattle.paint_image.proofs.sample_of.Reads as reads
-use Rattle.paint_image.proofs.sample_of.Lts as lts
-use Rattle.line_sample.proofs.scale_pos.Reads as scale-pos-reads
 
 -- src/lib.rt:33:9
 scale-pos-requires : tie.Need-scale-pos-requires

@@ -2,10 +2,6 @@ use Rattle.paint_image.proofs.Laws.{kinds}
 use borrow.Author.Needs.{needs}
 use Rattle.paint_image.proofs.sample_word.Statement.{statement}
 use Rattle.paint_image.proofs.sample_word.Tie as tie
-use Rattle.paint_image.proofs.sample_word.Reads as reads
-use Rattle.paint_image.proofs.sample_word.Lts as lts
-use Rattle.paint_words.proofs.grey.Reads as grey-reads
-use Rattle.paint_words.proofs.seen.Reads as seen-reads
 
 -- src/lib.rt:42:9
 seen-requires : tie.Need-seen-requires

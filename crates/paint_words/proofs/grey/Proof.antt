@@ -2,9 +2,6 @@ use Rattle.paint_words.proofs.Laws.{making}
 use borrow.Author.Needs.{needs}
 use Rattle.paint_words.proofs.grey.Statement.{statement}
 use Rattle.paint_words.proofs.grey.Tie as tie
-use Rattle.paint_words.proofs.grey.Reads as reads
-use Rattle.paint_words.proofs.grey.Lts as lts
-use Rattle.paint_words.proofs.word_of.Reads as word-of-reads
 
 -- src/lib.rt:53:13
 shared-slice-read-word-of : tie.Need-shared-slice-read-word-of

@@ -1,0 +1,1 @@
+// A band: all lines of a stripe in one call. Its definitions stand in specs/, the theorems about them in proofs/.
