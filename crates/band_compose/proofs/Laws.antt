@@ -26,7 +26,7 @@ use Rattle.pixel_rules.specs.Planes.{PlaneList, listOf}
 use Rattle.pixel_rules.specs.Samples.{Scene, widthOf}
 use Rattle.pixel_rules.specs.Decide.{decide}
 use Rattle.picture_rules.specs.Line.{pixels, linePixels, rulingOf}
-use Rattle.picture_rules.proofs.Scenes.{shows-stage, stage-extent, scene-width}
+use Rattle.picture_rules.proofs.Scenes.{Stage, shows-stage, stage-extent, scene-width}
 use Rattle.picture_rules.proofs.Fours.{length-line}
 use Rattle.band_rules.specs.Band.{bandLines, bandSize, bandAnswer, bandOf, bandHolds, bandInto, Bands}
 use Rattle.band_rules.proofs.Octets.{lines-below, length-lines}
@@ -37,6 +37,8 @@ use Rattle.line_planes.specs.declared.Listing.{Listing}
 use Rattle.line_planes.specs.Listing.{listingOf, entriesOf}
 use Rattle.line_pixel.specs.Rows.{rowStack, RowsFit}
 use Rattle.line_rows.specs.Rows.{rowsOf, Standing}
+use Rattle.paint_floor.specs.Floors.{PlainRows}
+use Rattle.paint_line.proofs.Plain.{rows-plain, pairs-few}
 use Rattle.line_verdict.specs.declared.Ruled.{Ruled}
 use Rattle.line_verdict.specs.declared.Ruled.the-variants.{Shows, Refused}
 use Rattle.line_verdict.specs.Ruled.{listFrom, ruledOf}
@@ -93,13 +95,24 @@ module _ (s : List ℕ) (extent : Extent) (t : Listing) (d : List ℕ) (y width 
       let b = length-drop at out in
       omega arith
 
-  pub line-narrow : width ≤ 65536
+  pub line-narrow : width < 65536
   line-narrow =
       let w = g .wide in
       let h = g .shown in
       let n = scene-width (shows-stage s (record { entries = entriesOf t; part = h .part }) d (h .stripe) y here (h .ruling)) in
       let m = n .1 in
       omega arith
+
+  stage : Stage s (record { entries = entriesOf t; part = g .shown .part }) d (g .shown .stripe) y here
+  stage = shows-stage s (record { entries = entriesOf t; part = g .shown .part }) d (g .shown .stripe) y here (g .shown .ruling)
+
+  pub line-plain : (rows : List ℕ) → rows ≡ putAt base 0 (rowsOf s extent (entriesOf t) (record { 0 = y }) (extent .layers)) → PlainRows rows (extent .layers / 2)
+  line-plain rows e =
+      subst (λ (r : List ℕ). PlainRows r (extent .layers / 2)) (sym e)
+      (rows-plain here (record { entries = entriesOf t; part = g .shown .part }) (g .shown .stripe) y (record { 0 = y }) stage base (g .rows))
+
+  pub line-few : extent .layers / 2 ≤ 7
+  line-few = pairs-few here (record { entries = entriesOf t; part = g .shown .part }) (g .shown .stripe) y (record { 0 = y }) stage
 
   pub line-put : (u : Colour) (rows e : List ℕ) → rows ≡ putAt base 0 (rowsOf s extent (entriesOf t) (record { 0 = y }) (extent .layers))
       → e ≡ putAt (take (length out - at) (drop at out)) 0 (pixels u (λ (x : MainPos). decide (rowStack s d rows x) (extent .layers / 2)) width)
@@ -114,7 +127,7 @@ module _ (s : List ℕ) (extent : Extent) (t : Listing) (d : List ℕ) (y width 
       ∙ ap (putAt (take (length out - at) (drop at out)) 0) p)
       ∙ part-back out at (linePixels u here y) (omega arith)
 
-pub ruleset lining = (needs, line-standing, line-rows, line-fits, line-room, line-narrow, line-put)
+pub ruleset lining = (needs, line-standing, line-rows, line-fits, line-plain, line-few, line-room, line-narrow, line-put)
 
 -- ---- the lines of a stripe that is to be shown, one behind the other
 

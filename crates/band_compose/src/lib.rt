@@ -43,7 +43,7 @@ pub fn put_line(
     ensures { λ _. ⌜ now (out .exit) ≡ putAt (now (out .entry)) at (linePixels unseen (sceneFrom (now (sheet .entry)) extent list (now (samples .entry))) y) ⌝ }
 {
     line_rows::put_rows(rows, sheet, extent, list, MainPos(y));
-    line_put::put_pixels(
+    paint_line::paint_line(
         &mut out[at..],
         sheet,
         samples,

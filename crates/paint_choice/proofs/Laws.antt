@@ -3,20 +3,16 @@
 use Prim.Native.Nat.{ℕ, suc, _+_, _-_, _*_, _/_, _≤_, _<_}
 use native.Mathlib.Omega.{arith}
 use native.Mathlib.Nat.{add-mul, one-mul, mul-le-mul-right, suc-mul, add-mul-div-right, div-le-self, div-one}
-use mathlib.Core.Path.{_≡_, refl, sym, ap, subst, _∙_}
-use mathlib.Core.Logic.{_≢_, ⊎-elim}
-use mathlib.Core.Bool.{Bool, true, false, cond}
+use mathlib.Core.Path.{_≡_, sym, ap, _∙_}
+use mathlib.Core.Logic.{⊎-elim}
 use mathlib.Core.List.{List}
 use lib.ListN.{length, getD}
-use lib.Dec.{eqb}
-use borrow.Author.Tests.{eq-eqb, ne-eqb}
 use borrow.Author.Needs.{needs}
 use Rattle.laws.proofs.Says.{says-lt, says-else}
 use Rattle.line_fetch.specs.declared.Row.{Row}
-use Rattle.line_fetch.specs.Rows.{Turns, MaskFits, ImageFits}
-use Rattle.paint_image.specs.Image.{SampleAt, Between, Within, Plain}
-use Rattle.paint_choice.specs.Choice.{Marked, ever, bitsFrom, Spread, maskBits, MaskPart}
-use Rattle.paint_choice.proofs.Marks.{marked-none, marked-as}
+use Rattle.paint_image.specs.Image.{SampleAt}
+use Rattle.paint_choice.specs.Choice.{Marked, bitsFrom, Spread, maskBits, MaskPart}
+use Rattle.paint_choice.proofs.Marks.{marked-as}
 
 -- ---- a mask that was read
 

@@ -1,8 +1,8 @@
 // Octets marked under a mask, one a pixel, sixteen at a time: the floors of the pixels of a part of a row are kept so, and masks alone are looked at.
 ghost use mathlib.Core.Path.{_≡_};
-ghost use mathlib.Core.Bool.{true, cond};
+ghost use mathlib.Core.Bool.{cond};
 ghost use Prim.Native.Nat.{_+_, _-_, _*_, _<_, _≤_};
-ghost use lib.ListN.{length, getD};
+ghost use lib.ListN.{length};
 ghost use lib.Dec.{eqb};
 ghost use Rattle.paint_choice.specs.Choice.{Marked, ever, bitsFrom, Spread, maskBits, MaskPart};
 use line_fetch::Row;
@@ -66,7 +66,16 @@ fn lay_bits(bits: &mut [u8], m: &[u8], i: usize, n: usize, k: usize)
 }
 
 // A mask that was read, in a part of its area: pixels from x up to y, the floors starting at pixel a.
-pub fn mask_read(sel: &mut [u8], bits: &mut [u8], d: &[u8], m: Row, v: u8, a: usize, x: usize, y: usize)
+pub fn mask_read(
+    sel: &mut [u8],
+    bits: &mut [u8],
+    d: &[u8],
+    m: Row,
+    v: u8,
+    a: usize,
+    x: usize,
+    y: usize,
+)
     requires { ⌜ MaskPart (now d) m x y × (a ≤ x) × (y - a ≤ length (now sel)) × (y - x + 24 ≤ length (now bits)) ⌝ }
     ensures { λ _. ⌜ Marked (maskBits (now (d .entry)) m a) (now (sel .entry)) (x - a) (y - a) v (now (sel .exit)) ⌝ }
 {

@@ -14,11 +14,10 @@ use Rattle.laws.proofs.Cases.{clash}
 use Rattle.laws.proofs.Says.{says-lt, says-le, says-eq, says-else}
 use Rattle.pixel_rules.specs.Place.{scale}
 use Rattle.line_fetch.specs.declared.Row.{Row}
-use Rattle.line_fetch.specs.Rows.{Turns, MaskFits, ImageFits}
+use Rattle.line_fetch.specs.Rows.{MaskFits}
 use Rattle.line_fetch.specs.Rows.{rowSize, rowAt, rowMask, rowImage}
 use Rattle.line_fetch.proofs.Laws.{mask-before, mask-after, mask-unread, mask-read, image-unread}
-use Rattle.line_pixel.specs.Rows.{rowStack, RowsFit, PairFits}
-use Rattle.pixel_rules.specs.declared.MainPos.{MainPos}
+use Rattle.line_pixel.specs.Rows.{rowStack, RowsFit}
 use Rattle.pixel_rules.specs.declared.Mask.{Mask}
 use Rattle.pixel_rules.specs.declared.Mask.the-variants.{Zero, One, Hidden}
 use Rattle.pixel_rules.specs.declared.Sample.{Sample}
@@ -27,7 +26,7 @@ use Rattle.pixel_rules.specs.Samples.{bitOf}
 use Rattle.pixel_rules.specs.Decide.{Stack, agree, pairStep, decide}
 use Rattle.paint_rules.specs.Floor.{dark, Settled, Step, stays, taken, lost}
 use Rattle.paint_rules.proofs.Floors.{settled-first, settled-dark, settled-step}
-use Rattle.paint_image.specs.Image.{Between, Within, Plain}
+use Rattle.paint_image.specs.Image.{Between, Within}
 use Rattle.paint_choice.specs.Choice.{Marked, ever, maskBits, MaskPart}
 use Rattle.paint_choice.proofs.Marks.{marked-none, marked-as}
 use Rattle.paint_floor.specs.Floors.{insideBits, MarkOf, Covers, all-ones, all-dark, PlainRows, Sure, Starts}

@@ -48,7 +48,16 @@ fn mark_beside(sel: &mut [u8], p: usize, q: usize, other: usize, j: u8)
 }
 
 // In its area, from pixel x up to y.
-fn mark_inside(sel: &mut [u8], bits: &mut [u8], d: &[u8], m: Row, v: u8, a: usize, x: usize, y: usize)
+fn mark_inside(
+    sel: &mut [u8],
+    bits: &mut [u8],
+    d: &[u8],
+    m: Row,
+    v: u8,
+    a: usize,
+    x: usize,
+    y: usize,
+)
     requires { ⌜ MaskFits (now d) m × (m .ratio ≤ 12) × Between m x y × (y < 65536) × (a ≤ x) × (x ≤ y) × (y - a ≤ length (now sel)) × (y - x + 24 ≤ length (now bits)) ⌝ }
     ensures { λ _. ⌜ Marked (insideBits (now (d .entry)) m v a) (now (sel .entry)) (x - a) (y - a) v (now (sel .exit)) ⌝ }
 {
@@ -65,7 +74,18 @@ fn mark_inside(sel: &mut [u8], bits: &mut [u8], d: &[u8], m: Row, v: u8, a: usiz
 }
 
 // One pair more: the floors after j pairs become those after j + 1.
-fn mask_pair(sel: &mut [u8], bits: &mut [u8], s: &[u8], d: &[u8], rows: &[usize], pairs: usize, f: usize, j: usize, a: usize, b: usize)
+fn mask_pair(
+    sel: &mut [u8],
+    bits: &mut [u8],
+    s: &[u8],
+    d: &[u8],
+    rows: &[usize],
+    pairs: usize,
+    f: usize,
+    j: usize,
+    a: usize,
+    b: usize,
+)
     requires { ⌜ RowsFit (now s) (now d) (now rows) pairs × PlainRows (now rows) pairs × Sure (now s) (now d) (now rows) f a (b - a) j (now sel) × (f ≤ j) × (j < pairs)
         × (pairs ≤ 7) × (a ≤ b) × (b < 65536) × (b - a + 24 ≤ length (now bits)) ⌝ }
     ensures { λ _. ⌜ Sure (now (s .entry)) (now (d .entry)) (now (rows .entry)) f a (b - a) (j + 1) (now (sel .exit)) ⌝ }
@@ -116,7 +136,17 @@ pub fn first_pair(s: &[u8], d: &[u8], rows: &[usize], pairs: usize, a: usize, b:
 }
 
 // The floors of the pixels a up to b, from pair f on.
-pub fn put_floors(sel: &mut [u8], bits: &mut [u8], s: &[u8], d: &[u8], rows: &[usize], pairs: usize, f: usize, a: usize, b: usize)
+pub fn put_floors(
+    sel: &mut [u8],
+    bits: &mut [u8],
+    s: &[u8],
+    d: &[u8],
+    rows: &[usize],
+    pairs: usize,
+    f: usize,
+    a: usize,
+    b: usize,
+)
     requires { ⌜ RowsFit (now s) (now d) (now rows) pairs × PlainRows (now rows) pairs × Starts (now s) (now d) (now rows) pairs a b f × (pairs ≤ 7) × (a ≤ b) × (b < 65536)
         × (b - a ≤ length (now sel)) × (b - a + 24 ≤ length (now bits)) ⌝ }
     ensures { λ _. ⌜ Sure (now (s .entry)) (now (d .entry)) (now (rows .entry)) f a (b - a) pairs (now (sel .exit)) ⌝ }

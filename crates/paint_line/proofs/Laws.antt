@@ -8,8 +8,8 @@ use mathlib.Core.Bool.{Bool, true, false, _&&_, cond}
 use mathlib.Core.List.{List, [], _∷_}
 use lib.ListN.{length, getD, take, drop}
 use lib.Seq.{ext-getD}
-use lib.Dec.{eqb, ltb}
-use borrow.Author.Tests.{eq-eqb, ne-eqb, lt-ltb, le-ltb}
+use lib.Dec.{eqb}
+use borrow.Author.Tests.{ne-eqb, lt-ltb, le-ltb}
 use borrow.Author.Needs.{needs}
 use Rattle.laws.proofs.Cases.{clash}
 use Rattle.laws.proofs.Says.{says-eq, says-and, says-lt, says-else}
@@ -124,9 +124,10 @@ module _ (u : Colour) (s d ns sel : List ℕ) (pairs f a b j : ℕ) (g : Sure s 
       (says-else (says-lt x (m .from)))
 
   pub told-read : (out : List ℕ) → m .read ≢ 0 → Told u s d ns sel a b j out → Told u s d ns sel a b (j + 1) out × Kept a b out out
-  told-read out n t =
-      (record { there = λ x p q. t .there x p q ∙ ap (fourOf u) (same-stage x p q (λ k. read-known n x)) },
-      record { long = refl; before = λ i k. refl; behind = λ i k. refl })
+  told-read out n t = (
+    record { there = λ x p q. t .there x p q ∙ ap (fourOf u) (same-stage x p q (λ k. read-known n x)) },
+    record { long = refl; before = λ i k. refl; behind = λ i k. refl },
+  )
 
   module _ (r : Row) (er : r ≡ rowAt ns ((j + 1) * 2 + 1)) (un : List ℕ) (eu : un ≡ fourOf u Unknown) (x₀ x₁ : ℕ) (w₀ : Within (m .from) a b x₀) (w₁ : Within (m .to) x₀ b x₁) (few : pairs ≤ 7)
       (out new : List ℕ) (t : Told u s d ns sel a b j out) (c : Coated (settles sel a (j + 1) (imageFrom un s d r) un) out x₀ x₁ new) (z : m .read ≡ 0) where
@@ -162,22 +163,23 @@ module _ (u : Colour) (s d ns sel : List ℕ) (pairs f a b j : ℕ) (g : Sure s 
     told-unread =
         let p₀ = w₀ .low in
         let q₁ = w₁ .high in
-        let l₁ = w₁ .low in
-        (record {
-          there = λ x p q. ⊎-elim
-              (λ (i : x < x₀).
-              beside-same x p q (λ k v w. c .before k (omega arith))
-              (λ e. zero-hidden (m .other) (sym (mask-here x (bitOf (m .other)) (mask-before d m (record { 0 = x }) (bitOf (m .other)) (w₀ .before x p i) refl)) ∙ e)))
-              (λ (i : x < x₀ → ⊥).
-              ⊎-elim
-              (λ (k : x < x₁). in-area x p q (omega arith) k)
-              (λ (k : x < x₁ → ⊥).
-              beside-same x p q (λ v o w. c .behind v (omega arith))
-              (λ e. zero-hidden (m .other) (sym (mask-here x (bitOf (m .other)) (mask-after d m (record { 0 = x }) (bitOf (m .other)) (w₁ .behind x (omega arith) q) refl)) ∙ e)))
-              (says-else (says-lt x x₁)))
-              (says-else (says-lt x x₀));
-        },
-        record { long = c .long; before = λ i k. c .before i (omega arith); behind = λ i k. c .behind i (omega arith) })
+        let l₁ = w₁ .low in (
+          record {
+            there = λ x p q. ⊎-elim
+                (λ (i : x < x₀).
+                beside-same x p q (λ k v w. c .before k (omega arith))
+                (λ e. zero-hidden (m .other) (sym (mask-here x (bitOf (m .other)) (mask-before d m (record { 0 = x }) (bitOf (m .other)) (w₀ .before x p i) refl)) ∙ e)))
+                (λ (i : x < x₀ → ⊥).
+                ⊎-elim
+                (λ (k : x < x₁). in-area x p q (omega arith) k)
+                (λ (k : x < x₁ → ⊥).
+                beside-same x p q (λ v o w. c .behind v (omega arith))
+                (λ e. zero-hidden (m .other) (sym (mask-here x (bitOf (m .other)) (mask-after d m (record { 0 = x }) (bitOf (m .other)) (w₁ .behind x (omega arith) q) refl)) ∙ e)))
+                (says-else (says-lt x x₁)))
+                (says-else (says-lt x x₀));
+          },
+          record { long = c .long; before = λ i k. c .before i (omega arith); behind = λ i k. c .behind i (omega arith) },
+        )
 
 -- ---- what is asked of the rows
 

@@ -7,7 +7,6 @@ ghost use Rattle.pixel_rules.specs.declared.MainPos.{MainPos};
 ghost use Rattle.pixel_rules.specs.declared.Sample.the-variants.{Unknown};
 ghost use Rattle.pixel_rules.specs.Decide.{decide};
 ghost use Rattle.picture_rules.specs.Line.{fourOf, pixels};
-ghost use Rattle.line_fetch.specs.Rows.{rowSize};
 ghost use Rattle.line_pixel.specs.Rows.{rowStack, RowsFit};
 ghost use Rattle.paint_words.specs.Words.{octetsOf};
 ghost use Rattle.paint_coat.specs.Coat.{Coated};
@@ -17,7 +16,21 @@ use line_fetch::Row;
 use sheet_rules::Colour;
 
 // Pair j + 1, if its mask was not read: what lies below and its image layer agree, or nothing is known.
-fn agree_pair(out: &mut [u8], sel: &[u8], row: &mut [u8], s: &[u8], d: &[u8], rows: &[usize], pairs: usize, f: usize, j: usize, a: usize, b: usize, unseen: Colour, u: u32)
+fn agree_pair(
+    out: &mut [u8],
+    sel: &[u8],
+    row: &mut [u8],
+    s: &[u8],
+    d: &[u8],
+    rows: &[usize],
+    pairs: usize,
+    f: usize,
+    j: usize,
+    a: usize,
+    b: usize,
+    unseen: Colour,
+    u: u32,
+)
     requires { ⌜ RowsFit (now s) (now d) (now rows) pairs × PlainRows (now rows) pairs × Sure (now s) (now d) (now rows) f a (b - a) pairs (now sel) × (j < pairs) × (pairs ≤ 7) × (a ≤ b)
         × (b < 65536) × (b * 4 ≤ length (now out)) × (2048 ≤ length (now row)) × (octetsOf u ≡ fourOf unseen Unknown) × Told unseen (now s) (now d) (now rows) (now sel) a b j (now out) ⌝ }
     ensures { λ _. ⌜ Told unseen (now (s .entry)) (now (d .entry)) (now (rows .entry)) (now (sel .entry)) a b (j + 1) (now (out .exit)) × Kept a b (now (out .entry)) (now (out .exit)) ⌝ }
@@ -34,7 +47,20 @@ fn agree_pair(out: &mut [u8], sel: &[u8], row: &mut [u8], s: &[u8], d: &[u8], ro
 }
 
 // All pairs above the lowest floor.
-fn agree_pairs(out: &mut [u8], sel: &[u8], row: &mut [u8], s: &[u8], d: &[u8], rows: &[usize], pairs: usize, f: usize, a: usize, b: usize, unseen: Colour, u: u32)
+fn agree_pairs(
+    out: &mut [u8],
+    sel: &[u8],
+    row: &mut [u8],
+    s: &[u8],
+    d: &[u8],
+    rows: &[usize],
+    pairs: usize,
+    f: usize,
+    a: usize,
+    b: usize,
+    unseen: Colour,
+    u: u32,
+)
     requires { ⌜ RowsFit (now s) (now d) (now rows) pairs × PlainRows (now rows) pairs × Sure (now s) (now d) (now rows) f a (b - a) pairs (now sel) × (f ≤ pairs) × (pairs ≤ 7) × (a ≤ b)
         × (b < 65536) × (b * 4 ≤ length (now out)) × (2048 ≤ length (now row)) × (octetsOf u ≡ fourOf unseen Unknown) × Told unseen (now s) (now d) (now rows) (now sel) a b f (now out) ⌝ }
     ensures { λ _. ⌜ Told unseen (now (s .entry)) (now (d .entry)) (now (rows .entry)) (now (sel .entry)) a b pairs (now (out .exit)) × Kept a b (now (out .entry)) (now (out .exit)) ⌝ }
@@ -47,7 +73,20 @@ fn agree_pairs(out: &mut [u8], sel: &[u8], row: &mut [u8], s: &[u8], d: &[u8], r
 }
 
 // The pixels a up to b.
-fn paint_part(out: &mut [u8], sel: &mut [u8], bits: &mut [u8], row: &mut [u8], s: &[u8], d: &[u8], rows: &[usize], pairs: usize, a: usize, b: usize, unseen: Colour, u: u32)
+fn paint_part(
+    out: &mut [u8],
+    sel: &mut [u8],
+    bits: &mut [u8],
+    row: &mut [u8],
+    s: &[u8],
+    d: &[u8],
+    rows: &[usize],
+    pairs: usize,
+    a: usize,
+    b: usize,
+    unseen: Colour,
+    u: u32,
+)
     requires { ⌜ RowsFit (now s) (now d) (now rows) pairs × PlainRows (now rows) pairs × (pairs ≤ 7) × (a ≤ b) × (b < 65536) × (b * 4 ≤ length (now out)) × (b - a ≤ length (now sel))
         × (b - a + 24 ≤ length (now bits)) × (2048 ≤ length (now row)) × (octetsOf u ≡ fourOf unseen Unknown) ⌝ }
     ensures { λ _. ⌜ Coated (decided unseen (now (s .entry)) (now (d .entry)) (now (rows .entry)) pairs) (now (out .entry)) a b (now (out .exit)) ⌝ }
@@ -111,7 +150,15 @@ fn part_end(s: &[u8], d: &[u8], rows: &[usize], pairs: usize, a: usize, b: usize
 // So many pixels a part has at most: the floors, a mask's samples and a row of 512 pixels are kept on the stack.
 const PART: usize = 2048;
 
-pub fn paint_line(out: &mut [u8], s: &[u8], d: &[u8], rows: &[usize], pairs: usize, width: usize, unseen: Colour)
+pub fn paint_line(
+    out: &mut [u8],
+    s: &[u8],
+    d: &[u8],
+    rows: &[usize],
+    pairs: usize,
+    width: usize,
+    unseen: Colour,
+)
     requires { ⌜ RowsFit (now s) (now d) (now rows) pairs × PlainRows (now rows) pairs × (pairs ≤ 7) × (width * 4 ≤ length (now out)) × (width < 65536) ⌝ }
     ensures { λ _.
         ⌜ now (out .exit) ≡ putAt (now (out .entry)) 0 (pixels unseen (λ (x : MainPos). decide (rowStack (now (s .entry)) (now (d .entry)) (now (rows .entry)) x) pairs) width) ⌝ }
@@ -124,7 +171,20 @@ pub fn paint_line(out: &mut [u8], s: &[u8], d: &[u8], rows: &[usize], pairs: usi
     while x < width {
         let most = paint_image::within(x + PART, x, width);
         let e = part_end(s, d, rows, pairs, x, most);
-        paint_part(out, &mut sel, &mut bits, &mut row, s, d, rows, pairs, x, e, unseen, u);
+        paint_part(
+            out,
+            &mut sel,
+            &mut bits,
+            &mut row,
+            s,
+            d,
+            rows,
+            pairs,
+            x,
+            e,
+            unseen,
+            u,
+        );
         x = e;
     }
 }

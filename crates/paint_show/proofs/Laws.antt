@@ -1,6 +1,6 @@
 -- One law for each way out of the functions that show floors: its premises are what is known there.
 -- Assumes nothing.
-use Prim.Native.Nat.{ℕ, zero, suc, _+_, _-_, _*_, _/_, _%_, _≤_, _<_}
+use Prim.Native.Nat.{ℕ, zero, suc, _+_, _-_, _*_, _≤_, _<_}
 use native.Mathlib.Omega.{arith}
 use mathlib.Core.Path.{_≡_, refl, sym, ap, ap₂, subst, _∙_}
 use mathlib.Core.Logic.{_≢_, ⊎-elim}
@@ -8,17 +8,17 @@ use mathlib.Core.Bool.{Bool, true, false, _&&_, _||_, cond, false≢true}
 use mathlib.Core.List.{List, [], _∷_}
 use lib.ListN.{length, getD}
 use lib.Dec.{eqb}
-use borrow.Author.Tests.{eq-eqb, ne-eqb, eqb-false}
+use borrow.Author.Tests.{eq-eqb, ne-eqb}
 use borrow.Author.Needs.{needs}
 use Rattle.laws.proofs.Says.{says-eq, says-and, says-lt, says-else}
 use Rattle.line_fetch.specs.declared.Row.{Row}
 use Rattle.line_fetch.specs.Rows.{rowSize, rowAt, ImageFits}
-use Rattle.line_pixel.specs.Rows.{rowStack, RowsFit}
+use Rattle.line_pixel.specs.Rows.{RowsFit}
 use Rattle.paint_rules.specs.Floor.{dark, chosen}
 use Rattle.paint_words.specs.Words.{octetsOf, fourFrom}
 use Rattle.paint_coat.specs.Coat.{Coated, over, flat}
 use Rattle.paint_coat.proofs.Coats.{coated-none, coated-chain, coated-as}
-use Rattle.paint_coat.proofs.Laws.{Coating, coat-begun, coat-more, coat-end}
+use Rattle.paint_coat.proofs.Laws.{coat-begun, coat-end}
 use Rattle.paint_image.specs.Image.{shownFour, imageFrom, moved, Plain}
 use Rattle.paint_floor.specs.Floors.{PlainRows}
 use Rattle.paint_show.specs.Show.{floorFrom, shows, picking, pickingFloor, pickingOther, Paired, Alike, Absent, Begun, Runs}

@@ -5,7 +5,7 @@ ghost use mathlib.Core.Bool.{true, false, cond};
 ghost use mathlib.Core.List.{[], _∷_};
 ghost use mathlib.Core.Logic.{_≢_};
 ghost use Prim.Native.Nat.{_+_, _-_, _*_, _<_, _≤_};
-ghost use lib.ListN.{length, getD};
+ghost use lib.ListN.{length};
 ghost use lib.Dec.{eqb};
 ghost use Rattle.line_pixel.specs.Rows.{RowsFit};
 ghost use Rattle.paint_rules.specs.Floor.{dark};
@@ -17,7 +17,18 @@ ghost use Rattle.paint_show.specs.Show.{floorFrom, shows, picking, picki
 use paint_floor::DARK;
 
 // What floor c gives at the pixels a up to b, at those of the row from t on.
-pub fn lay_floor(out: &mut [u8], t: usize, s: &[u8], d: &[u8], rows: &[usize], pairs: usize, c: u8, a: usize, b: usize, u: u32)
+pub fn lay_floor(
+    out: &mut [u8],
+    t: usize,
+    s: &[u8],
+    d: &[u8],
+    rows: &[usize],
+    pairs: usize,
+    c: u8,
+    a: usize,
+    b: usize,
+    u: u32,
+)
     requires { ⌜ RowsFit (now s) (now d) (now rows) pairs × PlainRows (now rows) pairs × (c ≢ dark → c ≤ pairs) × (b < 65536) × (a ≤ b) × ((t + (b - a)) * 4 ≤ length (now out)) ⌝ }
     ensures { λ _. ⌜ Coated (over (moved t a (floorFrom (octetsOf u) (now (s .entry)) (now (d .entry)) (now (rows .entry)) c))) (now (out .entry)) t (t + (b - a)) (now (out .exit)) ⌝ }
 {
@@ -87,7 +98,21 @@ fn present(s: &[u8], v: u8, p: usize, q: usize) -> bool
 }
 
 // Where the floor is c, and not v, which is shown already, what it gives: the row is there to lay it in first.
-fn pick_floor(out: &mut [u8], sel: &[u8], row: &mut [u8], s: &[u8], d: &[u8], rows: &[usize], pairs: usize, v: u8, c: u8, a: usize, x: usize, e: usize, u: u32)
+fn pick_floor(
+    out: &mut [u8],
+    sel: &[u8],
+    row: &mut [u8],
+    s: &[u8],
+    d: &[u8],
+    rows: &[usize],
+    pairs: usize,
+    v: u8,
+    c: u8,
+    a: usize,
+    x: usize,
+    e: usize,
+    u: u32,
+)
     requires { ⌜ RowsFit (now s) (now d) (now rows) pairs × PlainRows (now rows) pairs × (c ≢ dark → c ≤ pairs) × (e < 65536) × (a ≤ x) × (x ≤ e) × (e * 4 ≤ length (now out))
         × (e - a ≤ length (now sel)) × ((e - x) * 4 ≤ length (now row)) ⌝ }
     ensures { λ _. ⌜ Coated (pickingOther (octetsOf u) (now (s .entry)) (now (d .entry)) (now (rows .entry)) (now (sel .entry)) a v c) (now (out .entry)) x e (now (out .exit)) ⌝ }
@@ -102,7 +127,20 @@ fn pick_floor(out: &mut [u8], sel: &[u8], row: &mut [u8], s: &[u8], d: &[u8], ro
 }
 
 // The floors of all pairs, where v and the dark are shown.
-fn pick_pairs(out: &mut [u8], sel: &[u8], row: &mut [u8], s: &[u8], d: &[u8], rows: &[usize], pairs: usize, v: u8, a: usize, x: usize, e: usize, u: u32)
+fn pick_pairs(
+    out: &mut [u8],
+    sel: &[u8],
+    row: &mut [u8],
+    s: &[u8],
+    d: &[u8],
+    rows: &[usize],
+    pairs: usize,
+    v: u8,
+    a: usize,
+    x: usize,
+    e: usize,
+    u: u32,
+)
     requires { ⌜ RowsFit (now s) (now d) (now rows) pairs × PlainRows (now rows) pairs × Paired (now sel) (x - a) (e - a) pairs × (pairs ≤ 7) × (e < 65536) × (a ≤ x) × (x ≤ e)
         × (e * 4 ≤ length (now out)) × (e - a ≤ length (now sel)) × ((e - x) * 4 ≤ length (now row))
         × Begun (octetsOf u) (now s) (now d) (now rows) (now sel) a x e v (now out) ⌝ }
@@ -116,7 +154,19 @@ fn pick_pairs(out: &mut [u8], sel: &[u8], row: &mut [u8], s: &[u8], d: &[u8], ro
 }
 
 // Floors that change every few pixels: that of the first is laid over all of them, and the others are picked.
-fn show_mixed(out: &mut [u8], sel: &[u8], row: &mut [u8], s: &[u8], d: &[u8], rows: &[usize], pairs: usize, a: usize, x: usize, e: usize, u: u32)
+fn show_mixed(
+    out: &mut [u8],
+    sel: &[u8],
+    row: &mut [u8],
+    s: &[u8],
+    d: &[u8],
+    rows: &[usize],
+    pairs: usize,
+    a: usize,
+    x: usize,
+    e: usize,
+    u: u32,
+)
     requires { ⌜ RowsFit (now s) (now d) (now rows) pairs × PlainRows (now rows) pairs × Paired (now sel) (x - a) (e - a) pairs × (pairs ≤ 7) × (e < 65536) × (a ≤ x) × (x < e)
         × (e * 4 ≤ length (now out)) × (e - a ≤ length (now sel)) × ((e - x) * 4 ≤ length (now row)) ⌝ }
     ensures { λ _. ⌜ Coated (shows (octetsOf u) (now (s .entry)) (now (d .entry)) (now (rows .entry)) (now (sel .entry)) a) (now (out .entry)) x e (now (out .exit)) ⌝ }
@@ -201,7 +251,18 @@ fn mixed_end(sel: &[u8], i: usize, n: usize) -> usize
 }
 
 // The floors of the pixels a up to b shown, the floors starting at a.
-pub fn show_floors(out: &mut [u8], sel: &[u8], row: &mut [u8], s: &[u8], d: &[u8], rows: &[usize], pairs: usize, a: usize, b: usize, u: u32)
+pub fn show_floors(
+    out: &mut [u8],
+    sel: &[u8],
+    row: &mut [u8],
+    s: &[u8],
+    d: &[u8],
+    rows: &[usize],
+    pairs: usize,
+    a: usize,
+    b: usize,
+    u: u32,
+)
     requires { ⌜ RowsFit (now s) (now d) (now rows) pairs × PlainRows (now rows) pairs × Paired (now sel) 0 (b - a) pairs × (pairs ≤ 7) × (b < 65536) × (a ≤ b)
         × (b * 4 ≤ length (now out)) × (b - a ≤ length (now sel)) × (2048 ≤ length (now row)) ⌝ }
     ensures { λ _. ⌜ Coated (shows (octetsOf u) (now (s .entry)) (now (d .entry)) (now (rows .entry)) (now (sel .entry)) a) (now (out .entry)) a b (now (out .exit)) ⌝ }

@@ -6,20 +6,20 @@ use Rattle.band_compose.proofs.put_line.Tie as tie
 put-rows-requires : tie.Need-put-rows-requires
 put-rows-requires c κs = search lining
 
-sub-put-pixels : tie.Need-sub-put-pixels
-sub-put-pixels c = search needs
+sub-paint-line : tie.Need-sub-paint-line
+sub-paint-line c = search needs
 
-part-put-pixels-start : tie.Need-part-put-pixels-start
-part-put-pixels-start c = search needs
+part-paint-line-start : tie.Need-part-paint-line-start
+part-paint-line-start c = search needs
 
-part-put-pixels-end : tie.Need-part-put-pixels-end
-part-put-pixels-end c = search needs
+part-paint-line-end : tie.Need-part-paint-line-end
+part-paint-line-end c = search needs
 
-cast-put-pixels : tie.Need-cast-put-pixels
-cast-put-pixels c = search needs
+cast-paint-line : tie.Need-cast-paint-line
+cast-paint-line c = search needs
 
-put-pixels-requires : tie.Need-put-pixels-requires
-put-pixels-requires c κs = search lining
+paint-line-requires : tie.Need-paint-line-requires
+paint-line-requires c κs = search lining
 
 same-length : tie.Need-same-length
 same-length c = search needs
@@ -35,11 +35,11 @@ put-line-spec =
     tie.close
     (tie.spec
     put-rows-requires
-    sub-put-pixels
-    part-put-pixels-start
-    part-put-pixels-end
-    cast-put-pixels
-    put-pixels-requires
+    sub-paint-line
+    part-paint-line-start
+    part-paint-line-end
+    cast-paint-line
+    paint-line-requires
     same-length
     same-length-2
     returns)

@@ -4,52 +4,43 @@ use native.Mathlib.Omega.{arith}
 use Rattle.paint_choice.proofs.Marks.{spreading}
 use Rattle.paint_choice.proofs.bits_by.Statement.{statement}
 use Rattle.paint_choice.proofs.bits_by.Tie as tie
-use Rattle.paint_choice.proofs.bits_by.Reads as reads
-use Rattle.paint_choice.proofs.bits_by.Lts as lts
-use Rattle.paint_choice.proofs.fill.Reads as fill-reads
 
 abbrev Inv-loop : tie.InvT-loop
 Inv-loop bits₀ m i n k q₀ p₀ bits q p = Spreading m i k n bits₀ bits q p
+
 abbrev μ-loop : tie.MeasureT-loop
 μ-loop bits₀ m i n k q₀ p₀ bits q p = n - q
--- src/lib.rt:45:5
+
 loop-holds : tie.Need-loop-holds Inv-loop μ-loop
 loop-holds c = search spreading
 
--- src/lib.rt:46:19
 add-v : tie.Need-add-v Inv-loop μ-loop
 add-v c = search spreading
 
--- src/lib.rt:46:17
 shared-slice-read-v : tie.Need-shared-slice-read-v Inv-loop μ-loop
 shared-slice-read-v c = search spreading
 
--- src/lib.rt:47:23
 add-fill : tie.Need-add-fill Inv-loop μ-loop
 add-fill c = let h = spread-room _ _ _ _ _ _ _ _ (c .before .before .before .loop .inv) (omega arith) in omega arith
--- src/lib.rt:47:9
+
 fill-requires : tie.Need-fill-requires Inv-loop μ-loop
 fill-requires c κs = search spreading
 
--- src/lib.rt:48:9
 add-q : tie.Need-add-q Inv-loop μ-loop
 add-q c = search spreading
 
--- src/lib.rt:49:9
 add-p : tie.Need-add-p Inv-loop μ-loop
 add-p c = let h = spread-room _ _ _ _ _ _ _ _ (c .before .before .before .before .before .before .loop .inv) (omega arith) in omega arith
--- src/lib.rt:45:5
+
 loop-less : tie.Need-loop-less Inv-loop μ-loop
 loop-less c = search spreading
 
--- src/lib.rt:45:5
 loop-again : tie.Need-loop-again Inv-loop μ-loop
 loop-again c = spread-more _ _ _ _ _ _ _ _ (c .before .before .before .before .before .before .loop .inv) _ (omega arith) (c .before .before .fill .ensures)
--- src/lib.rt:39:1
+
 same-length : tie.Need-same-length Inv-loop μ-loop
 same-length c = search spreading
 
--- src/lib.rt:39:1
 returns : tie.Need-returns Inv-loop μ-loop
 returns c = search spreading
 

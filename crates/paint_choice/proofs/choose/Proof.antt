@@ -4,59 +4,46 @@ use Rattle.paint_choice.specs.Choice.{bitsFrom}
 use Rattle.paint_choice.proofs.Marks.{marking}
 use Rattle.paint_choice.proofs.choose.Statement.{statement}
 use Rattle.paint_choice.proofs.choose.Tie as tie
-use Rattle.paint_choice.proofs.choose.Reads as reads
-use Rattle.paint_choice.proofs.choose.Lts as lts
-use Rattle.paint_choice.proofs.pick.Reads as pick-reads
 
 abbrev Inv-loop : tie.InvT-loop
 Inv-loop sel₀ p q m i v x₀ sel x = Marking (bitsFrom m p i) sel₀ p q v sel x
+
 abbrev μ-loop : tie.MeasureT-loop
 μ-loop sel₀ p q m i v x₀ sel x = q - x
--- src/lib.rt:33:5
+
 loop-holds : tie.Need-loop-holds Inv-loop μ-loop
 loop-holds c = search marking
 
--- src/lib.rt:34:30
 sub-pick : tie.Need-sub-pick Inv-loop μ-loop
 sub-pick c = search marking
 
--- src/lib.rt:34:25
 add-pick : tie.Need-add-pick Inv-loop μ-loop
 add-pick c = search marking
 
--- src/lib.rt:34:23
 shared-slice-read-pick : tie.Need-shared-slice-read-pick Inv-loop μ-loop
 shared-slice-read-pick c = search marking
 
--- src/lib.rt:34:39
 slice-read-pick : tie.Need-slice-read-pick Inv-loop μ-loop
 slice-read-pick c = search marking
 
--- src/lib.rt:34:18
 pick-requires : tie.Need-pick-requires Inv-loop μ-loop
 pick-requires c κs = search marking
 
--- src/lib.rt:34:9
 slice-write-sel : tie.Need-slice-write-sel Inv-loop μ-loop
 slice-write-sel c = search marking
 
--- src/lib.rt:35:9
 add-x : tie.Need-add-x Inv-loop μ-loop
 add-x c = search marking
 
--- src/lib.rt:33:5
 loop-less : tie.Need-loop-less Inv-loop μ-loop
 loop-less c = search marking
 
--- src/lib.rt:33:5
 loop-again : tie.Need-loop-again Inv-loop μ-loop
 loop-again c = search marking
 
--- src/lib.rt:28:1
 same-length : tie.Need-same-length Inv-loop μ-loop
 same-length c = search marking
 
--- src/lib.rt:28:1
 returns : tie.Need-returns Inv-loop μ-loop
 returns c = search marking
 

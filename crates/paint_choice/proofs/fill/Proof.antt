@@ -4,38 +4,31 @@ use Rattle.paint_choice.specs.Choice.{ever}
 use Rattle.paint_choice.proofs.Marks.{marking}
 use Rattle.paint_choice.proofs.fill.Statement.{statement}
 use Rattle.paint_choice.proofs.fill.Tie as tie
-use Rattle.paint_choice.proofs.fill.Reads as reads
-use Rattle.paint_choice.proofs.fill.Lts as lts
 
 abbrev Inv-loop : tie.InvT-loop
 Inv-loop sel₀ p q v x₀ sel x = Marking (ever 1) sel₀ p q v sel x
+
 abbrev μ-loop : tie.MeasureT-loop
 μ-loop sel₀ p q v x₀ sel x = q - x
--- src/lib.rt:22:5
+
 loop-holds : tie.Need-loop-holds Inv-loop μ-loop
 loop-holds c = search marking
 
--- src/lib.rt:23:9
 slice-write-sel : tie.Need-slice-write-sel Inv-loop μ-loop
 slice-write-sel c = search marking
 
--- src/lib.rt:24:9
 add-x : tie.Need-add-x Inv-loop μ-loop
 add-x c = search marking
 
--- src/lib.rt:22:5
 loop-less : tie.Need-loop-less Inv-loop μ-loop
 loop-less c = search marking
 
--- src/lib.rt:22:5
 loop-again : tie.Need-loop-again Inv-loop μ-loop
 loop-again c = search marking
 
--- src/lib.rt:17:1
 same-length : tie.Need-same-length Inv-loop μ-loop
 same-length c = search marking
 
--- src/lib.rt:17:1
 returns : tie.Need-returns Inv-loop μ-loop
 returns c = search marking
 

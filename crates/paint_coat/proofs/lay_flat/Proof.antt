@@ -12,35 +12,27 @@ Inv-loop out₀ a b w x₀ out x = Coating (over (flat (octetsOf w))) out₀ a b
 abbrev μ-loop : tie.MeasureT-loop
 μ-loop out₀ a b w x₀ out x = b - x
 
--- src/lib.rt:15:5
 loop-holds : tie.Need-loop-holds Inv-loop μ-loop
 loop-holds c = search coating
 
--- src/lib.rt:16:36
 mul-put-word : tie.Need-mul-put-word Inv-loop μ-loop
 mul-put-word c = search coating
 
--- src/lib.rt:16:9
 put-word-requires : tie.Need-put-word-requires Inv-loop μ-loop
 put-word-requires c κs = search coating
 
--- src/lib.rt:17:9
 add-x : tie.Need-add-x Inv-loop μ-loop
 add-x c = search coating
 
--- src/lib.rt:15:5
 loop-less : tie.Need-loop-less Inv-loop μ-loop
 loop-less c = search coating
 
--- src/lib.rt:15:5
 loop-again : tie.Need-loop-again Inv-loop μ-loop
 loop-again c = search coating
 
--- src/lib.rt:10:1
 same-length : tie.Need-same-length Inv-loop μ-loop
 same-length c = search coating
 
--- src/lib.rt:10:1
 returns : tie.Need-returns Inv-loop μ-loop
 returns c = search coating
 

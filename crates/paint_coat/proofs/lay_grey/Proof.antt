@@ -3,87 +3,66 @@ use borrow.Author.Needs.{needs}
 use Rattle.paint_coat.proofs.lay_grey.Statement.{statement}
 use Rattle.paint_coat.proofs.lay_grey.Tie as tie
 
--- src/lib.rt:89:14
 grey-by-requires : tie.Need-grey-by-requires
 grey-by-requires c κs = search ratios
 
--- src/lib.rt:90:14
 grey-by-requires-2 : tie.Need-grey-by-requires-2
 grey-by-requires-2 c κs = search ratios
 
--- src/lib.rt:91:14
 grey-by-requires-3 : tie.Need-grey-by-requires-3
 grey-by-requires-3 c κs = search ratios
 
--- src/lib.rt:92:14
 grey-by-requires-4 : tie.Need-grey-by-requires-4
 grey-by-requires-4 c κs = search ratios
 
--- src/lib.rt:93:14
 grey-by-requires-5 : tie.Need-grey-by-requires-5
 grey-by-requires-5 c κs = search ratios
 
--- src/lib.rt:94:15
 grey-by-requires-6 : tie.Need-grey-by-requires-6
 grey-by-requires-6 c κs = search ratios
 
--- src/lib.rt:95:14
 grey-by-requires-7 : tie.Need-grey-by-requires-7
 grey-by-requires-7 c κs = search needs
 
--- src/lib.rt:84:1
 same-length : tie.Need-same-length
 same-length c = search needs
 
--- src/lib.rt:84:1
 returns : tie.Need-returns
 returns c = search ratios
 
--- src/lib.rt:84:1
 same-length-2 : tie.Need-same-length-2
 same-length-2 c = search needs
 
--- src/lib.rt:84:1
 returns-2 : tie.Need-returns-2
 returns-2 c = search ratios
 
--- src/lib.rt:84:1
 same-length-3 : tie.Need-same-length-3
 same-length-3 c = search needs
 
--- src/lib.rt:84:1
 returns-3 : tie.Need-returns-3
 returns-3 c = search ratios
 
--- src/lib.rt:84:1
 same-length-4 : tie.Need-same-length-4
 same-length-4 c = search needs
 
--- src/lib.rt:84:1
 returns-4 : tie.Need-returns-4
 returns-4 c = search ratios
 
--- src/lib.rt:84:1
 same-length-5 : tie.Need-same-length-5
 same-length-5 c = search needs
 
--- src/lib.rt:84:1
 returns-5 : tie.Need-returns-5
 returns-5 c = search ratios
 
--- src/lib.rt:84:1
 same-length-6 : tie.Need-same-length-6
 same-length-6 c = search needs
 
--- src/lib.rt:84:1
 returns-6 : tie.Need-returns-6
 returns-6 c = search ratios
 
--- src/lib.rt:84:1
 same-length-7 : tie.Need-same-length-7
 same-length-7 c = search needs
 
--- src/lib.rt:84:1
 returns-7 : tie.Need-returns-7
 returns-7 c = search needs
 

@@ -3,27 +3,21 @@ use borrow.Author.Needs.{needs}
 use Rattle.paint_coat.proofs.lay_samples.Statement.{statement}
 use Rattle.paint_coat.proofs.lay_samples.Tie as tie
 
--- src/lib.rt:107:9
 lay-three-requires : tie.Need-lay-three-requires
 lay-three-requires c κs = search kinds
 
--- src/lib.rt:109:9
 lay-grey-requires : tie.Need-lay-grey-requires
 lay-grey-requires c κs = search kinds
 
--- src/lib.rt:102:1
 same-length : tie.Need-same-length
 same-length c = search needs
 
--- src/lib.rt:102:1
 returns : tie.Need-returns
 returns c = search kinds
 
--- src/lib.rt:102:1
 same-length-2 : tie.Need-same-length-2
 same-length-2 c = search needs
 
--- src/lib.rt:102:1
 returns-2 : tie.Need-returns-2
 returns-2 c = search kinds
 

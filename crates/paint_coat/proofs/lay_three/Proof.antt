@@ -3,87 +3,66 @@ use borrow.Author.Needs.{needs}
 use Rattle.paint_coat.proofs.lay_three.Statement.{statement}
 use Rattle.paint_coat.proofs.lay_three.Tie as tie
 
--- src/lib.rt:74:14
 three-by-requires : tie.Need-three-by-requires
 three-by-requires c κs = search ratios
 
--- src/lib.rt:75:14
 three-by-requires-2 : tie.Need-three-by-requires-2
 three-by-requires-2 c κs = search ratios
 
--- src/lib.rt:76:14
 three-by-requires-3 : tie.Need-three-by-requires-3
 three-by-requires-3 c κs = search ratios
 
--- src/lib.rt:77:14
 three-by-requires-4 : tie.Need-three-by-requires-4
 three-by-requires-4 c κs = search ratios
 
--- src/lib.rt:78:14
 three-by-requires-5 : tie.Need-three-by-requires-5
 three-by-requires-5 c κs = search ratios
 
--- src/lib.rt:79:15
 three-by-requires-6 : tie.Need-three-by-requires-6
 three-by-requires-6 c κs = search ratios
 
--- src/lib.rt:80:14
 three-by-requires-7 : tie.Need-three-by-requires-7
 three-by-requires-7 c κs = search needs
 
--- src/lib.rt:69:1
 same-length : tie.Need-same-length
 same-length c = search needs
 
--- src/lib.rt:69:1
 returns : tie.Need-returns
 returns c = search ratios
 
--- src/lib.rt:69:1
 same-length-2 : tie.Need-same-length-2
 same-length-2 c = search needs
 
--- src/lib.rt:69:1
 returns-2 : tie.Need-returns-2
 returns-2 c = search ratios
 
--- src/lib.rt:69:1
 same-length-3 : tie.Need-same-length-3
 same-length-3 c = search needs
 
--- src/lib.rt:69:1
 returns-3 : tie.Need-returns-3
 returns-3 c = search ratios
 
--- src/lib.rt:69:1
 same-length-4 : tie.Need-same-length-4
 same-length-4 c = search needs
 
--- src/lib.rt:69:1
 returns-4 : tie.Need-returns-4
 returns-4 c = search ratios
 
--- src/lib.rt:69:1
 same-length-5 : tie.Need-same-length-5
 same-length-5 c = search needs
 
--- src/lib.rt:69:1
 returns-5 : tie.Need-returns-5
 returns-5 c = search ratios
 
--- src/lib.rt:69:1
 same-length-6 : tie.Need-same-length-6
 same-length-6 c = search needs
 
--- src/lib.rt:69:1
 returns-6 : tie.Need-returns-6
 returns-6 c = search ratios
 
--- src/lib.rt:69:1
 same-length-7 : tie.Need-same-length-7
 same-length-7 c = search needs
 
--- src/lib.rt:69:1
 returns-7 : tie.Need-returns-7
 returns-7 c = search needs
 

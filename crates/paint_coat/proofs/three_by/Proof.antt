@@ -5,47 +5,36 @@ use borrow.Author.Needs.{needs}
 use Rattle.paint_coat.proofs.three_by.Statement.{statement}
 use Rattle.paint_coat.proofs.three_by.Tie as tie
 
--- src/lib.rt:49:9
 wide-samples-requires : tie.Need-wide-samples-requires
 wide-samples-requires c κs = search needs
 
--- src/lib.rt:50:9
 wide-by-requires : tie.Need-wide-by-requires
 wide-by-requires c κs = search threes
 
--- src/lib.rt:52:42
 mul-seen : tie.Need-mul-seen
 mul-seen c = search needs
 
--- src/lib.rt:52:38
 add-seen : tie.Need-add-seen
 add-seen c = search needs
 
--- src/lib.rt:52:13
 seen-requires : tie.Need-seen-requires
 seen-requires c κs = search needs
 
--- src/lib.rt:53:26
 add-lay-flat : tie.Need-add-lay-flat
 add-lay-flat c = let h = last-room _ _ _ _ (c .before .before .before .before .before .before .before .wide-samples .ensures .0) _ _ _ _ _ (c .before .before .before .before .before .wide-by .ensures) (omega arith) (omega arith) (omega arith) in omega arith
 
--- src/lib.rt:53:9
 lay-flat-requires : tie.Need-lay-flat-requires
 lay-flat-requires c κs = search threes
 
--- src/lib.rt:45:1
 same-length : tie.Need-same-length
 same-length c = search needs
 
--- src/lib.rt:45:1
 returns : tie.Need-returns
 returns c = search threes
 
--- src/lib.rt:45:1
 same-length-2 : tie.Need-same-length-2
 same-length-2 c = search needs
 
--- src/lib.rt:45:1
 returns-2 : tie.Need-returns-2
 returns-2 c = search threes
 

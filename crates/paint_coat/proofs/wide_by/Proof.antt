@@ -11,51 +11,39 @@ Inv-loop out₀ s t n i k q₀ p₀ out q p = Sampling 3 k s t i n out₀ out q 
 abbrev μ-loop : tie.MeasureT-loop
 μ-loop out₀ s t n i k q₀ p₀ out q p = n - q
 
--- src/lib.rt:36:5
 loop-holds : tie.Need-loop-holds Inv-loop μ-loop
 loop-holds c = search widening
 
--- src/lib.rt:37:47
 mul-seen-wide : tie.Need-mul-seen-wide Inv-loop μ-loop
 mul-seen-wide c = search widening
 
--- src/lib.rt:37:43
 add-seen-wide : tie.Need-add-seen-wide Inv-loop μ-loop
 add-seen-wide c = search widening
 
--- src/lib.rt:37:13
 seen-wide-requires : tie.Need-seen-wide-requires Inv-loop μ-loop
 seen-wide-requires c κs = search widening
 
--- src/lib.rt:38:26
 add-lay-flat : tie.Need-add-lay-flat Inv-loop μ-loop
 add-lay-flat c = let h = sampling-room _ _ _ _ _ _ _ _ _ _ (c .before .before .before .loop .inv) (omega arith) in omega arith
 
--- src/lib.rt:38:9
 lay-flat-requires : tie.Need-lay-flat-requires Inv-loop μ-loop
 lay-flat-requires c κs = search widening
 
--- src/lib.rt:39:9
 add-q : tie.Need-add-q Inv-loop μ-loop
 add-q c = search widening
 
--- src/lib.rt:40:9
 add-p : tie.Need-add-p Inv-loop μ-loop
 add-p c = let h = sampling-room _ _ _ _ _ _ _ _ _ _ (c .before .before .before .before .before .before .loop .inv) (omega arith) in omega arith
 
--- src/lib.rt:36:5
 loop-less : tie.Need-loop-less Inv-loop μ-loop
 loop-less c = search widening
 
--- src/lib.rt:36:5
 loop-again : tie.Need-loop-again Inv-loop μ-loop
 loop-again c = sampling-more _ _ _ _ _ _ _ _ _ _ (c .before .before .before .before .before .before .loop .inv) _ _ (omega arith) (three-is _ _ _ (c .before .before .before .before .seen-wide .ensures)) (c .before .before .lay-flat .ensures)
 
--- src/lib.rt:30:1
 same-length : tie.Need-same-length Inv-loop μ-loop
 same-length c = search widening
 
--- src/lib.rt:30:1
 returns : tie.Need-returns Inv-loop μ-loop
 returns c = search widening
 

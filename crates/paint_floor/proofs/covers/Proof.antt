@@ -2,35 +2,25 @@ use Rattle.paint_floor.proofs.Laws.{covering}
 use borrow.Author.Needs.{needs}
 use Rattle.paint_floor.proofs.covers.Statement.{statement}
 use Rattle.paint_floor.proofs.covers.Tie as tie
-use Rattle.paint_floor.proofs.covers.Reads as reads
-use Rattle.paint_floor.proofs.covers.Lts as lts
-use Rattle.paint_floor.proofs.spans.Reads as spans-reads
 
--- src/lib.rt:89:9
 returns : tie.Need-returns
 returns c = search covering
 
--- src/lib.rt:93:16
 spans-requires : tie.Need-spans-requires
 spans-requires c κs = search needs
 
--- src/lib.rt:94:17
 spans-requires-2 : tie.Need-spans-requires-2
 spans-requires-2 c κs = search needs
 
--- src/lib.rt:94:17
 returns-2 : tie.Need-returns-2
 returns-2 c = search covering
 
--- src/lib.rt:85:1
 returns-3 : tie.Need-returns-3
 returns-3 c = search covering
 
--- src/lib.rt:85:1
 returns-4 : tie.Need-returns-4
 returns-4 c = search covering
 
--- src/lib.rt:85:1
 returns-5 : tie.Need-returns-5
 returns-5 c = search covering
 

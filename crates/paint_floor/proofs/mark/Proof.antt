@@ -2,23 +2,16 @@ use Rattle.paint_floor.proofs.Laws.{markings}
 use borrow.Author.Needs.{needs}
 use Rattle.paint_floor.proofs.mark.Statement.{statement}
 use Rattle.paint_floor.proofs.mark.Tie as tie
-use Rattle.paint_floor.proofs.mark.Reads as reads
-use Rattle.paint_floor.proofs.mark.Lts as lts
-use Rattle.paint_floor.proofs.spans.Reads as spans-reads
 
--- src/lib.rt:33:12
 spans-requires : tie.Need-spans-requires
 spans-requires c κs = search needs
 
--- src/lib.rt:34:13
 returns : tie.Need-returns
 returns c = search markings
 
--- src/lib.rt:28:1
 returns-2 : tie.Need-returns-2
 returns-2 c = search needs
 
--- src/lib.rt:28:1
 returns-3 : tie.Need-returns-3
 returns-3 c = search needs
 

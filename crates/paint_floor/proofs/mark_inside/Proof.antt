@@ -2,52 +2,37 @@ use Rattle.paint_floor.proofs.Laws.{insides}
 use borrow.Author.Needs.{needs}
 use Rattle.paint_floor.proofs.mark_inside.Statement.{statement}
 use Rattle.paint_floor.proofs.mark_inside.Tie as tie
-use Rattle.paint_floor.proofs.mark_inside.Reads as reads
-use Rattle.paint_floor.proofs.mark_inside.Lts as lts
-use Rattle.paint_choice.proofs.fill.Reads as fill-reads
-use Rattle.paint_choice.proofs.mask_read.Reads as mask-read-reads
 
--- src/lib.rt:56:9
 returns : tie.Need-returns
 returns c = search needs
 
--- src/lib.rt:59:9
 mask-read-requires : tie.Need-mask-read-requires
 mask-read-requires c κs = search insides
 
--- src/lib.rt:60:9
 same-length : tie.Need-same-length
 same-length c = search needs
 
--- src/lib.rt:60:9
 same-length-2 : tie.Need-same-length-2
 same-length-2 c = search needs
 
--- src/lib.rt:60:9
 returns-2 : tie.Need-returns-2
 returns-2 c = search insides
 
--- src/lib.rt:63:33
 sub-fill : tie.Need-sub-fill
 sub-fill c = search needs
 
--- src/lib.rt:63:40
 sub-fill-2 : tie.Need-sub-fill-2
 sub-fill-2 c = search needs
 
--- src/lib.rt:63:9
 fill-requires : tie.Need-fill-requires
 fill-requires c κs = search needs
 
--- src/lib.rt:51:1
 same-length-3 : tie.Need-same-length-3
 same-length-3 c = search needs
 
--- src/lib.rt:51:1
 returns-3 : tie.Need-returns-3
 returns-3 c = search insides
 
--- src/lib.rt:51:1
 returns-4 : tie.Need-returns-4
 returns-4 c = search insides
 

@@ -4,95 +4,67 @@ use Rattle.paint_floor.proofs.Laws.{pairing}
 use borrow.Author.Needs.{needs}
 use Rattle.paint_floor.proofs.mask_pair.Statement.{statement}
 use Rattle.paint_floor.proofs.mask_pair.Tie as tie
-use Rattle.paint_floor.proofs.mask_pair.Reads as reads
-use Rattle.paint_floor.proofs.mask_pair.Lts as lts
-use Rattle.line_fetch.proofs.row_at.Reads as row-at-reads
-use Rattle.paint_floor.proofs.mark.Reads as mark-reads
-use Rattle.paint_floor.proofs.mark_beside.Reads as mark-beside-reads
-use Rattle.paint_floor.proofs.mark_inside.Reads as mark-inside-reads
-use Rattle.paint_image.proofs.within.Reads as within-reads
 
--- src/lib.rt:73:13
 add-p : tie.Need-add-p
 add-p c = search needs
 
--- src/lib.rt:74:38
 mul-row-at : tie.Need-mul-row-at
 mul-row-at c = search needs
 
--- src/lib.rt:74:9
 row-at-requires : tie.Need-row-at-requires
 row-at-requires c κs = search pairing
 
--- src/lib.rt:75:38
 mul-row-at-2 : tie.Need-mul-row-at-2
 mul-row-at-2 c = search needs
 
--- src/lib.rt:75:38
 add-row-at : tie.Need-add-row-at
 add-row-at c = search needs
 
--- src/lib.rt:75:9
 row-at-requires-2 : tie.Need-row-at-requires-2
 row-at-requires-2 c κs = search pairing
 
--- src/lib.rt:76:9
 within-requires : tie.Need-within-requires
 within-requires c κs = search needs
 
--- src/lib.rt:77:9
 within-requires-2 : tie.Need-within-requires-2
 within-requires-2 c κs = search needs
 
--- src/lib.rt:78:21
 cast-mark : tie.Need-cast-mark
 cast-mark c = search needs
 
--- src/lib.rt:78:9
 mark-requires : tie.Need-mark-requires
 mark-requires c κs = search needs
 
--- src/lib.rt:79:25
 sub-mark-beside : tie.Need-sub-mark-beside
 sub-mark-beside c = search needs
 
--- src/lib.rt:79:41
 cast-mark-beside : tie.Need-cast-mark-beside
 cast-mark-beside c = search needs
 
--- src/lib.rt:79:5
 mark-beside-requires : tie.Need-mark-beside-requires
 mark-beside-requires c κs = search needs
 
--- src/lib.rt:80:5
 mark-inside-requires : tie.Need-mark-inside-requires
 mark-inside-requires c κs = (mask-fits _ _ _ _ _ (c .before .before .before .before .before .before .before .before .before .before .before .before .before .before .before .before .pre .0) (c .before .before .before .before .before .before .before .before .before .before .before .before .before .before .before .before .pre .4) _ (c .before .before .before .before .before .before .before .before .before .before .row-at .ensures), mask-few _ _ _ _ (c .before .before .before .before .before .before .before .before .before .before .before .before .before .before .before .before .pre .1) (c .before .before .before .before .before .before .before .before .before .before .before .before .before .before .before .before .pre .4) (c .before .before .before .before .before .before .before .before .before .before .row-at .ensures), mask-between _ _ _ _ _ (c .before .before .before .before .before .before .before .before .within .ensures) (c .before .before .before .before .before .before .before .within2 .ensures), let h = c .before .before .before .before .before .before .before .within2 .ensures .high in let k = c .before .before .before .before .before .before .before .before .before .before .before .before .before .before .before .before .pre .7 in omega arith, c .before .before .before .before .before .before .before .before .within .ensures .low, c .before .before .before .before .before .before .before .within2 .ensures .low, let m = c .before .before .before .before .mark-beside .ensures .long in let r = c .before .before .before .before .before .before .before .before .before .before .before .before .before .before .before .before .pre .2 .room in let h = c .before .before .before .before .before .before .before .within2 .ensures .high in omega arith, let h = c .before .before .before .before .before .before .before .within2 .ensures .high in let w = c .before .before .before .before .before .before .before .before .within .ensures .low in let k = c .before .before .before .before .before .before .before .before .before .before .before .before .before .before .before .before .pre .8 in omega arith)
 
--- src/lib.rt:81:22
 sub-mark-beside-2 : tie.Need-sub-mark-beside-2
 sub-mark-beside-2 c = search needs
 
--- src/lib.rt:81:29
 sub-mark-beside-3 : tie.Need-sub-mark-beside-3
 sub-mark-beside-3 c = search needs
 
--- src/lib.rt:81:45
 cast-mark-beside-2 : tie.Need-cast-mark-beside-2
 cast-mark-beside-2 c = let h = c .before .before .before .before .before .before .before .before .before .before .before .before .before .before .before .before .before .before .before .before .before .before .pre .4 in let k = c .before .before .before .before .before .before .before .before .before .before .before .before .before .before .before .before .before .before .before .before .before .before .pre .5 in omega arith
 
--- src/lib.rt:81:5
 mark-beside-requires-2 : tie.Need-mark-beside-requires-2
 mark-beside-requires-2 c κs = (let h = c .before .before .before .before .before .before .before .before .before .before .before .before .before .within2 .ensures .high in omega arith, let m = c .before .before .before .before .before .before .before .before .before .before .mark-beside .ensures .long in let n = c .before .before .before .before .before .mark-inside .ensures .long in let r = c .before .before .before .before .before .before .before .before .before .before .before .before .before .before .before .before .before .before .before .before .before .before .pre .2 .room in omega arith)
 
--- src/lib.rt:68:1
 same-length : tie.Need-same-length
 same-length c = search needs
 
--- src/lib.rt:68:1
 same-length-2 : tie.Need-same-length-2
 same-length-2 c = search needs
 
--- src/lib.rt:68:1
 returns : tie.Need-returns
 returns c = pair-sure _ _ _ _ _ _ _ _ _ (c .before .before .before .before .before .before .before .before .before .before .before .before .before .before .before .before .before .before .before .row-at .ensures) (c .before .before .before .before .before .before .before .before .before .before .before .before .before .before .before .before .before .before .row-at2 .ensures) _ _ (c .before .before .before .before .before .before .before .before .before .before .before .before .before .before .before .before .before .within .ensures) (c .before .before .before .before .before .before .before .before .before .before .before .before .before .before .before .before .within2 .ensures) _ (c .before .before .before .before .before .before .before .before .before .before .before .before .before .before .before .mark .ensures) (λ z. let h = c .before .before .before .before .before .before .before .before .before .before .before .before .before .before .before .before .before .before .before .before .before .before .before .before .before .pre .4 in let k = c .before .before .before .before .before .before .before .before .before .before .before .before .before .before .before .before .before .before .before .before .before .before .before .before .before .pre .5 in absurd (omega arith)) _ _ _ _ (c .before .before .before .before .before .before .before .before .before .before .before .before .before .mark-beside .ensures) (c .before .before .before .before .before .before .before .before .mark-inside .ensures) (c .before .before .mark-beside2 .ensures) (c .before .before .before .before .before .before .before .before .before .before .before .before .before .before .before .before .before .before .before .before .before .before .before .before .before .pre .2) (c .before .before .before .before .before .before .before .before .before .before .before .before .before .before .before .before .before .before .before .before .before .before .before .before .before .pre .3)
 

@@ -1,14 +1,10 @@
 use Rattle.paint_floor.proofs.Laws.{markings}
 use Rattle.paint_floor.proofs.spans.Statement.{statement}
 use Rattle.paint_floor.proofs.spans.Tie as tie
-use Rattle.paint_floor.proofs.spans.Reads as reads
-use Rattle.paint_floor.proofs.spans.Lts as lts
 
--- src/lib.rt:22:9
 returns : tie.Need-returns
 returns c = search markings
 
--- src/lib.rt:18:1
 returns-2 : tie.Need-returns-2
 returns-2 c = search markings
 

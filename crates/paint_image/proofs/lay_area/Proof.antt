@@ -5,71 +5,54 @@ use borrow.Author.Needs.{needs}
 use Rattle.paint_image.proofs.lay_area.Statement.{statement}
 use Rattle.paint_image.proofs.lay_area.Tie as tie
 
--- src/lib.rt:86:9
 sample-of-requires : tie.Need-sample-of-requires
 sample-of-requires c κs = search needs
 
--- src/lib.rt:87:22
 mul-s : tie.Need-mul-s
 mul-s c = search needs
 
--- src/lib.rt:87:13
 add-s : tie.Need-add-s
 add-s c = search needs
 
--- src/lib.rt:89:9
 lay-from-requires : tie.Need-lay-from-requires
 lay-from-requires c κs = search needs
 
--- src/lib.rt:90:9
 same-length : tie.Need-same-length
 same-length c = search needs
 
--- src/lib.rt:90:9
 returns : tie.Need-returns
 returns c = search needs
 
--- src/lib.rt:92:13
 add-f : tie.Need-add-f
 add-f c = search needs
 
--- src/lib.rt:94:9
 lay-one-requires : tie.Need-lay-one-requires
 lay-one-requires c κs = search areas
 
--- src/lib.rt:95:9
 same-length-2 : tie.Need-same-length-2
 same-length-2 c = search needs
 
--- src/lib.rt:95:9
 returns-2 : tie.Need-returns-2
 returns-2 c = search needs
 
--- src/lib.rt:97:5
 lay-one-requires-2 : tie.Need-lay-one-requires-2
 lay-one-requires-2 c κs = search areas
 
--- src/lib.rt:98:24
 sub-lay-from : tie.Need-sub-lay-from
 sub-lay-from c = search needs
 
--- src/lib.rt:98:19
 add-lay-from : tie.Need-add-lay-from
 add-lay-from c = search needs
 
--- src/lib.rt:98:38
 add-lay-from-2 : tie.Need-add-lay-from-2
 add-lay-from-2 c = let h = count-small _ _ _ (c .before .before .before .before .before .before .before .before .before .before .before .before .before .pre .0 .turns) (c .before .before .before .before .before .before .before .before .before .before .sample-of .ensures) in omega arith
 
--- src/lib.rt:98:5
 lay-from-requires-2 : tie.Need-lay-from-requires-2
 lay-from-requires-2 c κs = (area-next _ _ _ _ _ (c .before .before .before .before .before .before .before .before .before .before .before .before .before .pre .0) (omega arith) (c .before .before .before .before .before .before .before .before .before .before .sample-of .ensures) (omega arith), omega arith, area-start _ _ _ _ _ (c .before .before .before .before .before .before .before .before .before .before .before .before .before .pre .0) (omega arith) (c .before .before .before .before .before .before .before .before .before .before .sample-of .ensures), let m = c .before .before .before .lay-one2 .ensures .long in let v = c .before .before .before .before .before .before .before .before .before .before .sample-of .ensures .high in omega arith)
 
--- src/lib.rt:82:1
 same-length-3 : tie.Need-same-length-3
 same-length-3 c = search needs
 
--- src/lib.rt:82:1
 returns-3 : tie.Need-returns-3
 returns-3 c = search areas
 

@@ -5,47 +5,36 @@ use borrow.Author.Needs.{needs}
 use Rattle.paint_image.proofs.lay_image.Statement.{statement}
 use Rattle.paint_image.proofs.lay_image.Tie as tie
 
--- src/lib.rt:133:9
 within-requires : tie.Need-within-requires
 within-requires c κs = search needs
 
--- src/lib.rt:134:9
 within-requires-2 : tie.Need-within-requires-2
 within-requires-2 c κs = search needs
 
--- src/lib.rt:135:5
 lay-base-requires : tie.Need-lay-base-requires
 lay-base-requires c κs = search imaging
 
--- src/lib.rt:136:26
 sub-lay-inside : tie.Need-sub-lay-inside
 sub-lay-inside c = search needs
 
--- src/lib.rt:136:21
 add-lay-inside : tie.Need-add-lay-inside
 add-lay-inside c = search needs
 
--- src/lib.rt:136:5
 lay-inside-requires : tie.Need-lay-inside-requires
 lay-inside-requires c κs = search imaging
 
--- src/lib.rt:137:24
 sub-lay-base : tie.Need-sub-lay-base
 sub-lay-base c = search needs
 
--- src/lib.rt:137:19
 add-lay-base : tie.Need-add-lay-base
 add-lay-base c = search needs
 
--- src/lib.rt:137:5
 lay-base-requires-2 : tie.Need-lay-base-requires-2
 lay-base-requires-2 c κs = (c .before .before .before .before .before .before .before .before .before .before .before .before .before .before .pre .0, beside-behind _ _ _ _ _ (c .before .before .before .before .before .before .before .before .before .before .within .ensures) (c .before .before .before .before .before .before .before .before .before .within2 .ensures), c .before .before .before .before .before .before .before .before .before .within2 .ensures .high, let m = c .before .before .before .before .before .before .before .lay-base .ensures .long in let n = c .before .before .before .lay-inside .ensures .long in let j = c .before .before .before .before .before .before .before .before .before .before .within .ensures .low in let k = c .before .before .before .before .before .before .before .before .before .within2 .ensures .low in let o = c .before .before .before .before .before .before .before .before .before .within2 .ensures .high in omega arith)
 
--- src/lib.rt:129:1
 same-length : tie.Need-same-length
 same-length c = search needs
 
--- src/lib.rt:129:1
 returns : tie.Need-returns
 returns c = search imaging
 

@@ -3,39 +3,30 @@ use borrow.Author.Needs.{needs}
 use Rattle.paint_image.proofs.lay_inside.Statement.{statement}
 use Rattle.paint_image.proofs.lay_inside.Tie as tie
 
--- src/lib.rt:119:9
 returns : tie.Need-returns
 returns c = search laying
 
--- src/lib.rt:122:43
 sub-lay-flat : tie.Need-sub-lay-flat
 sub-lay-flat c = search needs
 
--- src/lib.rt:122:38
 add-lay-flat : tie.Need-add-lay-flat
 add-lay-flat c = search needs
 
--- src/lib.rt:122:9
 lay-flat-requires : tie.Need-lay-flat-requires
 lay-flat-requires c κs = search needs
 
--- src/lib.rt:123:9
 same-length : tie.Need-same-length
 same-length c = search needs
 
--- src/lib.rt:123:9
 returns-2 : tie.Need-returns-2
 returns-2 c = search laying
 
--- src/lib.rt:125:5
 lay-area-requires : tie.Need-lay-area-requires
 lay-area-requires c κs = search laying
 
--- src/lib.rt:114:1
 same-length-2 : tie.Need-same-length-2
 same-length-2 c = search needs
 
--- src/lib.rt:114:1
 returns-3 : tie.Need-returns-3
 returns-3 c = search laying
 

@@ -2,11 +2,9 @@ use Rattle.paint_image.proofs.Laws.{placing}
 use Rattle.paint_image.proofs.sample_of.Statement.{statement}
 use Rattle.paint_image.proofs.sample_of.Tie as tie
 
--- src/lib.rt:33:9
 scale-pos-requires : tie.Need-scale-pos-requires
 scale-pos-requires c κs = search placing
 
--- src/lib.rt:29:1
 returns : tie.Need-returns
 returns c = search placing
 

@@ -3,19 +3,15 @@ use borrow.Author.Needs.{needs}
 use Rattle.paint_image.proofs.sample_word.Statement.{statement}
 use Rattle.paint_image.proofs.sample_word.Tie as tie
 
--- src/lib.rt:42:9
 seen-requires : tie.Need-seen-requires
 seen-requires c κs = search needs
 
--- src/lib.rt:44:9
 grey-requires : tie.Need-grey-requires
 grey-requires c κs = search kinds
 
--- src/lib.rt:37:1
 returns : tie.Need-returns
 returns c = search kinds
 
--- src/lib.rt:37:1
 returns-2 : tie.Need-returns-2
 returns-2 c = search kinds
 

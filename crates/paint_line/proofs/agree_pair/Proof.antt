@@ -4,65 +4,46 @@ use Rattle.paint_line.proofs.Laws.{agreeing}
 use borrow.Author.Needs.{needs}
 use Rattle.paint_line.proofs.agree_pair.Statement.{statement}
 use Rattle.paint_line.proofs.agree_pair.Tie as tie
-use Rattle.paint_line.proofs.agree_pair.Reads as reads
-use Rattle.paint_line.proofs.agree_pair.Lts as lts
-use Rattle.line_fetch.proofs.row_at.Reads as row-at-reads
-use Rattle.paint_agree.proofs.agree_image.Reads as agree-image-reads
-use Rattle.paint_image.proofs.within.Reads as within-reads
 
--- src/lib.rt:25:13
 add-p : tie.Need-add-p
 add-p c = search needs
 
--- src/lib.rt:26:38
 mul-row-at : tie.Need-mul-row-at
 mul-row-at c = search needs
 
--- src/lib.rt:26:9
 row-at-requires : tie.Need-row-at-requires
 row-at-requires c κs = search agreeing
 
--- src/lib.rt:28:9
 returns : tie.Need-returns
 returns c = told-read _ _ _ _ _ _ _ _ _ _ (c .before .before .before .before .before .before .before .before .before .pre .2) (c .before .before .before .before .before .before .before .before .before .pre .3) _ (c .before .before .row-at .ensures) _ (c .if1 .taken) (c .before .before .before .before .before .before .before .before .before .pre .10)
 
--- src/lib.rt:30:38
 mul-row-at-2 : tie.Need-mul-row-at-2
 mul-row-at-2 c = search needs
 
--- src/lib.rt:30:38
 add-row-at : tie.Need-add-row-at
 add-row-at c = search needs
 
--- src/lib.rt:30:9
 row-at-requires-2 : tie.Need-row-at-requires-2
 row-at-requires-2 c κs = search agreeing
 
--- src/lib.rt:31:9
 within-requires : tie.Need-within-requires
 within-requires c κs = search needs
 
--- src/lib.rt:32:9
 within-requires-2 : tie.Need-within-requires-2
 within-requires-2 c κs = search needs
 
--- src/lib.rt:33:40
 cast-agree-image : tie.Need-cast-agree-image
 cast-agree-image c = search needs
 
--- src/lib.rt:33:5
 agree-image-requires : tie.Need-agree-image-requires
 agree-image-requires c κs = (image-fits _ _ _ _ _ (c .before .before .before .before .before .before .before .before .before .before .before .before .before .before .pre .0) (c .before .before .before .before .before .before .before .before .before .before .before .before .before .before .pre .3) _ (c .before .before .before .before .row-at2 .ensures), image-plain _ _ _ _ (c .before .before .before .before .before .before .before .before .before .before .before .before .before .before .pre .1) (c .before .before .before .before .before .before .before .before .before .before .before .before .before .before .pre .3) (c .before .before .before .before .row-at2 .ensures), c .before .before .before .within .ensures .low, c .before .before .within2 .ensures .low, let h = c .before .before .within2 .ensures .high in let k = c .before .before .before .before .before .before .before .before .before .before .before .before .before .before .pre .6 in omega arith, let h = c .before .before .within2 .ensures .high in let k = c .before .before .before .before .before .before .before .before .before .before .before .before .before .before .pre .7 in omega arith, let h = c .before .before .within2 .ensures .high in let k = c .before .before .before .before .before .before .before .before .before .before .before .before .before .before .pre .2 .room in omega arith, c .before .before .before .before .before .before .before .before .before .before .before .before .before .before .pre .8)
 
--- src/lib.rt:20:1
 same-length : tie.Need-same-length
 same-length c = search needs
 
--- src/lib.rt:20:1
 same-length-2 : tie.Need-same-length-2
 same-length-2 c = search needs
 
--- src/lib.rt:20:1
 returns-2 : tie.Need-returns-2
 returns-2 c = told-unread _ _ _ _ _ _ _ _ _ _ (c .before .before .before .before .before .before .before .before .before .before .before .before .before .before .before .before .before .before .before .pre .2) (c .before .before .before .before .before .before .before .before .before .before .before .before .before .before .before .before .before .before .before .pre .3) _ (c .before .before .before .before .before .before .before .before .before .before .before .before .row-at .ensures) _ (c .before .before .before .before .before .before .before .before .before .row-at2 .ensures) _ (c .before .before .before .before .before .before .before .before .before .before .before .before .before .before .before .before .before .before .before .pre .9) _ _ (c .before .before .before .before .before .before .before .before .within .ensures) (c .before .before .before .before .before .before .before .within2 .ensures) (c .before .before .before .before .before .before .before .before .before .before .before .before .before .before .before .before .before .before .before .pre .4) _ _ (c .before .before .before .before .before .before .before .before .before .before .before .before .before .before .before .before .before .before .before .pre .10) (c .before .before .before .before .agree-image .ensures) (c .before .before .before .before .before .before .before .before .before .before .if1 .left)
 

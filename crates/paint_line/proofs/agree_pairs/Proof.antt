@@ -1,46 +1,37 @@
-use Rattle.paint_line.proofs.Laws.{Agreeing, agreeing-begun, agreeing-more, agreeing-end}
+use Rattle.paint_line.proofs.Laws.{Agreeing, agreeing-more, agreeing-end}
 use Prim.Native.Nat.{_-_}
 use native.Mathlib.Omega.{arith}
 use Rattle.paint_line.proofs.Laws.{agreeings}
 use Rattle.paint_line.proofs.agree_pairs.Statement.{statement}
 use Rattle.paint_line.proofs.agree_pairs.Tie as tie
-use Rattle.paint_line.proofs.agree_pairs.Reads as reads
-use Rattle.paint_line.proofs.agree_pairs.Lts as lts
-use Rattle.paint_line.proofs.agree_pair.Reads as agree-pair-reads
 
 abbrev Inv-loop : tie.InvT-loop
 Inv-loop out₀ sel row₀ s d rows pairs f a b unseen u j₀ out row j = Agreeing unseen s d rows sel pairs a b out₀ row₀ out row j
+
 abbrev μ-loop : tie.MeasureT-loop
 μ-loop out₀ sel row₀ s d rows pairs f a b unseen u j₀ out row j = pairs - j
--- src/lib.rt:43:5
+
 loop-holds : tie.Need-loop-holds Inv-loop μ-loop
 loop-holds c = search agreeings
 
--- src/lib.rt:44:9
 agree-pair-requires : tie.Need-agree-pair-requires Inv-loop μ-loop
 agree-pair-requires c κs = (c .before .before .before .before .before .before .before .before .before .before .pre .0, c .before .before .before .before .before .before .before .before .before .before .pre .1, c .before .before .before .before .before .before .before .before .before .before .pre .2, c .before .before .loop-test .taken, c .before .before .before .before .before .before .before .before .before .before .pre .4, c .before .before .before .before .before .before .before .before .before .before .pre .5, c .before .before .before .before .before .before .before .before .before .before .pre .6, let l = c .before .before .before .loop .inv .kept .long in let k = c .before .before .before .before .before .before .before .before .before .before .pre .7 in omega arith, let l = c .before .before .before .loop .inv .wide in let k = c .before .before .before .before .before .before .before .before .before .before .pre .8 in omega arith, c .before .before .before .before .before .before .before .before .before .before .pre .9, c .before .before .before .loop .inv .told)
 
--- src/lib.rt:45:9
 add-j : tie.Need-add-j Inv-loop μ-loop
 add-j c = search agreeings
 
--- src/lib.rt:43:5
 loop-less : tie.Need-loop-less Inv-loop μ-loop
 loop-less c = search agreeings
 
--- src/lib.rt:43:5
 loop-again : tie.Need-loop-again Inv-loop μ-loop
 loop-again c = agreeing-more _ _ _ _ _ _ _ _ _ _ _ _ _ _ _ (c .before .before .before .before .before .before .before .before .loop .inv) (c .before .before .before .before .before .before .before .loop-test .taken) (omega arith) (c .before .before .before .before .agree-pair .ensures)
 
--- src/lib.rt:37:1
 same-length : tie.Need-same-length Inv-loop μ-loop
 same-length c = let l = c .before .loop .inv .kept .long in omega arith
 
--- src/lib.rt:37:1
 same-length-2 : tie.Need-same-length-2 Inv-loop μ-loop
 same-length-2 c = let l = c .before .loop .inv .wide in omega arith
 
--- src/lib.rt:37:1
 returns : tie.Need-returns Inv-loop μ-loop
 returns c = agreeing-end _ _ _ _ _ _ _ _ _ _ _ _ _ (c .before .loop .inv) (omega arith)
 

@@ -3,38 +3,31 @@ use Prim.Native.Nat.{_-_}
 use Rattle.paint_show.proofs.Laws.{looking}
 use Rattle.paint_show.proofs.any_64.Statement.{statement}
 use Rattle.paint_show.proofs.any_64.Tie as tie
-use Rattle.paint_show.proofs.any_64.Reads as reads
-use Rattle.paint_show.proofs.any_64.Lts as lts
 
 abbrev Inv-loop : tie.InvT-loop
 Inv-loop s v i any₀ j₀ any j = Looked v s i any j
+
 abbrev μ-loop : tie.MeasureT-loop
 μ-loop s v i any₀ j₀ any j = 64 - j
--- src/lib.rt:59:5
+
 loop-holds : tie.Need-loop-holds Inv-loop μ-loop
 loop-holds c = search looking
 
--- src/lib.rt:60:24
 add-any : tie.Need-add-any Inv-loop μ-loop
 add-any c = search looking
 
--- src/lib.rt:60:22
 shared-slice-read-any : tie.Need-shared-slice-read-any Inv-loop μ-loop
 shared-slice-read-any c = search looking
 
--- src/lib.rt:61:9
 add-j : tie.Need-add-j Inv-loop μ-loop
 add-j c = search looking
 
--- src/lib.rt:59:5
 loop-less : tie.Need-loop-less Inv-loop μ-loop
 loop-less c = search looking
 
--- src/lib.rt:59:5
 loop-again : tie.Need-loop-again Inv-loop μ-loop
 loop-again c = search looking
 
--- src/lib.rt:53:1
 returns : tie.Need-returns Inv-loop μ-loop
 returns c = search looking
 

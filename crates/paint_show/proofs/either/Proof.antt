@@ -1,14 +1,10 @@
 use Rattle.paint_show.proofs.Laws.{eithers}
 use Rattle.paint_show.proofs.either.Statement.{statement}
 use Rattle.paint_show.proofs.either.Tie as tie
-use Rattle.paint_show.proofs.either.Reads as reads
-use Rattle.paint_show.proofs.either.Lts as lts
 
--- src/lib.rt:32:1
 returns : tie.Need-returns
 returns c = search eithers
 
--- src/lib.rt:32:1
 returns-2 : tie.Need-returns-2
 returns-2 c = search eithers
 

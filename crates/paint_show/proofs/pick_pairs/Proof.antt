@@ -5,47 +5,37 @@ use Rattle.paint_words.specs.Words.{octetsOf}
 use Rattle.paint_show.proofs.Laws.{mixings}
 use Rattle.paint_show.proofs.pick_pairs.Statement.{statement}
 use Rattle.paint_show.proofs.pick_pairs.Tie as tie
-use Rattle.paint_show.proofs.pick_pairs.Reads as reads
-use Rattle.paint_show.proofs.pick_pairs.Lts as lts
-use Rattle.paint_show.proofs.pick_floor.Reads as pick-floor-reads
 
 abbrev Inv-loop : tie.InvT-loop
 Inv-loop out₀ sel row₀ s d rows pairs v a x e u c₀ out row c = Mixing (octetsOf u) s d rows sel pairs a x e v out₀ row₀ out row c
+
 abbrev μ-loop : tie.MeasureT-loop
 μ-loop out₀ sel row₀ s d rows pairs v a x e u c₀ out row c = pairs + 1 - c
--- src/lib.rt:111:5
+
 loop-holds : tie.Need-loop-holds Inv-loop μ-loop
 loop-holds c = search mixings
 
--- src/lib.rt:112:57
 cast-pick-floor : tie.Need-cast-pick-floor Inv-loop μ-loop
 cast-pick-floor c = search mixings
 
--- src/lib.rt:112:9
 pick-floor-requires : tie.Need-pick-floor-requires Inv-loop μ-loop
 pick-floor-requires c κs = (c .before .before .before .before .before .before .before .before .before .before .pre .0, c .before .before .before .before .before .before .before .before .before .before .pre .1, some-known _ _ (c .before .before .loop-test .taken), c .before .before .before .before .before .before .before .before .before .before .pre .4, c .before .before .before .before .before .before .before .before .before .before .pre .5, c .before .before .before .before .before .before .before .before .before .before .pre .6, let l = c .before .before .before .loop .inv .long in let k = c .before .before .before .before .before .before .before .before .before .before .pre .7 in omega arith, c .before .before .before .before .before .before .before .before .before .before .pre .8, let l = c .before .before .before .loop .inv .wide in let k = c .before .before .before .before .before .before .before .before .before .before .pre .9 in omega arith)
 
--- src/lib.rt:113:9
 add-c : tie.Need-add-c Inv-loop μ-loop
 add-c c = search mixings
 
--- src/lib.rt:111:5
 loop-less : tie.Need-loop-less Inv-loop μ-loop
 loop-less c = search mixings
 
--- src/lib.rt:111:5
 loop-again : tie.Need-loop-again Inv-loop μ-loop
 loop-again c = mixing-more _ _ _ _ _ _ _ _ _ _ _ _ _ _ _ (c .before .before .before .before .before .before .before .before .loop .inv) _ _ (c .before .before .before .before .before .before .before .loop-test .taken) (c .before .before .before .before .before .before .before .before .before .before .before .before .before .before .before .pre .3) (omega arith) (c .before .before .before .before .pick-floor .ensures)
 
--- src/lib.rt:104:1
 same-length : tie.Need-same-length Inv-loop μ-loop
 same-length c = let l = c .before .loop .inv .long in omega arith
 
--- src/lib.rt:104:1
 same-length-2 : tie.Need-same-length-2 Inv-loop μ-loop
 same-length-2 c = let l = c .before .loop .inv .wide in omega arith
 
--- src/lib.rt:104:1
 returns : tie.Need-returns Inv-loop μ-loop
 returns c = mixing-end _ _ _ _ _ _ _ _ _ _ _ _ _ _ _ (c .before .loop .inv) (c .before .before .before .before .before .before .before .before .pre .2) (c .before .before .before .before .before .before .before .before .pre .5) (omega arith)
 

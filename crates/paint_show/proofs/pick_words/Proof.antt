@@ -6,81 +6,61 @@ use Rattle.paint_show.specs.Show.{picking}
 use Rattle.paint_show.proofs.Laws.{pickings}
 use Rattle.paint_show.proofs.pick_words.Statement.{statement}
 use Rattle.paint_show.proofs.pick_words.Tie as tie
-use Rattle.paint_show.proofs.pick_words.Reads as reads
-use Rattle.paint_show.proofs.pick_words.Lts as lts
-use Rattle.paint_show.proofs.either.Reads as either-reads
-use Rattle.paint_words.proofs.put_word.Reads as put-word-reads
-use Rattle.paint_words.proofs.word.Reads as word-reads
 
 abbrev Inv-loop : tie.InvT-loop
 Inv-loop out₀ sel i c row x e p₀ out p = Coating (picking sel i c row x) out₀ x e out p
+
 abbrev μ-loop : tie.MeasureT-loop
 μ-loop out₀ sel i c row x e p₀ out p = e - p
--- src/lib.rt:43:5
+
 loop-holds : tie.Need-loop-holds Inv-loop μ-loop
 loop-holds c = search pickings
 
--- src/lib.rt:44:42
 mul-word : tie.Need-mul-word Inv-loop μ-loop
 mul-word c = search pickings
 
--- src/lib.rt:44:13
 word-requires : tie.Need-word-requires Inv-loop μ-loop
 word-requires c κs = search pickings
 
--- src/lib.rt:45:42
 sub-word : tie.Need-sub-word Inv-loop μ-loop
 sub-word c = search pickings
 
--- src/lib.rt:45:41
 mul-word-2 : tie.Need-mul-word-2 Inv-loop μ-loop
 mul-word-2 c = search pickings
 
--- src/lib.rt:45:13
 word-requires-2 : tie.Need-word-requires-2 Inv-loop μ-loop
 word-requires-2 c κs = search pickings
 
--- src/lib.rt:46:26
 sub-v : tie.Need-sub-v Inv-loop μ-loop
 sub-v c = search pickings
 
--- src/lib.rt:46:21
 add-v : tie.Need-add-v Inv-loop μ-loop
 add-v c = search pickings
 
--- src/lib.rt:46:17
 shared-slice-read-v : tie.Need-shared-slice-read-v Inv-loop μ-loop
 shared-slice-read-v c = search pickings
 
--- src/lib.rt:47:36
 mul-put-word : tie.Need-mul-put-word Inv-loop μ-loop
 mul-put-word c = search pickings
 
--- src/lib.rt:47:43
 either-requires : tie.Need-either-requires Inv-loop μ-loop
 either-requires c κs = search pickings
 
--- src/lib.rt:47:9
 put-word-requires : tie.Need-put-word-requires Inv-loop μ-loop
 put-word-requires c κs = search pickings
 
--- src/lib.rt:48:9
 add-p : tie.Need-add-p Inv-loop μ-loop
 add-p c = search pickings
 
--- src/lib.rt:43:5
 loop-less : tie.Need-loop-less Inv-loop μ-loop
 loop-less c = search pickings
 
--- src/lib.rt:43:5
 loop-again : tie.Need-loop-again Inv-loop μ-loop
 loop-again c = coat-more _ _ _ _ _ _ _ _ (c .before .before .put-word .ensures) (word-picked _ _ _ _ _ _ _ _ _ _ (c .before .before .before .before .before .before .before .word .ensures) (c .before .before .before .before .before .before .word2 .ensures) (c .before .before .before .either .ensures)) (omega arith) (c .before .before .before .before .before .before .before .before .before .before .loop .inv)
 
--- src/lib.rt:38:1
 same-length : tie.Need-same-length Inv-loop μ-loop
 same-length c = search pickings
 
--- src/lib.rt:38:1
 returns : tie.Need-returns Inv-loop μ-loop
 returns c = search pickings
 

@@ -3,63 +3,49 @@ use Prim.Native.Nat.{_-_}
 use Rattle.paint_show.proofs.Laws.{passing}
 use Rattle.paint_show.proofs.present.Statement.{statement}
 use Rattle.paint_show.proofs.present.Tie as tie
-use Rattle.paint_show.proofs.present.Reads as reads
-use Rattle.paint_show.proofs.present.Lts as lts
-use Rattle.paint_show.proofs.any_64.Reads as any-64-reads
 
 abbrev Inv-loop : tie.InvT-loop
 Inv-loop s v p q i₀ i = Passing v s p q i
+
 abbrev μ-loop : tie.MeasureT-loop
 μ-loop s v p q i₀ i = q - i
--- src/lib.rt:72:5
+
 loop-holds : tie.Need-loop-holds Inv-loop μ-loop
 loop-holds c = search passing
 
--- src/lib.rt:73:18
 sub-if1 : tie.Need-sub-if1 Inv-loop μ-loop
 sub-if1 c = search passing
 
--- src/lib.rt:74:16
 any-64-requires : tie.Need-any-64-requires Inv-loop μ-loop
 any-64-requires c κs = search passing
 
--- src/lib.rt:75:17
 returns : tie.Need-returns Inv-loop μ-loop
 returns c = search passing
 
--- src/lib.rt:77:13
 add-i : tie.Need-add-i Inv-loop μ-loop
 add-i c = search passing
 
--- src/lib.rt:72:5
 loop-less : tie.Need-loop-less Inv-loop μ-loop
 loop-less c = search passing
 
--- src/lib.rt:72:5
 loop-again : tie.Need-loop-again Inv-loop μ-loop
 loop-again c = search passing
 
--- src/lib.rt:79:16
 shared-slice-read-if3 : tie.Need-shared-slice-read-if3 Inv-loop μ-loop
 shared-slice-read-if3 c = search passing
 
--- src/lib.rt:80:17
 returns-2 : tie.Need-returns-2 Inv-loop μ-loop
 returns-2 c = search passing
 
--- src/lib.rt:82:13
 add-i-2 : tie.Need-add-i-2 Inv-loop μ-loop
 add-i-2 c = search passing
 
--- src/lib.rt:72:5
 loop-less-2 : tie.Need-loop-less-2 Inv-loop μ-loop
 loop-less-2 c = search passing
 
--- src/lib.rt:72:5
 loop-again-2 : tie.Need-loop-again-2 Inv-loop μ-loop
 loop-again-2 c = search passing
 
--- src/lib.rt:67:1
 returns-3 : tie.Need-returns-3 Inv-loop μ-loop
 returns-3 c = search passing
 

@@ -3,38 +3,31 @@ use Prim.Native.Nat.{_-_}
 use Rattle.paint_show.proofs.Laws.{running}
 use Rattle.paint_show.proofs.run_few.Statement.{statement}
 use Rattle.paint_show.proofs.run_few.Tie as tie
-use Rattle.paint_show.proofs.run_few.Reads as reads
-use Rattle.paint_show.proofs.run_few.Lts as lts
 
 abbrev Inv-loop : tie.InvT-loop
 Inv-loop s v from to i₀ i = Runs v s from to i
+
 abbrev μ-loop : tie.MeasureT-loop
 μ-loop s v from to i₀ i = to - i
--- src/lib.rt:148:5
+
 loop-holds : tie.Need-loop-holds Inv-loop μ-loop
 loop-holds c = search running
 
--- src/lib.rt:149:12
 shared-slice-read-if1 : tie.Need-shared-slice-read-if1 Inv-loop μ-loop
 shared-slice-read-if1 c = search running
 
--- src/lib.rt:150:13
 returns : tie.Need-returns Inv-loop μ-loop
 returns c = search running
 
--- src/lib.rt:152:9
 add-i : tie.Need-add-i Inv-loop μ-loop
 add-i c = search running
 
--- src/lib.rt:148:5
 loop-less : tie.Need-loop-less Inv-loop μ-loop
 loop-less c = search running
 
--- src/lib.rt:148:5
 loop-again : tie.Need-loop-again Inv-loop μ-loop
 loop-again c = search running
 
--- src/lib.rt:143:1
 returns-2 : tie.Need-returns-2 Inv-loop μ-loop
 returns-2 c = search running
 

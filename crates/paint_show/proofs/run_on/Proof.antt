@@ -5,65 +5,49 @@ use Prim.Native.Nat.{_-_}
 use Rattle.paint_show.proofs.Laws.{running}
 use Rattle.paint_show.proofs.run_on.Statement.{statement}
 use Rattle.paint_show.proofs.run_on.Tie as tie
-use Rattle.paint_show.proofs.run_on.Reads as reads
-use Rattle.paint_show.proofs.run_on.Lts as lts
-use Rattle.paint_show.proofs.run_few.Reads as run-few-reads
-use Rattle.paint_show.proofs.same_16.Reads as same-16-reads
-use Rattle.paint_words.proofs.word_of.Reads as word-of-reads
 
 abbrev Inv-loop : tie.InvT-loop
 Inv-loop s v from to four i₀ i = Runs v s from to i
+
 abbrev μ-loop : tie.MeasureT-loop
 μ-loop s v from to four i₀ i = to - i
--- src/lib.rt:162:9
+
 word-of-requires : tie.Need-word-of-requires Inv-loop μ-loop
 word-of-requires c κs = search running
 
--- src/lib.rt:164:5
 loop-holds : tie.Need-loop-holds Inv-loop μ-loop
 loop-holds c = search running
 
--- src/lib.rt:165:18
 sub-if1 : tie.Need-sub-if1 Inv-loop μ-loop
 sub-if1 c = search running
 
--- src/lib.rt:166:16
 same-16-requires : tie.Need-same-16-requires Inv-loop μ-loop
 same-16-requires c κs = search running
 
--- src/lib.rt:167:17
 add-i : tie.Need-add-i Inv-loop μ-loop
 add-i c = search running
 
--- src/lib.rt:164:5
 loop-less : tie.Need-loop-less Inv-loop μ-loop
 loop-less c = search running
 
--- src/lib.rt:164:5
 loop-again : tie.Need-loop-again Inv-loop μ-loop
 loop-again c = search running
 
--- src/lib.rt:169:41
 add-run-few : tie.Need-add-run-few Inv-loop μ-loop
 add-run-few c = search running
 
--- src/lib.rt:169:17
 run-few-requires : tie.Need-run-few-requires Inv-loop μ-loop
 run-few-requires c κs = search running
 
--- src/lib.rt:169:17
 returns : tie.Need-returns Inv-loop μ-loop
 returns c = run-rest _ _ _ _ _ _ _ (c .before .before .before .before .before .loop .inv) (omega arith) (c .run-few .ensures)
 
--- src/lib.rt:172:13
 run-few-requires-2 : tie.Need-run-few-requires-2 Inv-loop μ-loop
 run-few-requires-2 c κs = search running
 
--- src/lib.rt:172:13
 returns-2 : tie.Need-returns-2 Inv-loop μ-loop
 returns-2 c = search running
 
--- src/lib.rt:158:1
 returns-3 : tie.Need-returns-3 Inv-loop μ-loop
 returns-3 c = search running
 

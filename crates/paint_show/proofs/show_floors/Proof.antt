@@ -1,99 +1,74 @@
-use Rattle.paint_show.proofs.Laws.{Showing, showing-mixed, showing-run, showing-end, part-known, here-known}
+use Rattle.paint_show.proofs.Laws.{Showing, showing-mixed, showing-run, part-known, here-known}
 use Prim.Native.Nat.{_-_}
 use native.Mathlib.Omega.{arith}
 use Rattle.paint_words.specs.Words.{octetsOf}
 use Rattle.paint_show.proofs.Laws.{showing}
 use Rattle.paint_show.proofs.show_floors.Statement.{statement}
 use Rattle.paint_show.proofs.show_floors.Tie as tie
-use Rattle.paint_show.proofs.show_floors.Reads as reads
-use Rattle.paint_show.proofs.show_floors.Lts as lts
-use Rattle.paint_show.proofs.ahead.Reads as ahead-reads
-use Rattle.paint_show.proofs.lay_floor.Reads as lay-floor-reads
-use Rattle.paint_show.proofs.mixed_end.Reads as mixed-end-reads
-use Rattle.paint_show.proofs.run_on.Reads as run-on-reads
-use Rattle.paint_show.proofs.show_mixed.Reads as show-mixed-reads
 
 abbrev Inv-loop : tie.InvT-loop
 Inv-loop out₀ sel row₀ s d rows pairs a b u n i₀ out row i = Showing (octetsOf u) s d rows sel a b out₀ row₀ out row i
+
 abbrev μ-loop : tie.MeasureT-loop
 μ-loop out₀ sel row₀ s d rows pairs a b u n i₀ out row i = n - i
--- src/lib.rt:209:13
+
 sub-n : tie.Need-sub-n Inv-loop μ-loop
 sub-n c = search showing
 
--- src/lib.rt:211:5
 loop-holds : tie.Need-loop-holds Inv-loop μ-loop
 loop-holds c = search showing
 
--- src/lib.rt:212:17
 shared-slice-read-v : tie.Need-shared-slice-read-v Inv-loop μ-loop
 shared-slice-read-v c = search showing
 
--- src/lib.rt:213:13
 ahead-requires : tie.Need-ahead-requires Inv-loop μ-loop
 ahead-requires c κs = search showing
 
--- src/lib.rt:214:13
 run-on-requires : tie.Need-run-on-requires Inv-loop μ-loop
 run-on-requires c κs = search showing
 
--- src/lib.rt:216:17
 mixed-end-requires : tie.Need-mixed-end-requires Inv-loop μ-loop
 mixed-end-requires c κs = search showing
 
--- src/lib.rt:217:61
 add-show-mixed : tie.Need-add-show-mixed Inv-loop μ-loop
 add-show-mixed c = search showing
 
--- src/lib.rt:217:68
 add-show-mixed-2 : tie.Need-add-show-mixed-2 Inv-loop μ-loop
 add-show-mixed-2 c = search showing
 
--- src/lib.rt:217:13
 show-mixed-requires : tie.Need-show-mixed-requires Inv-loop μ-loop
 show-mixed-requires c κs = (c .before .before .before .before .before .before .before .before .before .before .before .before .before .before .before .pre .0, c .before .before .before .before .before .before .before .before .before .before .before .before .before .before .before .pre .1, part-known _ _ _ _ _ _ (c .before .before .before .before .before .before .before .before .before .before .before .before .before .before .before .pre .2) (c .before .before .mixed-end .ensures .1), c .before .before .before .before .before .before .before .before .before .before .before .before .before .before .before .pre .3, let h = c .before .before .mixed-end .ensures .1 in let k = c .before .before .before .before .before .before .before .before .before .before .before .before .before .before .before .pre .4 in let j = c .before .before .before .before .before .before .before .before .before .before .before .before .before .before .before .pre .5 in omega arith, omega arith, let h = c .before .before .mixed-end .ensures .0 in omega arith, let h = c .before .before .mixed-end .ensures .1 in let k = c .before .before .before .before .before .before .before .before .before .before .before .before .before .before .before .pre .6 in let j = c .before .before .before .before .before .before .before .before .before .before .before .before .before .before .before .pre .5 in let l = c .before .before .before .before .before .before .before .before .loop .inv .long in omega arith, let h = c .before .before .mixed-end .ensures .1 in let k = c .before .before .before .before .before .before .before .before .before .before .before .before .before .before .before .pre .7 in omega arith, let h = c .before .before .mixed-end .ensures .2 in let k = c .before .before .before .before .before .before .before .before .before .before .before .before .before .before .before .pre .8 in let l = c .before .before .before .before .before .before .before .before .loop .inv .wide in omega arith)
 
--- src/lib.rt:211:5
 loop-less : tie.Need-loop-less Inv-loop μ-loop
 loop-less c = search showing
 
--- src/lib.rt:211:5
 loop-again : tie.Need-loop-again Inv-loop μ-loop
 loop-again c = showing-mixed _ _ _ _ _ _ _ _ _ _ _ _ (c .before .before .before .before .before .before .before .before .before .before .before .before .before .loop .inv) _ _ _ (c .before .before .before .before .before .before .before .mixed-end .ensures .0) (c .before .before .before .before .before .before .before .mixed-end .ensures .1) (omega arith) (c .before .before .before .before .show-mixed .ensures)
 
--- src/lib.rt:220:28
 add-lay-floor : tie.Need-add-lay-floor Inv-loop μ-loop
 add-lay-floor c = search showing
 
--- src/lib.rt:220:57
 add-lay-floor-2 : tie.Need-add-lay-floor-2 Inv-loop μ-loop
 add-lay-floor-2 c = search showing
 
--- src/lib.rt:220:64
 add-lay-floor-3 : tie.Need-add-lay-floor-3 Inv-loop μ-loop
 add-lay-floor-3 c = search showing
 
--- src/lib.rt:220:13
 lay-floor-requires : tie.Need-lay-floor-requires Inv-loop μ-loop
 lay-floor-requires c κs = (c .before .before .before .before .before .before .before .before .before .before .before .before .before .pre .0, c .before .before .before .before .before .before .before .before .before .before .before .before .before .pre .1, here-known _ _ _ _ (c .before .before .before .before .before .before .before .before .before .before .before .before .before .pre .2) (c .before .before .before .before .before .loop-test .taken), let h = c .before .before .run-on .ensures .upto in let k = c .before .before .before .before .before .before .before .before .before .before .before .before .before .pre .4 in let j = c .before .before .before .before .before .before .before .before .before .before .before .before .before .pre .5 in omega arith, let h = c .before .before .run-on .ensures .from in omega arith, let h = c .before .before .run-on .ensures .upto in let m = c .before .before .run-on .ensures .from in let k = c .before .before .before .before .before .before .before .before .before .before .before .before .before .pre .6 in let j = c .before .before .before .before .before .before .before .before .before .before .before .before .before .pre .5 in let l = c .before .before .before .before .before .before .loop .inv .long in omega arith)
 
--- src/lib.rt:211:5
 loop-less-2 : tie.Need-loop-less-2 Inv-loop μ-loop
 loop-less-2 c = let h = c .before .before .before .before .before .before .ahead .ensures .3 (c .before .before .before .before .before .before .before .before .loop-test .taken) in let k = c .before .before .before .before .before .run-on .ensures .upto in omega arith
 
--- src/lib.rt:211:5
 loop-again-2 : tie.Need-loop-again-2 Inv-loop μ-loop
 loop-again-2 c = showing-run _ _ _ _ _ _ _ _ _ _ _ _ (c .before .before .before .before .before .before .before .before .before .loop .inv) _ _ _ (c .before .before .before .before .before .run-on .ensures) (c .before .before .lay-floor .ensures)
 
--- src/lib.rt:204:1
 same-length : tie.Need-same-length Inv-loop μ-loop
 same-length c = search showing
 
--- src/lib.rt:204:1
 same-length-2 : tie.Need-same-length-2 Inv-loop μ-loop
 same-length-2 c = search showing
 
--- src/lib.rt:204:1
 returns : tie.Need-returns Inv-loop μ-loop
 returns c = search showing
 

@@ -4,41 +4,28 @@ use native.Mathlib.Omega.{arith}
 use borrow.Author.Needs.{needs}
 use Rattle.paint_show.proofs.show_mixed.Statement.{statement}
 use Rattle.paint_show.proofs.show_mixed.Tie as tie
-use Rattle.paint_show.proofs.show_mixed.Reads as reads
-use Rattle.paint_show.proofs.show_mixed.Lts as lts
-use Rattle.paint_show.proofs.lay_floor.Reads as lay-floor-reads
-use Rattle.paint_show.proofs.pick_floor.Reads as pick-floor-reads
-use Rattle.paint_show.proofs.pick_pairs.Reads as pick-pairs-reads
 
--- src/lib.rt:123:17
 sub-v : tie.Need-sub-v
 sub-v c = search needs
 
--- src/lib.rt:123:13
 shared-slice-read-v : tie.Need-shared-slice-read-v
 shared-slice-read-v c = search needs
 
--- src/lib.rt:124:5
 lay-floor-requires : tie.Need-lay-floor-requires
 lay-floor-requires c κs = (c .before .before .before .before .before .before .before .before .pre .0, c .before .before .before .before .before .before .before .before .pre .1, first-known _ _ _ _ _ (c .before .before .before .before .before .before .before .before .pre .2) (c .before .before .before .before .before .before .before .before .pre .5) (c .before .before .before .before .before .before .before .before .pre .6), c .before .before .before .before .before .before .before .before .pre .4, omega arith, let k = c .before .before .before .before .before .before .before .before .pre .7 in omega arith)
 
--- src/lib.rt:125:5
 pick-floor-requires : tie.Need-pick-floor-requires
 pick-floor-requires c κs = (c .before .before .before .before .before .before .before .before .before .before .before .before .before .pre .0, c .before .before .before .before .before .before .before .before .before .before .before .before .before .pre .1, dark-known _, c .before .before .before .before .before .before .before .before .before .before .before .before .before .pre .4, c .before .before .before .before .before .before .before .before .before .before .before .before .before .pre .5, omega arith, let l = c .before .before .before .before .lay-floor .ensures .long in let k = c .before .before .before .before .before .before .before .before .before .before .before .before .before .pre .7 in omega arith, c .before .before .before .before .before .before .before .before .before .before .before .before .before .pre .8, c .before .before .before .before .before .before .before .before .before .before .before .before .before .pre .9)
 
--- src/lib.rt:126:5
 pick-pairs-requires : tie.Need-pick-pairs-requires
 pick-pairs-requires c κs = (c .before .before .before .before .before .before .before .before .before .before .before .before .before .before .before .before .before .before .before .before .pre .0, c .before .before .before .before .before .before .before .before .before .before .before .before .before .before .before .before .before .before .before .before .pre .1, c .before .before .before .before .before .before .before .before .before .before .before .before .before .before .before .before .before .before .before .before .pre .2, c .before .before .before .before .before .before .before .before .before .before .before .before .before .before .before .before .before .before .before .before .pre .3, c .before .before .before .before .before .before .before .before .before .before .before .before .before .before .before .before .before .before .before .before .pre .4, c .before .before .before .before .before .before .before .before .before .before .before .before .before .before .before .before .before .before .before .before .pre .5, omega arith, let l = c .before .before .before .before .before .before .before .before .before .before .before .lay-floor .ensures .long in let m = c .before .before .before .before .before .before .pick-floor .ensures .long in let k = c .before .before .before .before .before .before .before .before .before .before .before .before .before .before .before .before .before .before .before .before .pre .7 in omega arith, c .before .before .before .before .before .before .before .before .before .before .before .before .before .before .before .before .before .before .before .before .pre .8, let k = c .before .before .before .before .before .before .before .before .before .before .before .before .before .before .before .before .before .before .before .before .pre .9 in omega arith, mixed-begun _ _ _ _ _ _ _ _ _ _ _ _ [] (c .before .before .before .before .before .before .before .before .before .before .before .lay-floor .ensures) (c .before .before .before .before .before .before .pick-floor .ensures))
 
--- src/lib.rt:118:1
 same-length : tie.Need-same-length
 same-length c = search needs
 
--- src/lib.rt:118:1
 same-length-2 : tie.Need-same-length-2
 same-length-2 c = search needs
 
--- src/lib.rt:118:1
 returns : tie.Need-returns
 returns c = mixed-end _ _ _ _ _ _ _ _ _ _ _ _ _ (c .before .before .before .before .before .before .before .before .before .before .before .before .before .before .before .before .lay-floor .ensures) (c .before .before .before .before .before .before .before .before .before .before .before .pick-floor .ensures) (let h = c .before .before .before .before .before .before .before .before .before .before .before .before .before .before .before .before .before .before .before .before .before .before .before .before .before .pre .6 in omega arith) (c .before .before .before .before .pick-pairs .ensures)
 

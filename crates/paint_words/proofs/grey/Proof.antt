@@ -3,15 +3,12 @@ use borrow.Author.Needs.{needs}
 use Rattle.paint_words.proofs.grey.Statement.{statement}
 use Rattle.paint_words.proofs.grey.Tie as tie
 
--- src/lib.rt:53:13
 shared-slice-read-word-of : tie.Need-shared-slice-read-word-of
 shared-slice-read-word-of c = search needs
 
--- src/lib.rt:53:5
 word-of-requires : tie.Need-word-of-requires
 word-of-requires c κs = search needs
 
--- src/lib.rt:49:1
 returns : tie.Need-returns
 returns c = search making
 
