@@ -131,6 +131,33 @@ module _ (m : List ℕ) (i k n : ℕ) (l : List ℕ) where
     pub spread-end : n ≤ q → Spread m i k n l e
     spread-end h = let f = c .few in let z : q ≡ n = omega arith in subst (λ (o : ℕ). Spread m i k o l e) z (c .done)
 
+-- two stores of one value
+pub spread-two : (m : List ℕ) (i n : ℕ) (l e : List ℕ) (q : ℕ) → Spreading m i 2 n l e q (q * 2) → q < n
+    → Spreading m i 2 n l (set (set e (q * 2) (getD m (i + q) 0)) (q * 2 + 1) (getD m (i + q) 0)) (q + 1) ((q + 1) * 2)
+spread-two m i n l e q c h =
+    let v : ℕ = getD m (i + q) 0 in
+    let r = c .room in
+    let g = c .done .long in
+    let z : q * 2 + 1 + 1 ≡ q * 2 + 2 = omega arith in
+    let w : q * 2 + 2 ≡ (q + 1) * 2 = omega arith in
+    let b = marking-begun (ever 1) e (q * 2) (q * 2 + 2) (getD m (i + q) 0) (omega arith) (omega arith) in
+    let o = marking-more (ever 1) e (q * 2) (q * 2 + 2) (getD m (i + q) 0) e (q * 2) (getD m (i + q) 0) (ever-is (q * 2) (getD e (q * 2) 0) (getD m (i + q) 0)) (omega arith) b in
+    let t = marking-more (ever 1) e (q * 2) (q * 2 + 2) (getD m (i + q) 0) (set e (q * 2) (getD m (i + q) 0)) (q * 2 + 1) (getD m (i + q) 0)
+    (ever-is (q * 2 + 1) (getD (set e (q * 2) (getD m (i + q) 0)) (q * 2 + 1) 0) (getD m (i + q) 0)) (omega arith) o in
+    let k = marking-end (ever 1) e (q * 2) (q * 2 + 2) (getD m (i + q) 0) (set (set e (q * 2) (getD m (i + q) 0)) (q * 2 + 1) (getD m (i + q) 0)) (q * 2 + 1 + 1) t (omega arith) in
+    subst (λ (p : ℕ). Spreading m i 2 n l (set (set e (q * 2) (getD m (i + q) 0)) (q * 2 + 1) (getD m (i + q) 0)) (q + 1) p) w (spread-more m i 2 n l e q (q * 2) c _ h k)
+
+pub spread-zero : (m : List ℕ) (i n : ℕ) (l : List ℕ) → n * 2 ≤ length l → Spreading m i 2 n l l 0 (0 * 2)
+spread-zero m i n l h = let z : 0 ≡ 0 * 2 = omega arith in subst (λ (p : ℕ). Spreading m i 2 n l l 0 p) z (spread-begun m i 2 n l (omega arith) h)
+
+pub spread-twice : (m : List ℕ) (i n : ℕ) (l e : List ℕ) (q : ℕ) → Spreading m i 2 n l e q (q * 2) → n ≤ q → Spread m i 2 n l e
+spread-twice m i n l e q c h = spread-end m i 2 n l e q (q * 2) c h
+
+pub spread-first : (m : List ℕ) (i n : ℕ) (l e : List ℕ) (q : ℕ) → Spreading m i 2 n l e q (q * 2) → q < n → q * 2 + 1 < length e
+spread-first m i n l e q c h = let r = c .room in let g = c .done .long in omega arith
+
+pub ruleset twice = (needs, spread-zero, spread-two, spread-twice, spread-first)
+
 pub ruleset spreading = (needs, spread-begun, spread-room, spread-end)
 
 pub as-ratio : (m : List ℕ) (i k c n : ℕ) (l e : List ℕ) → k ≡ c → Spread m i c n l e → Spread m i k n l e

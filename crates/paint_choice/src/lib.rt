@@ -50,13 +50,27 @@ fn bits_by(bits: &mut [u8], m: &[u8], i: usize, n: usize, k: usize)
     }
 }
 
+// Twice each, written out: the compiler does sixteen samples at a time of these two stores, and one of the loop above.
+fn bits_twice(bits: &mut [u8], m: &[u8], i: usize, n: usize)
+    requires { ⌜ (n * 2 ≤ length (now bits)) × (i + n ≤ length (now m)) ⌝ }
+    ensures { λ _. ⌜ Spread (now (m .entry)) i 2 n (now (bits .entry)) (now (bits .exit)) ⌝ }
+{
+    let mut q = 0;
+    while q < n {
+        let v = m[i + q];
+        bits[q * 2] = v;
+        bits[q * 2 + 1] = v;
+        q += 1;
+    }
+}
+
 // n samples, k times each; the ratios of accepted sheets are constants.
 fn lay_bits(bits: &mut [u8], m: &[u8], i: usize, n: usize, k: usize)
     requires { ⌜ (0 < k) × (n * k ≤ length (now bits)) × (i + n ≤ length (now m)) ⌝ }
     ensures { λ _. ⌜ Spread (now (m .entry)) i k n (now (bits .entry)) (now (bits .exit)) ⌝ }
 {
     match k {
-        2 => bits_by(bits, m, i, n, 2),
+        2 => bits_twice(bits, m, i, n),
         3 => bits_by(bits, m, i, n, 3),
         4 => bits_by(bits, m, i, n, 4),
         6 => bits_by(bits, m, i, n, 6),
