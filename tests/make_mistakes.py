@@ -406,7 +406,7 @@ def check_damage(tally, folder, rng):
         if not good:
             codecs_built.keep("make-%d" % k, files, wrong)
         ends[status] = ends.get(status, 0) + 1
-    tally.check(ends[0] >= DAMAGED // 10 and ends[1] >= DAMAGED // 3, "damage: ends %s" % ends)
+    tally.check(ends[0] >= DAMAGED // 16 and ends[1] >= DAMAGED // 3, "damage: ends %s" % ends)
     print("damaged files: %d made, %d refused" % (ends[0], DAMAGED - ends[0]))
 
 

@@ -188,26 +188,3 @@ pub fn paint_line(
         x = e;
     }
 }
-
-// A line by itself: fewer pixels than this take less time one by one than the scratch of a painted row.
-const FEW: usize = 64;
-
-pub fn draw_line(
-    out: &mut [u8],
-    s: &[u8],
-    d: &[u8],
-    rows: &[usize],
-    pairs: usize,
-    width: usize,
-    unseen: Colour,
-)
-    requires { ⌜ RowsFit (now s) (now d) (now rows) pairs × PlainRows (now rows) pairs × (pairs ≤ 7) × (width * 4 ≤ length (now out)) × (width < 65536) ⌝ }
-    ensures { λ _.
-        ⌜ now (out .exit) ≡ putAt (now (out .entry)) 0 (pixels unseen (λ (x : MainPos). decide (rowStack (now (s .entry)) (now (d .entry)) (now (rows .entry)) x) pairs) width) ⌝ }
-{
-    if width < FEW {
-        line_put::put_pixels(out, s, d, rows, pairs, width, unseen);
-        return;
-    }
-    paint_line(out, s, d, rows, pairs, width, unseen);
-}
