@@ -42,7 +42,7 @@ spans-not r a b e = clash cc
 pub mark-dark : (r : Row) (j a b : ℕ) (z : Bool) → r .read ≡ 0 → (z ≡ true → Between r a b) → z ≡ true → MarkOf r j a b dark
 mark-dark r j a b z n k t = record { same = λ d. absurd (d refl); unread = λ d. n; between = λ d. k t }
 
-pub mark-plain : (r : Row) (j a b : ℕ) → j < 255 → MarkOf r j a b j
+pub mark-plain : (r : Row) (j a b : ℕ) → j < 8 → MarkOf r j a b j
 mark-plain r j a b h = record { same = λ d. refl; unread = λ d. absurd (omega arith); between = λ d. absurd (omega arith) }
 
 pub ruleset markings = (needs, spans-both, spans-not, mark-dark, mark-plain)

@@ -12,7 +12,7 @@ ghost use Rattle.paint_floor.specs.Floors.{insideBits, MarkOf, Covers, P
 use line_fetch::Row;
 
 // The floor of a pixel of which nothing can be known.
-pub const DARK: u8 = 255;
+pub const DARK: u8 = 8;
 
 // The layer's area has all pixels from a up to b.
 fn spans(r: Row, a: usize, b: usize) -> bool
@@ -26,7 +26,7 @@ fn spans(r: Row, a: usize, b: usize) -> bool
 
 // What stands for pair j over a part: nothing is known where its image layer is not read.
 fn mark(r: Row, j: u8, a: usize, b: usize) -> u8
-    requires { ⌜ j < 255 ⌝ }
+    requires { ⌜ j < 8 ⌝ }
     ensures { λ v. ⌜ MarkOf r j a b v ⌝ }
 {
     if r.read == 0 {

@@ -322,6 +322,14 @@ module _ (un s d : List ℕ) (r : Row) (t a b : ℕ) where
       (image-read s d r (record { 0 = a + (x - t) }) (colourIn (r .read) d (r .at + (a + (x - t) - r .from) / r .ratio * r .read)) (record { 0 = (a + (x - t) - r .from) / r .ratio })
       (g .from (a + (x - t)) (omega arith) (omega arith)) (g .to (a + (x - t)) (omega arith) (omega arith)) z refl refl)) c
 
+-- within its area, where it was read, a layer gives its sample
+pub area-is : (un s d : List ℕ) (r : Row) (y : ℕ) → r .from ≤ y → y < r .to → r .read ≢ 0 → areaFrom d r y ≡ imageFrom un s d r y
+unfolding imageFrom areaFrom scale
+area-is un s d r y f o n =
+    four-colour un s d r 0 0 0 (r .read) (r .at + (y - r .from) / r .ratio * r .read)
+    ∙ ap (shownFour un)
+    (image-read s d r (record { 0 = y }) (colourIn (r .read) d (r .at + (y - r .from) / r .ratio * r .read)) (record { 0 = (y - r .from) / r .ratio }) f o n refl refl)
+
 pub base-room : (s d : List ℕ) (r : Row) → ImageFits s d r → r .other + 3 ≤ length s
 base-room s d r g = g .base
 

@@ -39,7 +39,7 @@ use Rattle.paint_coat.proofs.Coats.{four-same, coated-none, coated-chain, coate
 use Rattle.paint_image.specs.Image.{shownFour, imageFrom, moved, Within, Plain}
 use Rattle.paint_agree.specs.Agree.{sameFour, agreed, settles}
 use Rattle.paint_floor.specs.Floors.{PlainRows, Sure, Starts}
-use Rattle.paint_show.specs.Show.{floorFrom, shows, Paired}
+use Rattle.paint_show.specs.Show.{floorFrom, shows, Paired, Least}
 use Rattle.paint_line.specs.Painted.{Told, Kept, decided}
 
 -- ---- the four octets of a sample
@@ -246,6 +246,9 @@ module _ (u : Colour) (s d ns : List ℕ) (pairs f a b : ℕ) (un : List ℕ) (e
   pub floors-paired : (sel : List ℕ) → Sure s d ns f a (b - a) pairs sel → Paired sel 0 (b - a) pairs
   floors-paired sel g = record { few = λ i p q n. g .held i q .most n }
 
+  pub floors-least : (sel : List ℕ) → Sure s d ns f a (b - a) pairs sel → Least sel 0 (b - a) f
+  floors-least sel g = record { least = λ i p q n. g .held i q .least n }
+
   pub floors-told : (sel l o : List ℕ) → Sure s d ns f a (b - a) pairs sel → Coated (shows un s d ns sel a) l a b o → Told u s d ns sel a b f o
   unfolding shows floorFrom
   floors-told sel l o g c =
@@ -270,7 +273,7 @@ module _ (u : Colour) (s d ns : List ℕ) (pairs f a b : ℕ) (un : List ℕ) (e
         behind = λ i h. k .1 .behind i h ∙ c .behind i h;
       }
 
-pub ruleset parting = (needs, part-covered, floors-paired, floors-told, part-painted)
+pub ruleset parting = (needs, part-covered, floors-paired, floors-least, floors-told, part-painted)
 
 -- ---- the row
 
@@ -344,6 +347,15 @@ module _ (s d ns : List ℕ) (pairs j : ℕ) (g : RowsFit s d ns pairs) (h : j <
 
   pub first-image-room : ((j + 1) * 2 + 1) * rowSize ≤ length ns
   first-image-room = image-room s d ns pairs j g h
+
+module _ (s d ns : List ℕ) (pairs : ℕ) (g : RowsFit s d ns pairs) where
+  pair-room : (j : ℕ) → j ≤ pairs → (j * 2 + 1) * rowSize ≤ length ns
+  pair-room zero h = let r = g .room in omega arith
+  pair-room (suc j) h = g .pair (suc j) (omega arith) h .room
+
+  -- every layer's row is there
+  pub row-there : (l : ℕ) → l ≤ pairs * 2 + 1 → l * rowSize ≤ length ns
+  row-there l h = let r = pair-room pairs (omega arith) in omega arith
 
 pub part-some : (x w n r : ℕ) → 0 < n → Within (x + n) x w r → x < w → x < r
 part-some x w n r k g h =

@@ -72,12 +72,40 @@ fn agree_pairs(
     }
 }
 
+// The pixels a up to b, whose floors are known: what they give, and what the pairs above them agree on.
+fn show_part(
+    out: &mut [u8],
+    sel: &[u8],
+    row: &mut [u8],
+    t: &mut [usize],
+    lit: &mut [u8],
+    s: &[u8],
+    d: &[u8],
+    rows: &[usize],
+    pairs: usize,
+    f: usize,
+    a: usize,
+    b: usize,
+    unseen: Colour,
+    u: u32,
+)
+    requires { ⌜ RowsFit (now s) (now d) (now rows) pairs × PlainRows (now rows) pairs × Sure (now s) (now d) (now rows) f a (b - a) pairs (now sel) × (f ≤ pairs) × (pairs ≤ 7) × (a ≤ b)
+        × (b < 65536) × (b * 4 ≤ length (now out)) × (2048 ≤ length (now row)) × (octetsOf u ≡ fourOf unseen Unknown) × (192 ≤ length (now t)) × (16 ≤ length (now lit)) ⌝ }
+    ensures { λ _. ⌜ Coated (decided unseen (now (s .entry)) (now (d .entry)) (now (rows .entry)) pairs) (now (out .entry)) a b (now (out .exit)) ⌝ }
+{
+    let step = paint_table::make_table(t, lit, s, d, rows, pairs, f, a, b);
+    paint_show::show_floors(out, sel, row, t, lit, s, d, rows, pairs, f, step, a, b, u);
+    agree_pairs(out, sel, row, s, d, rows, pairs, f, a, b, unseen, u);
+}
+
 // The pixels a up to b.
 fn paint_part(
     out: &mut [u8],
     sel: &mut [u8],
     bits: &mut [u8],
     row: &mut [u8],
+    t: &mut [usize],
+    lit: &mut [u8],
     s: &[u8],
     d: &[u8],
     rows: &[usize],
@@ -88,7 +116,7 @@ fn paint_part(
     u: u32,
 )
     requires { ⌜ RowsFit (now s) (now d) (now rows) pairs × PlainRows (now rows) pairs × (pairs ≤ 7) × (a ≤ b) × (b < 65536) × (b * 4 ≤ length (now out)) × (b - a ≤ length (now sel))
-        × (b - a + 24 ≤ length (now bits)) × (2048 ≤ length (now row)) × (octetsOf u ≡ fourOf unseen Unknown) ⌝ }
+        × (b - a + 24 ≤ length (now bits)) × (2048 ≤ length (now row)) × (octetsOf u ≡ fourOf unseen Unknown) × (192 ≤ length (now t)) × (16 ≤ length (now lit)) ⌝ }
     ensures { λ _. ⌜ Coated (decided unseen (now (s .entry)) (now (d .entry)) (now (rows .entry)) pairs) (now (out .entry)) a b (now (out .exit)) ⌝ }
 {
     let f = paint_floor::first_pair(s, d, rows, pairs, a, b);
@@ -97,8 +125,7 @@ fn paint_part(
         return;
     }
     paint_floor::put_floors(sel, bits, s, d, rows, pairs, f, a, b);
-    paint_show::show_floors(out, sel, row, s, d, rows, pairs, a, b, u);
-    agree_pairs(out, sel, row, s, d, rows, pairs, f, a, b, unseen, u);
+    show_part(out, sel, row, t, lit, s, d, rows, pairs, f, a, b, unseen, u);
 }
 
 // A place that lies between two, or else the second.
@@ -115,43 +142,39 @@ fn cut(x: usize, a: usize, b: usize) -> usize
     x
 }
 
-// A part ends where a pair of which nothing is read begins or ends: so it is covered by the pair, or not at all.
-fn cut_pair(m: Row, r: Row, a: usize, b: usize) -> usize
-    requires { ⌜ a < b ⌝ }
-    ensures { λ e. ⌜ (a < e) × (e ≤ b) ⌝ }
-{
-    if m.read != 0 {
-        return b;
-    }
-    if r.read != 0 {
-        return b;
-    }
-    let e = cut(m.to, a, b);
-    let f = cut(m.from, a, e);
-    let g = cut(r.to, a, f);
-    cut(r.from, a, g)
-}
-
+// All layers that begin behind pixel a have begun at the end of the part, or else the part ends where the first of them ends: so there is one part in
+// which every layer reaches from end to end, and what lies beside it.
 fn part_end(s: &[u8], d: &[u8], rows: &[usize], pairs: usize, a: usize, b: usize) -> usize
     requires { ⌜ RowsFit (now s) (now d) (now rows) pairs × (pairs ≤ 7) × (a < b) ⌝ }
     ensures { λ e. ⌜ (a < e) × (e ≤ b) ⌝ }
 {
-    let mut e = b;
-    let mut j = 0;
-    while j < pairs {
-        j += 1;
-        let m = line_fetch::row_at(rows, j * 2);
-        let r = line_fetch::row_at(rows, j * 2 + 1);
-        e = cut_pair(m, r, a, e);
+    let mut l = 0;
+    let mut left = a;
+    let mut right = b;
+    while l < pairs * 2 + 1 {
+        l += 1;
+        let r = line_fetch::row_at(rows, l);
+        left = paint_image::within(r.from, left, b);
+        right = cut(r.to, a, right);
     }
-    e
+    if a < left { left } else { right }
 }
 
-// So many pixels a part has at most: the floors, a mask's samples and a row of 512 pixels are kept on the stack.
-const PART: usize = 2048;
+// So many pixels a part has at most.
+pub const PART: usize = 2048;
 
+// The octets of a mask's samples in a part: whole samples, of which two may lie in it in part.
+pub const BITS: usize = PART + 24;
+
+// What it works with is lent, since to clear it for every line would take as long as a cheap line: the floors of a part, a mask's samples there, a row of
+// 512 pixels, and the table of places with the floors that are in it.
 pub fn paint_line(
     out: &mut [u8],
+    sel: &mut [u8],
+    bits: &mut [u8],
+    row: &mut [u8],
+    t: &mut [usize],
+    lit: &mut [u8],
     s: &[u8],
     d: &[u8],
     rows: &[usize],
@@ -159,23 +182,23 @@ pub fn paint_line(
     width: usize,
     unseen: Colour,
 )
-    requires { ⌜ RowsFit (now s) (now d) (now rows) pairs × PlainRows (now rows) pairs × (pairs ≤ 7) × (width * 4 ≤ length (now out)) × (width < 65536) ⌝ }
+    requires { ⌜ RowsFit (now s) (now d) (now rows) pairs × PlainRows (now rows) pairs × (pairs ≤ 7) × (width * 4 ≤ length (now out)) × (width < 65536)
+        × (2048 ≤ length (now sel)) × (2072 ≤ length (now bits)) × (2048 ≤ length (now row)) × (192 ≤ length (now t)) × (16 ≤ length (now lit)) ⌝ }
     ensures { λ _.
         ⌜ now (out .exit) ≡ putAt (now (out .entry)) 0 (pixels unseen (λ (x : MainPos). decide (rowStack (now (s .entry)) (now (d .entry)) (now (rows .entry)) x) pairs) width) ⌝ }
 {
     let u = paint_words::word_of(unseen.c0, unseen.c1, unseen.c2, 0);
-    let mut sel: [u8; PART] = [0; PART];
-    let mut bits: [u8; PART + 24] = [0; PART + 24];
-    let mut row: [u8; PART] = [0; PART];
     let mut x = 0;
     while x < width {
         let most = paint_image::within(x + PART, x, width);
         let e = part_end(s, d, rows, pairs, x, most);
         paint_part(
             out,
-            &mut sel,
-            &mut bits,
-            &mut row,
+            sel,
+            bits,
+            row,
+            t,
+            lit,
             s,
             d,
             rows,

@@ -18,7 +18,7 @@ use Rattle.pixel_rules.specs.declared.Mask.the-variants.{Zero, One}
 use Rattle.pixel_rules.specs.Decide.{Stack, decide}
 
 abbrev pub dark : ℕ
-dark = 255
+dark = 8
 
 pub record Settled (st : Stack) (f c j : ℕ) : Type 0 where
   pub least : c ≢ dark → f ≤ c

@@ -21,7 +21,7 @@ use Rattle.paint_coat.proofs.Coats.{coated-none, coated-chain, coated-as}
 use Rattle.paint_coat.proofs.Laws.{coat-begun, coat-end}
 use Rattle.paint_image.specs.Image.{shownFour, imageFrom, moved, Plain}
 use Rattle.paint_floor.specs.Floors.{PlainRows}
-use Rattle.paint_show.specs.Show.{floorFrom, shows, picking, pickingFloor, pickingOther, Paired, Alike, Absent, Begun, Runs}
+use Rattle.paint_show.specs.Show.{floorFrom, shows, picking, pickingFloor, pickingOther, isFloor, isLit, Paired, Least, Alike, Absent, Begun, Runs}
 
 -- ---- a floor laid
 
@@ -183,11 +183,11 @@ pub ruleset picks = (needs, floor-same, floor-absent, floor-picked)
 -- ---- all floors of a part
 
 module _ (un s d ns sel : List ℕ) (a v c x e : ℕ) (o n : List ℕ) (k : Coated (pickingOther un s d ns sel a v c) o x e n) (y : ℕ) (p : x ≤ y) (q : y < e) where
-  picked-here : c ≢ v → getD sel (y - a) 0 ≡ c → fourFrom n (y * 4) ≡ floorFrom un s d ns (getD sel (y - a) 0) y
+  pub picked-here : c ≢ v → getD sel (y - a) 0 ≡ c → fourFrom n (y * 4) ≡ floorFrom un s d ns (getD sel (y - a) 0) y
   unfolding pickingOther pickingFloor
   picked-here m z = k .there y p q ∙ rw (ne-eqb c v m, eq-eqb (getD sel (y - a) 0) c z) (ap (λ (c : ℕ). floorFrom un s d ns c y) (sym z))
 
-  kept-here : (getD sel (y - a) 0 ≡ c → ⊥) → fourFrom n (y * 4) ≡ fourFrom o (y * 4)
+  pub kept-here : (getD sel (y - a) 0 ≡ c → ⊥) → fourFrom n (y * 4) ≡ fourFrom o (y * 4)
   unfolding pickingOther pickingFloor
   kept-here z =
       k .there y p q
@@ -197,45 +197,58 @@ module _ (un s d ns sel : List ℕ) (a v c x e : ℕ) (o n : List ℕ) (k : Coat
   unfolding pickingOther
   kept-same w = k .there y p q ∙ rw (eq-eqb c v w) refl
 
-pub record Mixing (un s d ns sel : List ℕ) (pairs a x e v : ℕ) (l row₀ out row : List ℕ) (c : ℕ) : Type 0 where
+pub record Mixing (un s d ns sel : List ℕ) (pairs a x e : ℕ) (told : ℕ → Bool) (l row₀ out row : List ℕ) (c : ℕ) : Type 0 where
   pub upto : c ≤ pairs + 1
   pub long : length out ≡ length l
   pub wide : length row ≡ length row₀
-  pub begun : Begun un s d ns sel a x e v out
+  pub begun : Begun un s d ns sel a x e told out
   pub done : (y : ℕ) → x ≤ y → y < e → getD sel (y - a) 0 < c → fourFrom out (y * 4) ≡ floorFrom un s d ns (getD sel (y - a) 0) y
   pub before : (i : ℕ) → i < x * 4 → getD out i 0 ≡ getD l i 0
   pub behind : (i : ℕ) → e * 4 ≤ i → getD out i 0 ≡ getD l i 0
 
-module _ (un s d ns sel : List ℕ) (pairs a x e v : ℕ) (l row₀ : List ℕ) where
-  pub mixing-begun : Begun un s d ns sel a x e v l → Mixing un s d ns sel pairs a x e v l row₀ l row₀ 0
+module _ (un s d ns sel : List ℕ) (pairs a x e : ℕ) (told : ℕ → Bool) (l row₀ : List ℕ) where
+  pub mixing-begun : Begun un s d ns sel a x e told l → Mixing un s d ns sel pairs a x e told l row₀ l row₀ 0
   mixing-begun g =
       record { upto = omega arith; long = refl; wide = refl; begun = g; done = λ y p q h. absurd (omega arith); before = λ i h. refl; behind = λ i h. refl }
 
-  module _ (out row : List ℕ) (c : ℕ) (m : Mixing un s d ns sel pairs a x e v l row₀ out row c) where
-    pub mixing-more : (n new : List ℕ) → c ≤ pairs → pairs ≤ 7 → length new ≡ length row → Coated (pickingOther un s d ns sel a v c) out x e n
-        → Mixing un s d ns sel pairs a x e v l row₀ n new (c + 1)
-    mixing-more n new h few w g =
+  pub mixing-from : (f : ℕ) → f ≤ pairs → pairs ≤ 7 → a ≤ x → Least sel (x - a) (e - a) f → Begun un s d ns sel a x e told l → Mixing un s d ns sel pairs a x e told l row₀ l row₀ f
+  mixing-from f h few ax k g =
+      record {
+        upto = omega arith;
+        long = refl;
+        wide = refl;
+        begun = g;
+        done = λ y p q z. let w = k .least (y - a) (omega arith) (omega arith) (λ (j : getD sel (y - a) 0 ≡ dark). omega arith) in absurd (omega arith);
+        before = λ i h. refl;
+        behind = λ i h. refl;
+      }
+
+  module _ (out row : List ℕ) (c : ℕ) (m : Mixing un s d ns sel pairs a x e told l row₀ out row c) where
+    pub mixing-more : (v : ℕ) (n new : List ℕ) → (c ≡ v → told c ≡ true) → c ≤ pairs → pairs ≤ 7 → length new ≡ length row → Coated (pickingOther un s d ns sel a v c) out x e n
+        → Mixing un s d ns sel pairs a x e told l row₀ n new (c + 1)
+    mixing-more v n new t h few w g =
         record {
           upto = omega arith;
           long = g .long ∙ m .long;
           wide = w ∙ m .wide;
           begun = record {
-            same = λ y p q z. ⊎-elim
-                (λ (i : c ≡ v). kept-same un s d ns sel a v c x e out n g y p q i ∙ m .begun .same y p q z)
-                (λ (i : c ≡ v → ⊥). kept-here un s d ns sel a v c x e out n g y p q (λ (j : getD sel (y - a) 0 ≡ c). i (sym j ∙ z)) ∙ m .begun .same y p q z)
-                (says-else (says-eq c v));
+            same = λ y p q z. by-floor y p q (λ (i : getD sel (y - a) 0 ≡ c → ⊥). m .begun .same y p q z);
             dark = λ y p q z. kept-here un s d ns sel a v c x e out n g y p q (λ (j : getD sel (y - a) 0 ≡ c). omega arith) ∙ m .begun .dark y p q z;
           };
-          done = λ y p q k. ⊎-elim
-              (λ (i : getD sel (y - a) 0 ≡ c). ⊎-elim
-              (λ (j : c ≡ v). kept-same un s d ns sel a v c x e out n g y p q j ∙ m .begun .same y p q (i ∙ j))
-              (λ (j : c ≡ v → ⊥). picked-here un s d ns sel a v c x e out n g y p q j i)
-              (says-else (says-eq c v)))
-              (λ (i : getD sel (y - a) 0 ≡ c → ⊥). kept-here un s d ns sel a v c x e out n g y p q i ∙ m .done y p q (omega arith))
-              (says-else (says-eq (getD sel (y - a) 0) c));
+          done = λ y p q k. by-floor y p q (λ (i : getD sel (y - a) 0 ≡ c → ⊥). m .done y p q (omega arith));
           before = λ i j. g .before i j ∙ m .before i j;
           behind = λ i j. g .behind i j ∙ m .behind i j;
         }
+      where
+        by-floor : (y : ℕ) → x ≤ y → y < e → ((getD sel (y - a) 0 ≡ c → ⊥) → fourFrom out (y * 4) ≡ floorFrom un s d ns (getD sel (y - a) 0) y)
+            → fourFrom n (y * 4) ≡ floorFrom un s d ns (getD sel (y - a) 0) y
+        by-floor y p q k = ⊎-elim
+            (λ (i : getD sel (y - a) 0 ≡ c). ⊎-elim
+            (λ (j : c ≡ v). kept-same un s d ns sel a v c x e out n g y p q j ∙ m .begun .same y p q (ap told i ∙ t j))
+            (λ (j : c ≡ v → ⊥). picked-here un s d ns sel a v c x e out n g y p q j i)
+            (says-else (says-eq c v)))
+            (λ (i : getD sel (y - a) 0 ≡ c → ⊥). kept-here un s d ns sel a v c x e out n g y p q i ∙ k i)
+            (says-else (says-eq (getD sel (y - a) 0) c))
 
     pub mixing-end : Paired sel (x - a) (e - a) pairs → a ≤ x → pairs < c → Coated (shows un s d ns sel a) l x e out
     unfolding shows
@@ -253,7 +266,19 @@ module _ (un s d ns sel : List ℕ) (pairs a x e v : ℕ) (l row₀ : List ℕ) 
 pub some-known : (c pairs : ℕ) → c ≤ pairs → c ≢ dark → c ≤ pairs
 some-known c pairs h n = h
 
-pub ruleset mixings = (needs, mixing-begun, mixing-end, some-known)
+pub is-floor : (v c : ℕ) → c ≡ v → isFloor v c ≡ true
+unfolding isFloor
+is-floor v c e = eq-eqb c v e
+
+floor-is : (v c : ℕ) → isFloor v c ≡ true → c ≡ v
+unfolding isFloor
+floor-is v c e = says-eq c v .told e
+
+pub is-lit : (lit : List ℕ) (c v : ℕ) → (v ≡ c → getD lit c 0 ≡ 1) → c ≡ v → isLit lit c ≡ true
+unfolding isLit
+is-lit lit c v h e = eq-eqb (getD lit c 0) 1 (h (sym e))
+
+pub ruleset mixings = (needs, mixing-begun, mixing-from, mixing-end, some-known)
 
 module _ (un s d ns sel : List ℕ) (a x e v : ℕ) (l o n m : List ℕ) (g : Coated (over (moved x x (floorFrom un s d ns v))) l x (x + (e - x)) o)
     (k : Coated (pickingOther un s d ns sel a v dark) o x e n) where
@@ -264,10 +289,10 @@ module _ (un s d ns sel : List ℕ) (a x e v : ℕ) (l o n m : List ℕ) (g : Co
   laid-same : (y : ℕ) → x ≤ y → y < e → getD sel (y - a) 0 ≡ v → fourFrom o (y * 4) ≡ floorFrom un s d ns (getD sel (y - a) 0) y
   laid-same y p q z = laid-there y p q ∙ ap (λ (c : ℕ). floorFrom un s d ns c y) (sym z)
 
-  pub mixed-begun : Begun un s d ns sel a x e v n
+  pub mixed-begun : Begun un s d ns sel a x e (isFloor v) n
   mixed-begun =
       record {
-        same = λ y p q z. ⊎-elim
+        same = λ y p q w. let z = floor-is v (getD sel (y - a) 0) w in ⊎-elim
             (λ (i : dark ≡ v). kept-same un s d ns sel a v dark x e o n k y p q i ∙ laid-same y p q z)
             (λ (i : dark ≡ v → ⊥). kept-here un s d ns sel a v dark x e o n k y p q (λ (j : getD sel (y - a) 0 ≡ dark). i (sym j ∙ z)) ∙ laid-same y p q z)
             (says-else (says-eq dark v));

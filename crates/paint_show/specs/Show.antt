@@ -5,7 +5,9 @@
 --   picking              where the floor is c, the pixel of a row; the row starts at pixel t, and so do the floors from place i on
 --   pickingFloor         where the floor is c, what it gives
 --   pickingOther         the same, if c is not v
---   Begun                the pixels whose floors are v or the dark are shown
+--   isFloor v, isLit     the floor is v; it is in the table with its own places
+--   Begun                the pixels whose floors are some that are told, or the dark, are shown
+--   Least sel p q f      the floors p up to q are f at least, or the dark
 --   Paired sel p q pairs  the floors p up to q are pairs, or the dark
 --   Alike v s p q        the octets p up to q are v
 --   Absent v s p q       none of them is
@@ -13,7 +15,7 @@
 use Prim.Native.Nat.{ℕ, _+_, _-_, _*_, _≤_, _<_}
 use mathlib.Core.Path.{_≡_}
 use mathlib.Core.Logic.{_≢_}
-use mathlib.Core.Bool.{cond}
+use mathlib.Core.Bool.{Bool, true, cond}
 use mathlib.Core.List.{List}
 use lib.ListN.{getD}
 use lib.Dec.{eqb}
@@ -47,8 +49,17 @@ pub record Alike (v : ℕ) (s : List ℕ) (p q : ℕ) : Type 0 where
 pub record Absent (v : ℕ) (s : List ℕ) (p q : ℕ) : Type 0 where
   pub none : (i : ℕ) → p ≤ i → i < q → getD s i 0 ≢ v
 
-pub record Begun (un s d ns sel : List ℕ) (a x e v : ℕ) (out : List ℕ) : Type 0 where
-  pub same : (y : ℕ) → x ≤ y → y < e → getD sel (y - a) 0 ≡ v → fourFrom out (y * 4) ≡ floorFrom un s d ns (getD sel (y - a) 0) y
+unfoldable pub isFloor : ℕ → ℕ → Bool
+isFloor v c = eqb c v
+
+unfoldable pub isLit : List ℕ → ℕ → Bool
+isLit lit c = eqb (getD lit c 0) 1
+
+pub record Least (sel : List ℕ) (p q f : ℕ) : Type 0 where
+  pub least : (i : ℕ) → p ≤ i → i < q → getD sel i 0 ≢ dark → f ≤ getD sel i 0
+
+pub record Begun (un s d ns sel : List ℕ) (a x e : ℕ) (told : ℕ → Bool) (out : List ℕ) : Type 0 where
+  pub same : (y : ℕ) → x ≤ y → y < e → told (getD sel (y - a) 0) ≡ true → fourFrom out (y * 4) ≡ floorFrom un s d ns (getD sel (y - a) 0) y
   pub dark : (y : ℕ) → x ≤ y → y < e → getD sel (y - a) 0 ≡ dark → fourFrom out (y * 4) ≡ floorFrom un s d ns (getD sel (y - a) 0) y
 
 pub record Runs (v : ℕ) (s : List ℕ) (p q r : ℕ) : Type 0 where

@@ -13,7 +13,8 @@ ghost use Rattle.paint_words.specs.Words.{octetsOf};
 ghost use Rattle.paint_coat.specs.Coat.{Coated, over};
 ghost use Rattle.paint_image.specs.Image.{moved};
 ghost use Rattle.paint_floor.specs.Floors.{PlainRows};
-ghost use Rattle.paint_show.specs.Show.{floorFrom, shows, picking, pickingOther, Paired, Alike, Absent, Begun, Runs};
+ghost use Rattle.paint_table.specs.Table.{Tabled};
+ghost use Rattle.paint_show.specs.Show.{floorFrom, shows, picking, pickingOther, isFloor, isLit, Paired, Least, Alike, Absent, Begun, Runs};
 use paint_floor::DARK;
 
 // What floor c gives at the pixels a up to b, at those of the row from t on.
@@ -143,7 +144,7 @@ fn pick_pairs(
 )
     requires { ⌜ RowsFit (now s) (now d) (now rows) pairs × PlainRows (now rows) pairs × Paired (now sel) (x - a) (e - a) pairs × (pairs ≤ 7) × (e < 65536) × (a ≤ x) × (x ≤ e)
         × (e * 4 ≤ length (now out)) × (e - a ≤ length (now sel)) × ((e - x) * 4 ≤ length (now row))
-        × Begun (octetsOf u) (now s) (now d) (now rows) (now sel) a x e v (now out) ⌝ }
+        × Begun (octetsOf u) (now s) (now d) (now rows) (now sel) a x e (isFloor v) (now out) ⌝ }
     ensures { λ _. ⌜ Coated (shows (octetsOf u) (now (s .entry)) (now (d .entry)) (now (rows .entry)) (now (sel .entry)) a) (now (out .entry)) x e (now (out .exit)) ⌝ }
 {
     let mut c = 0;
@@ -154,7 +155,7 @@ fn pick_pairs(
 }
 
 // Floors that change every few pixels: that of the first is laid over all of them, and the others are picked.
-fn show_mixed(
+fn mix_laid(
     out: &mut [u8],
     sel: &[u8],
     row: &mut [u8],
@@ -175,6 +176,123 @@ fn show_mixed(
     lay_floor(out, x, s, d, rows, pairs, v, x, e, u);
     pick_floor(out, sel, row, s, d, rows, pairs, v, DARK, a, x, e, u);
     pick_pairs(out, sel, row, s, d, rows, pairs, v, a, x, e, u);
+}
+
+// No floor has this number.
+const NONE: u8 = 9;
+
+// A floor that is in the table with its own places is shown already.
+fn skipped(z: u8, c: u8) -> u8
+    requires { ⌜ c < 9 ⌝ }
+    ensures { λ v. ⌜ (v ≡ c → z ≡ 1) ⌝ }
+{
+    if z == 1 { c } else { NONE }
+}
+
+// The floors from f on that are not, where those and the dark are shown.
+fn pick_unlit(
+    out: &mut [u8],
+    sel: &[u8],
+    row: &mut [u8],
+    lit: &[u8],
+    s: &[u8],
+    d: &[u8],
+    rows: &[usize],
+    pairs: usize,
+    f: usize,
+    a: usize,
+    x: usize,
+    e: usize,
+    u: u32,
+)
+    requires { ⌜ RowsFit (now s) (now d) (now rows) pairs × PlainRows (now rows) pairs × Paired (now sel) (x - a) (e - a) pairs × Least (now sel) (x - a) (e - a) f × (f ≤ pairs) × (pairs ≤ 7)
+        × (e < 65536) × (a ≤ x) × (x ≤ e) × (e * 4 ≤ length (now out)) × (e - a ≤ length (now sel)) × ((e - x) * 4 ≤ length (now row)) × (16 ≤ length (now lit))
+        × Begun (octetsOf u) (now s) (now d) (now rows) (now sel) a x e (isLit (now lit)) (now out) ⌝ }
+    ensures { λ _. ⌜ Coated (shows (octetsOf u) (now (s .entry)) (now (d .entry)) (now (rows .entry)) (now (sel .entry)) a) (now (out .entry)) x e (now (out .exit)) ⌝ }
+{
+    let mut c = f;
+    while c <= pairs {
+        let v = skipped(lit[c], c as u8);
+        pick_floor(out, sel, row, s, d, rows, pairs, v, c as u8, a, x, e, u);
+        c += 1;
+    }
+}
+
+// Floors that change every few pixels: those that are in the table with their own places are gathered, the dark and the others are picked.
+fn mix_gathered(
+    out: &mut [u8],
+    sel: &[u8],
+    row: &mut [u8],
+    t: &[usize],
+    lit: &[u8],
+    s: &[u8],
+    d: &[u8],
+    rows: &[usize],
+    pairs: usize,
+    f: usize,
+    step: usize,
+    a: usize,
+    b: usize,
+    x: usize,
+    e: usize,
+    u: u32,
+)
+    requires { ⌜ RowsFit (now s) (now d) (now rows) pairs × PlainRows (now rows) pairs × Paired (now sel) (x - a) (e - a) pairs × Least (now sel) (x - a) (e - a) f × (f ≤ pairs) × (pairs ≤ 7)
+        × (e ≤ b) × (e < 65536) × (a ≤ x) × (x ≤ e) × (e * 4 ≤ length (now out)) × (e - a ≤ length (now sel)) × ((e - x) * 4 ≤ length (now row))
+        × Tabled (now d) (now rows) (now t) (now lit) pairs f a b step ⌝ }
+    ensures { λ _. ⌜ Coated (shows (octetsOf u) (now (s .entry)) (now (d .entry)) (now (rows .entry)) (now (sel .entry)) a) (now (out .entry)) x e (now (out .exit)) ⌝ }
+{
+    paint_gather::gather(out, a, sel, t, d, x, e, step);
+    pick_floor(out, sel, row, s, d, rows, pairs, NONE, DARK, a, x, e, u);
+    pick_unlit(out, sel, row, lit, s, d, rows, pairs, f, a, x, e, u);
+}
+
+// By the table, if there is one.
+fn show_mixed(
+    out: &mut [u8],
+    sel: &[u8],
+    row: &mut [u8],
+    t: &[usize],
+    lit: &[u8],
+    s: &[u8],
+    d: &[u8],
+    rows: &[usize],
+    pairs: usize,
+    f: usize,
+    step: usize,
+    a: usize,
+    b: usize,
+    x: usize,
+    e: usize,
+    u: u32,
+)
+    requires { ⌜ RowsFit (now s) (now d) (now rows) pairs × PlainRows (now rows) pairs × Paired (now sel) (x - a) (e - a) pairs × Least (now sel) (x - a) (e - a) f × (f ≤ pairs) × (pairs ≤ 7)
+        × (e ≤ b) × (e < 65536) × (a ≤ x) × (x < e) × (e * 4 ≤ length (now out)) × (e - a ≤ length (now sel)) × ((e - x) * 4 ≤ length (now row))
+        × (step ≢ 0 → Tabled (now d) (now rows) (now t) (now lit) pairs f a b step) ⌝ }
+    ensures { λ _. ⌜ Coated (shows (octetsOf u) (now (s .entry)) (now (d .entry)) (now (rows .entry)) (now (sel .entry)) a) (now (out .entry)) x e (now (out .exit)) ⌝ }
+{
+    if step == 0 {
+        mix_laid(out, sel, row, s, d, rows, pairs, a, x, e, u);
+        return;
+    }
+    mix_gathered(
+        out,
+        sel,
+        row,
+        t,
+        lit,
+        s,
+        d,
+        rows,
+        pairs,
+        f,
+        step,
+        a,
+        b,
+        x,
+        e,
+        u,
+    );
 }
 
 // Sixteen octets are those of four words, each of which is four times v.
@@ -255,16 +373,21 @@ pub fn show_floors(
     out: &mut [u8],
     sel: &[u8],
     row: &mut [u8],
+    t: &[usize],
+    lit: &[u8],
     s: &[u8],
     d: &[u8],
     rows: &[usize],
     pairs: usize,
+    f: usize,
+    step: usize,
     a: usize,
     b: usize,
     u: u32,
 )
-    requires { ⌜ RowsFit (now s) (now d) (now rows) pairs × PlainRows (now rows) pairs × Paired (now sel) 0 (b - a) pairs × (pairs ≤ 7) × (b < 65536) × (a ≤ b)
-        × (b * 4 ≤ length (now out)) × (b - a ≤ length (now sel)) × (2048 ≤ length (now row)) ⌝ }
+    requires { ⌜ RowsFit (now s) (now d) (now rows) pairs × PlainRows (now rows) pairs × Paired (now sel) 0 (b - a) pairs × Least (now sel) 0 (b - a) f × (f ≤ pairs) × (pairs ≤ 7) × (b < 65536) × (a ≤ b)
+        × (b * 4 ≤ length (now out)) × (b - a ≤ length (now sel)) × (2048 ≤ length (now row))
+        × (step ≢ 0 → Tabled (now d) (now rows) (now t) (now lit) pairs f a b step) ⌝ }
     ensures { λ _. ⌜ Coated (shows (octetsOf u) (now (s .entry)) (now (d .entry)) (now (rows .entry)) (now (sel .entry)) a) (now (out .entry)) a b (now (out .exit)) ⌝ }
 {
     let n = b - a;
@@ -275,7 +398,24 @@ pub fn show_floors(
         let q = run_on(sel, v, i, n);
         if q < near {
             let e = mixed_end(sel, i, n);
-            show_mixed(out, sel, row, s, d, rows, pairs, a, a + i, a + e, u);
+            show_mixed(
+                out,
+                sel,
+                row,
+                t,
+                lit,
+                s,
+                d,
+                rows,
+                pairs,
+                f,
+                step,
+                a,
+                b,
+                a + i,
+                a + e,
+                u,
+            );
             i = e;
         } else {
             lay_floor(out, a + i, s, d, rows, pairs, v, a + i, a + q, u);

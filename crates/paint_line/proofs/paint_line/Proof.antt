@@ -1,57 +1,84 @@
 use Rattle.paint_line.proofs.Laws.{part-some, part-most, unseen-word}
-use Rattle.paint_line.proofs.Laws.{Painting, painting-more, painting-end}
+use Rattle.paint_line.proofs.Laws.{Painting, painting-begun, painting-more, painting-end}
 use Prim.Native.Nat.{_-_}
 use native.Mathlib.Omega.{arith}
-use mathlib.Core.Path.{_≡_}
+use mathlib.Core.Path.{_≡_, refl}
 use lib.ListN.{length}
 use Rattle.paint_line.proofs.Laws.{painting}
 use Rattle.paint_line.proofs.paint_line.Statement.{statement}
 use Rattle.paint_line.proofs.paint_line.Tie as tie
+use Rattle.paint_line.proofs.paint_line.Reads as reads
+use Rattle.paint_line.proofs.paint_line.Lts as lts
+use Rattle.paint_image.proofs.within.Reads as within-reads
+use Rattle.paint_line.proofs.paint_part.Reads as paint-part-reads
+use Rattle.paint_line.proofs.part_end.Reads as part-end-reads
+use Rattle.paint_words.proofs.word_of.Reads as word-of-reads
 
 abbrev Inv-loop : tie.InvT-loop
-Inv-loop out₀ s d rows pairs width unseen u sel₀ bits₀ row₀ x₀ out sel bits row x = Painting unseen s d rows pairs width out₀ out x × (length sel ≡ 2048) × (length bits ≡ 2072) × (length row ≡ 2048)
+Inv-loop out₀ sel₀ bits₀ row₀ t₀ lit₀ s d rows pairs width unseen u x₀ out sel bits row t lit x = Painting unseen s d rows pairs width out₀ out x × (length sel ≡ length sel₀) × (length bits ≡ length bits₀) × (length row ≡ length row₀) × (length t ≡ length t₀) × (length lit ≡ length lit₀)
 
 abbrev μ-loop : tie.MeasureT-loop
-μ-loop out₀ s d rows pairs width unseen u sel₀ bits₀ row₀ x₀ out sel bits row x = width - x
+μ-loop out₀ sel₀ bits₀ row₀ t₀ lit₀ s d rows pairs width unseen u x₀ out sel bits row t lit x = width - x
 
+-- src/lib.rt:166:9
 word-of-requires : tie.Need-word-of-requires Inv-loop μ-loop
 word-of-requires c κs = search painting
 
+-- src/lib.rt:168:5
 loop-holds : tie.Need-loop-holds Inv-loop μ-loop
-loop-holds c = search painting
+loop-holds c = (painting-begun _ _ _ _ _ _ _, refl, refl, refl, refl, refl)
 
+-- src/lib.rt:169:40
 add-within : tie.Need-add-within Inv-loop μ-loop
 add-within c = search painting
 
+-- src/lib.rt:169:13
 within-requires : tie.Need-within-requires Inv-loop μ-loop
 within-requires c κs = search painting
 
+-- src/lib.rt:170:13
 part-end-requires : tie.Need-part-end-requires Inv-loop μ-loop
-part-end-requires c κs = (c .before .before .before .before .before .before .before .before .pre .0, c .before .before .before .before .before .before .before .before .pre .2, part-some _ _ _ _ (omega arith) (c .within .ensures) (c .before .loop-test .taken))
+part-end-requires c κs = (c .before .before .before .before .before .before .before .before .before .before .before .before .before .pre .0, c .before .before .before .before .before .before .before .before .before .before .before .before .before .pre .2, part-some _ _ _ _ (omega arith) (c .within .ensures) (c .before .loop-test .taken))
 
-slice-aggregate-paint-part : tie.Need-slice-aggregate-paint-part Inv-loop μ-loop
-slice-aggregate-paint-part c = search painting
-
-slice-aggregate-paint-part-2 : tie.Need-slice-aggregate-paint-part-2 Inv-loop μ-loop
-slice-aggregate-paint-part-2 c = search painting
-
-slice-aggregate-paint-part-3 : tie.Need-slice-aggregate-paint-part-3 Inv-loop μ-loop
-slice-aggregate-paint-part-3 c = search painting
-
+-- src/lib.rt:171:9
 paint-part-requires : tie.Need-paint-part-requires Inv-loop μ-loop
-paint-part-requires c κs = (c .before .before .before .before .before .before .before .before .before .before .before .before .before .pre .0, c .before .before .before .before .before .before .before .before .before .before .before .before .before .pre .1, c .before .before .before .before .before .before .before .before .before .before .before .before .before .pre .2, let h = c .before .before .before .before .part-end .ensures .0 in omega arith, let h = c .before .before .before .before .part-end .ensures .1 in let k = c .before .before .before .before .before .within .ensures .high in let j = c .before .before .before .before .before .before .before .before .before .before .before .before .before .pre .4 in omega arith, let h = c .before .before .before .before .part-end .ensures .1 in let k = c .before .before .before .before .before .within .ensures .high in let j = c .before .before .before .before .before .before .before .before .before .before .before .before .before .pre .3 in let l = c .before .before .before .before .before .before .before .loop .inv .0 .long in omega arith, let h = c .before .before .before .before .part-end .ensures .1 in let k = part-most _ _ _ _ (c .before .before .before .before .before .within .ensures) in let l = c .before .before .before .before .before .before .before .loop .inv .1 in omega arith, let h = c .before .before .before .before .part-end .ensures .1 in let k = part-most _ _ _ _ (c .before .before .before .before .before .within .ensures) in let l = c .before .before .before .before .before .before .before .loop .inv .2 in omega arith, let l = c .before .before .before .before .before .before .before .loop .inv .3 in omega arith, unseen-word _ _ (c .before .before .before .before .before .before .before .before .word-of .ensures))
+paint-part-requires c κs = (c .before .before .before .before .before .before .before .before .before .before .before .before .before .before .before .before .before .before .before .before .pre .0, c .before .before .before .before .before .before .before .before .before .before .before .before .before .before .before .before .before .before .before .before .pre .1, c .before .before .before .before .before .before .before .before .before .before .before .before .before .before .before .before .before .before .before .before .pre .2, let h = c .before .before .before .before .before .before .part-end .ensures .0 in omega arith, let h = c .before .before .before .before .before .before .part-end .ensures .1 in let k = c .before .before .before .before .before .before .before .within .ensures .high in let j = c .before .before .before .before .before .before .before .before .before .before .before .before .before .before .before .before .before .before .before .before .pre .4 in omega arith, let h = c .before .before .before .before .before .before .part-end .ensures .1 in let k = c .before .before .before .before .before .before .before .within .ensures .high in let j = c .before .before .before .before .before .before .before .before .before .before .before .before .before .before .before .before .before .before .before .before .pre .3 in let l = c .before .before .before .before .before .before .before .before .before .loop .inv .0 .long in omega arith, let h = c .before .before .before .before .before .before .part-end .ensures .1 in let k = part-most _ _ _ _ (c .before .before .before .before .before .before .before .within .ensures) in let l = c .before .before .before .before .before .before .before .before .before .loop .inv .1 in let m = c .before .before .before .before .before .before .before .before .before .before .before .before .before .before .before .before .before .before .before .before .pre .5 in omega arith, let h = c .before .before .before .before .before .before .part-end .ensures .1 in let k = part-most _ _ _ _ (c .before .before .before .before .before .before .before .within .ensures) in let l = c .before .before .before .before .before .before .before .before .before .loop .inv .2 in let m = c .before .before .before .before .before .before .before .before .before .before .before .before .before .before .before .before .before .before .before .before .pre .6 in omega arith, let l = c .before .before .before .before .before .before .before .before .before .loop .inv .3 in let m = c .before .before .before .before .before .before .before .before .before .before .before .before .before .before .before .before .before .before .before .before .pre .7 in omega arith, unseen-word _ _ (c .before .before .before .before .before .before .before .before .before .before .word-of .ensures), let l = c .before .before .before .before .before .before .before .before .before .loop .inv .4 in let m = c .before .before .before .before .before .before .before .before .before .before .before .before .before .before .before .before .before .before .before .before .pre .8 in omega arith, let l = c .before .before .before .before .before .before .before .before .before .loop .inv .5 in let m = c .before .before .before .before .before .before .before .before .before .before .before .before .before .before .before .before .before .before .before .before .pre .9 in omega arith)
 
+-- src/lib.rt:168:5
 loop-less : tie.Need-loop-less Inv-loop μ-loop
 loop-less c = search painting
 
+-- src/lib.rt:168:5
 loop-again : tie.Need-loop-again Inv-loop μ-loop
-loop-again c = (painting-more _ _ _ _ _ _ _ _ _ _ _ (c .before .before .before .before .before .before .before .before .before .before .before .before .before .loop .inv .0) (c .before .before .before .before .before .before .before .before .before .before .part-end .ensures .0) (let h = c .before .before .before .before .before .before .before .before .before .before .part-end .ensures .1 in let k = c .before .before .before .before .before .before .before .before .before .before .before .within .ensures .high in omega arith) (c .before .before .before .before .before .paint-part .ensures), let l = c .before .before .before .before .before .before .before .before .before .before .before .before .before .loop .inv .1 in omega arith, let l = c .before .before .before .before .before .before .before .before .before .before .before .before .before .loop .inv .2 in omega arith, let l = c .before .before .before .before .before .before .before .before .before .before .before .before .before .loop .inv .3 in omega arith)
+loop-again c = (painting-more _ _ _ _ _ _ _ _ _ _ _ (c .before .before .before .before .before .before .before .before .before .before .before .before .before .before .before .before .before .before .before .before .before .before .loop .inv .0) (c .before .before .before .before .before .before .before .before .before .before .before .before .before .before .before .before .before .before .before .part-end .ensures .0) (let h = c .before .before .before .before .before .before .before .before .before .before .before .before .before .before .before .before .before .before .before .part-end .ensures .1 in let k = c .before .before .before .before .before .before .before .before .before .before .before .before .before .before .before .before .before .before .before .before .within .ensures .high in omega arith) (c .before .before .before .before .before .before .before .before .before .before .before .before .paint-part .ensures), let l = c .before .before .before .before .before .before .before .before .before .before .before .before .before .before .before .before .before .before .before .before .before .before .loop .inv .1 in omega arith, let l = c .before .before .before .before .before .before .before .before .before .before .before .before .before .before .before .before .before .before .before .before .before .before .loop .inv .2 in omega arith, let l = c .before .before .before .before .before .before .before .before .before .before .before .before .before .before .before .before .before .before .before .before .before .before .loop .inv .3 in omega arith, let l = c .before .before .before .before .before .before .before .before .before .before .before .before .before .before .before .before .before .before .before .before .before .before .loop .inv .4 in omega arith, let l = c .before .before .before .before .before .before .before .before .before .before .before .before .before .before .before .before .before .before .before .before .before .before .loop .inv .5 in omega arith)
 
+-- src/lib.rt:147:1
 same-length : tie.Need-same-length Inv-loop μ-loop
-same-length c = search painting
+same-length c = let l = c .before .loop .inv .0 .long in omega arith
 
+-- src/lib.rt:147:1
+same-length-2 : tie.Need-same-length-2 Inv-loop μ-loop
+same-length-2 c = let l = c .before .loop .inv .1 in omega arith
+
+-- src/lib.rt:147:1
+same-length-3 : tie.Need-same-length-3 Inv-loop μ-loop
+same-length-3 c = let l = c .before .loop .inv .2 in omega arith
+
+-- src/lib.rt:147:1
+same-length-4 : tie.Need-same-length-4 Inv-loop μ-loop
+same-length-4 c = let l = c .before .loop .inv .3 in omega arith
+
+-- src/lib.rt:147:1
+same-length-5 : tie.Need-same-length-5 Inv-loop μ-loop
+same-length-5 c = let l = c .before .loop .inv .4 in omega arith
+
+-- src/lib.rt:147:1
+same-length-6 : tie.Need-same-length-6 Inv-loop μ-loop
+same-length-6 c = let l = c .before .loop .inv .5 in omega arith
+
+-- src/lib.rt:147:1
 returns : tie.Need-returns Inv-loop μ-loop
-returns c = painting-end _ _ _ _ _ _ _ _ _ (c .before .loop .inv .0) (omega arith) (c .before .before .before .before .before .before .before .pre .3)
+returns c = painting-end _ _ _ _ _ _ _ _ _ (c .before .loop .inv .0) (omega arith) (c .before .before .before .before .before .before .before .before .before .before .before .before .pre .3)
 
 pub paint-line-spec : {M : Type 1} → statement M
 paint-line-spec =
@@ -64,11 +91,13 @@ paint-line-spec =
     add-within
     within-requires
     part-end-requires
-    slice-aggregate-paint-part
-    slice-aggregate-paint-part-2
-    slice-aggregate-paint-part-3
     paint-part-requires
     loop-less
     loop-again
     same-length
+    same-length-2
+    same-length-3
+    same-length-4
+    same-length-5
+    same-length-6
     returns)

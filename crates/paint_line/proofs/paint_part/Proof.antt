@@ -1,47 +1,71 @@
-use Rattle.paint_line.proofs.Laws.{part-covered, floors-paired, floors-told, part-painted}
+use Rattle.paint_line.proofs.Laws.{part-covered}
 use native.Mathlib.Omega.{arith}
+use borrow.Author.Needs.{needs}
 use borrow.Author.Needs.{needs}
 use Rattle.paint_line.proofs.paint_part.Statement.{statement}
 use Rattle.paint_line.proofs.paint_part.Tie as tie
+use Rattle.paint_line.proofs.paint_part.Reads as reads
+use Rattle.paint_line.proofs.paint_part.Lts as lts
+use Rattle.paint_floor.proofs.first_pair.Reads as first-pair-reads
+use Rattle.paint_floor.proofs.put_floors.Reads as put-floors-reads
+use Rattle.paint_line.proofs.show_part.Reads as show-part-reads
+use Rattle.paint_show.proofs.lay_floor.Reads as lay-floor-reads
 
+-- src/lib.rt:122:9
 first-pair-requires : tie.Need-first-pair-requires
 first-pair-requires c κs = search needs
 
+-- src/lib.rt:124:58
 cast-lay-floor : tie.Need-cast-lay-floor
 cast-lay-floor c = search needs
 
+-- src/lib.rt:124:9
 lay-floor-requires : tie.Need-lay-floor-requires
 lay-floor-requires c κs = search needs
 
+-- src/lib.rt:125:9
 same-length : tie.Need-same-length
 same-length c = search needs
 
+-- src/lib.rt:125:9
 returns : tie.Need-returns
-returns c = part-covered _ _ _ _ _ _ _ _ _ (c .before .before .before .before .before .before .before .before .before .before .before .before .before .pre .9) (c .before .before .before .before .before .before .before .before .before .before .before .before .before .pre .2) _ _ (c .before .before .before .before .before .first-pair .ensures) (c .before .before .before .before .if1 .taken) (c .before .before .lay-floor .ensures) (c .before .before .before .before .before .before .before .before .before .before .before .before .before .pre .3)
+returns c = part-covered _ _ _ _ _ _ _ _ _ (c .before .before .before .before .before .before .before .before .before .before .before .before .before .before .before .pre .9) (c .before .before .before .before .before .before .before .before .before .before .before .before .before .before .before .pre .2) _ _ (c .before .before .before .before .before .first-pair .ensures) (c .before .before .before .before .if1 .taken) (c .before .before .lay-floor .ensures) (c .before .before .before .before .before .before .before .before .before .before .before .before .before .before .before .pre .3)
 
+-- src/lib.rt:127:5
 put-floors-requires : tie.Need-put-floors-requires
 put-floors-requires c κs = search needs
 
-show-floors-requires : tie.Need-show-floors-requires
-show-floors-requires c κs = (c .before .before .before .before .before .before .before .before .before .before .before .before .before .before .before .before .before .before .before .pre .0, c .before .before .before .before .before .before .before .before .before .before .before .before .before .before .before .before .before .before .before .pre .1, floors-paired _ _ _ _ _ _ _ _ _ (c .before .before .before .before .before .before .before .before .before .before .before .before .before .before .before .before .before .before .before .pre .9) (c .before .before .before .before .before .before .before .before .before .before .before .before .before .before .before .before .before .before .before .pre .2) _ (c .before .before .before .before .before .before .before .put-floors .ensures), c .before .before .before .before .before .before .before .before .before .before .before .before .before .before .before .before .before .before .before .pre .2, c .before .before .before .before .before .before .before .before .before .before .before .before .before .before .before .before .before .before .before .pre .4, c .before .before .before .before .before .before .before .before .before .before .before .before .before .before .before .before .before .before .before .pre .3, c .before .before .before .before .before .before .before .before .before .before .before .before .before .before .before .before .before .before .before .pre .5, let k = c .before .before .before .before .before .before .before .put-floors .ensures .room in omega arith, c .before .before .before .before .before .before .before .before .before .before .before .before .before .before .before .before .before .before .before .pre .8)
+-- src/lib.rt:128:5
+show-part-requires : tie.Need-show-part-requires
+show-part-requires c κs = (c .before .before .before .before .before .before .before .before .before .before .before .before .before .before .before .before .before .before .before .before .before .before .before .pre .0, c .before .before .before .before .before .before .before .before .before .before .before .before .before .before .before .before .before .before .before .before .before .before .before .pre .1, c .before .before .before .before .before .before .before .before .before .put-floors .ensures, c .before .before .before .before .before .before .before .before .before .before .before .before .before .first-pair .ensures .most, c .before .before .before .before .before .before .before .before .before .before .before .before .before .before .before .before .before .before .before .before .before .before .before .pre .2, c .before .before .before .before .before .before .before .before .before .before .before .before .before .before .before .before .before .before .before .before .before .before .before .pre .3, c .before .before .before .before .before .before .before .before .before .before .before .before .before .before .before .before .before .before .before .before .before .before .before .pre .4, c .before .before .before .before .before .before .before .before .before .before .before .before .before .before .before .before .before .before .before .before .before .before .before .pre .5, c .before .before .before .before .before .before .before .before .before .before .before .before .before .before .before .before .before .before .before .before .before .before .before .pre .8, c .before .before .before .before .before .before .before .before .before .before .before .before .before .before .before .before .before .before .before .before .before .before .before .pre .9, c .before .before .before .before .before .before .before .before .before .before .before .before .before .before .before .before .before .before .before .before .before .before .before .pre .10, c .before .before .before .before .before .before .before .before .before .before .before .before .before .before .before .before .before .before .before .before .before .before .before .pre .11)
 
-agree-pairs-requires : tie.Need-agree-pairs-requires
-agree-pairs-requires c κs = (c .before .before .before .before .before .before .before .before .before .before .before .before .before .before .before .before .before .before .before .before .before .before .before .before .before .before .before .pre .0, c .before .before .before .before .before .before .before .before .before .before .before .before .before .before .before .before .before .before .before .before .before .before .before .before .before .before .before .pre .1, c .before .before .before .before .before .before .before .before .before .before .before .before .before .before .before .put-floors .ensures, c .before .before .before .before .before .before .before .before .before .before .before .before .before .before .before .before .before .before .before .first-pair .ensures .most, c .before .before .before .before .before .before .before .before .before .before .before .before .before .before .before .before .before .before .before .before .before .before .before .before .before .before .before .pre .2, c .before .before .before .before .before .before .before .before .before .before .before .before .before .before .before .before .before .before .before .before .before .before .before .before .before .before .before .pre .3, c .before .before .before .before .before .before .before .before .before .before .before .before .before .before .before .before .before .before .before .before .before .before .before .before .before .before .before .pre .4, let l = c .before .before .before .before .before .before .before .show-floors .ensures .long in let k = c .before .before .before .before .before .before .before .before .before .before .before .before .before .before .before .before .before .before .before .before .before .before .before .before .before .before .before .pre .5 in omega arith, let k = c .before .before .before .before .before .before .before .before .before .before .before .before .before .before .before .before .before .before .before .before .before .before .before .before .before .before .before .pre .8 in omega arith, c .before .before .before .before .before .before .before .before .before .before .before .before .before .before .before .before .before .before .before .before .before .before .before .before .before .before .before .pre .9, floors-told _ _ _ _ _ _ _ _ _ (c .before .before .before .before .before .before .before .before .before .before .before .before .before .before .before .before .before .before .before .before .before .before .before .before .before .before .before .pre .9) (c .before .before .before .before .before .before .before .before .before .before .before .before .before .before .before .before .before .before .before .before .before .before .before .before .before .before .before .pre .2) _ _ _ (c .before .before .before .before .before .before .before .before .before .before .before .before .before .before .before .put-floors .ensures) (c .before .before .before .before .before .before .before .show-floors .ensures))
-
+-- src/lib.rt:102:1
 same-length-2 : tie.Need-same-length-2
 same-length-2 c = search needs
 
+-- src/lib.rt:102:1
 same-length-3 : tie.Need-same-length-3
 same-length-3 c = search needs
 
+-- src/lib.rt:102:1
 same-length-4 : tie.Need-same-length-4
 same-length-4 c = search needs
 
+-- src/lib.rt:102:1
 same-length-5 : tie.Need-same-length-5
 same-length-5 c = search needs
 
+-- src/lib.rt:102:1
+same-length-6 : tie.Need-same-length-6
+same-length-6 c = search needs
+
+-- src/lib.rt:102:1
+same-length-7 : tie.Need-same-length-7
+same-length-7 c = search needs
+
+-- src/lib.rt:102:1
 returns-2 : tie.Need-returns-2
-returns-2 c = part-painted _ _ _ _ _ _ _ _ _ (c .before .before .before .before .before .before .before .before .before .before .before .before .before .before .before .before .before .before .before .before .before .before .before .before .before .before .before .before .before .before .before .before .pre .9) (c .before .before .before .before .before .before .before .before .before .before .before .before .before .before .before .before .before .before .before .before .before .before .before .before .before .before .before .before .before .before .before .before .pre .2) _ _ _ _ (c .before .before .before .before .before .before .before .before .before .before .before .before .before .before .before .before .before .before .before .before .put-floors .ensures) (c .before .before .before .before .before .before .before .before .before .before .before .before .show-floors .ensures) (c .before .before .before .before .agree-pairs .ensures)
+returns-2 c = search needs
 
 pub paint-part-spec : {M : Type 1} → statement M
 paint-part-spec =
@@ -53,10 +77,11 @@ paint-part-spec =
     same-length
     returns
     put-floors-requires
-    show-floors-requires
-    agree-pairs-requires
+    show-part-requires
     same-length-2
     same-length-3
     same-length-4
     same-length-5
+    same-length-6
+    same-length-7
     returns-2)

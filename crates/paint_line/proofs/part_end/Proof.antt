@@ -1,48 +1,63 @@
-use Rattle.paint_line.proofs.Laws.{first-room, first-image-room}
-use Prim.Native.Nat.{_-_, _≤_, _<_}
+use Rattle.paint_line.proofs.Laws.{painting, row-there}
+use Prim.Native.Nat.{_-_, _+_, _*_, _≤_, _<_}
 use native.Mathlib.Omega.{arith}
-use Rattle.paint_line.proofs.Laws.{painting}
 use Rattle.paint_line.proofs.part_end.Statement.{statement}
 use Rattle.paint_line.proofs.part_end.Tie as tie
+use Rattle.paint_line.proofs.part_end.Reads as reads
+use Rattle.paint_line.proofs.part_end.Lts as lts
+use Rattle.line_fetch.proofs.row_at.Reads as row-at-reads
+use Rattle.paint_image.proofs.within.Reads as within-reads
+use Rattle.paint_line.proofs.cut.Reads as cut-reads
 
 abbrev Inv-loop : tie.InvT-loop
-Inv-loop s d rows pairs a b e₀ j₀ e j = (a < e) × (e ≤ b) × (j ≤ pairs)
+Inv-loop s d rows pairs a b l₀ left₀ right₀ l left right = (a ≤ left) × (left ≤ b) × (a < right) × (right ≤ b) × (l ≤ pairs * 2 + 1)
 
 abbrev μ-loop : tie.MeasureT-loop
-μ-loop s d rows pairs a b e₀ j₀ e j = pairs - j
+μ-loop s d rows pairs a b l₀ left₀ right₀ l left right = pairs * 2 + 1 - l
 
+-- src/lib.rt:130:5
 loop-holds : tie.Need-loop-holds Inv-loop μ-loop
 loop-holds c = search painting
 
-add-j : tie.Need-add-j Inv-loop μ-loop
-add-j c = search painting
+-- src/lib.rt:130:15
+mul-loop : tie.Need-mul-loop Inv-loop μ-loop
+mul-loop c = search painting
 
-mul-row-at : tie.Need-mul-row-at Inv-loop μ-loop
-mul-row-at c = search painting
+-- src/lib.rt:130:15
+add-loop : tie.Need-add-loop Inv-loop μ-loop
+add-loop c = search painting
 
+-- src/lib.rt:131:9
+add-l : tie.Need-add-l Inv-loop μ-loop
+add-l c = search painting
+
+-- src/lib.rt:132:13
 row-at-requires : tie.Need-row-at-requires Inv-loop μ-loop
-row-at-requires c κs = (omega arith, first-room _ _ _ _ _ (c .before .before .before .before .before .pre .0) (c .loop-test .taken))
+row-at-requires c κs = (omega arith, row-there _ _ _ _ (c .before .before .before .before .before .pre .0) _ (omega arith))
 
-mul-row-at-2 : tie.Need-mul-row-at-2 Inv-loop μ-loop
-mul-row-at-2 c = search painting
+-- src/lib.rt:133:9
+within-requires : tie.Need-within-requires Inv-loop μ-loop
+within-requires c κs = search painting
 
-add-row-at : tie.Need-add-row-at Inv-loop μ-loop
-add-row-at c = search painting
+-- src/lib.rt:134:9
+cut-requires : tie.Need-cut-requires Inv-loop μ-loop
+cut-requires c κs = search painting
 
-row-at-requires-2 : tie.Need-row-at-requires-2 Inv-loop μ-loop
-row-at-requires-2 c κs = (omega arith, first-image-room _ _ _ _ _ (c .before .before .before .before .before .before .pre .0) (c .before .loop-test .taken))
-
-cut-pair-requires : tie.Need-cut-pair-requires Inv-loop μ-loop
-cut-pair-requires c κs = search painting
-
+-- src/lib.rt:130:5
 loop-less : tie.Need-loop-less Inv-loop μ-loop
 loop-less c = search painting
 
+-- src/lib.rt:130:5
 loop-again : tie.Need-loop-again Inv-loop μ-loop
 loop-again c = search painting
 
+-- src/lib.rt:123:1
 returns : tie.Need-returns Inv-loop μ-loop
 returns c = search painting
+
+-- src/lib.rt:123:1
+returns-2 : tie.Need-returns-2 Inv-loop μ-loop
+returns-2 c = search painting
 
 pub part-end-spec : {M : Type 1} → statement M
 part-end-spec =
@@ -51,13 +66,13 @@ part-end-spec =
     Inv-loop
     μ-loop
     loop-holds
-    add-j
-    mul-row-at
+    mul-loop
+    add-loop
+    add-l
     row-at-requires
-    mul-row-at-2
-    add-row-at
-    row-at-requires-2
-    cut-pair-requires
+    within-requires
+    cut-requires
     loop-less
     loop-again
-    returns)
+    returns
+    returns-2)

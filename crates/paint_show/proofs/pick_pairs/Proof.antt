@@ -1,4 +1,5 @@
-use Rattle.paint_show.proofs.Laws.{Mixing, mixing-more, mixing-end, some-known}
+use Rattle.paint_show.proofs.Laws.{Mixing, mixing-more, mixing-end, some-known, is-floor}
+use Rattle.paint_show.specs.Show.{isFloor}
 use Prim.Native.Nat.{_-_, _+_}
 use native.Mathlib.Omega.{arith}
 use Rattle.paint_words.specs.Words.{octetsOf}
@@ -7,7 +8,7 @@ use Rattle.paint_show.proofs.pick_pairs.Statement.{statement}
 use Rattle.paint_show.proofs.pick_pairs.Tie as tie
 
 abbrev Inv-loop : tie.InvT-loop
-Inv-loop out₀ sel row₀ s d rows pairs v a x e u c₀ out row c = Mixing (octetsOf u) s d rows sel pairs a x e v out₀ row₀ out row c
+Inv-loop out₀ sel row₀ s d rows pairs v a x e u c₀ out row c = Mixing (octetsOf u) s d rows sel pairs a x e (isFloor v) out₀ row₀ out row c
 
 abbrev μ-loop : tie.MeasureT-loop
 μ-loop out₀ sel row₀ s d rows pairs v a x e u c₀ out row c = pairs + 1 - c
@@ -28,7 +29,7 @@ loop-less : tie.Need-loop-less Inv-loop μ-loop
 loop-less c = search mixings
 
 loop-again : tie.Need-loop-again Inv-loop μ-loop
-loop-again c = mixing-more _ _ _ _ _ _ _ _ _ _ _ _ _ _ _ (c .before .before .before .before .before .before .before .before .loop .inv) _ _ (c .before .before .before .before .before .before .before .loop-test .taken) (c .before .before .before .before .before .before .before .before .before .before .before .before .before .before .before .pre .3) (omega arith) (c .before .before .before .before .pick-floor .ensures)
+loop-again c = mixing-more _ _ _ _ _ _ _ _ _ _ _ _ _ _ _ (c .before .before .before .before .before .before .before .before .loop .inv) _ _ _ (is-floor _ _) (c .before .before .before .before .before .before .before .loop-test .taken) (c .before .before .before .before .before .before .before .before .before .before .before .before .before .before .before .pre .3) (omega arith) (c .before .before .before .before .pick-floor .ensures)
 
 same-length : tie.Need-same-length Inv-loop μ-loop
 same-length c = let l = c .before .loop .inv .long in omega arith

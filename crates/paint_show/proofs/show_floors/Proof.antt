@@ -1,3 +1,4 @@
+use Rattle.paint_show.proofs.Gathered.{least-part}
 use Rattle.paint_show.proofs.Laws.{Showing, showing-mixed, showing-run, part-known, here-known}
 use Prim.Native.Nat.{_-_}
 use native.Mathlib.Omega.{arith}
@@ -7,10 +8,10 @@ use Rattle.paint_show.proofs.show_floors.Statement.{statement}
 use Rattle.paint_show.proofs.show_floors.Tie as tie
 
 abbrev Inv-loop : tie.InvT-loop
-Inv-loop out₀ sel row₀ s d rows pairs a b u n i₀ out row i = Showing (octetsOf u) s d rows sel a b out₀ row₀ out row i
+Inv-loop out₀ sel row₀ t lit s d rows pairs f step a b u n i₀ out row i = Showing (octetsOf u) s d rows sel a b out₀ row₀ out row i
 
 abbrev μ-loop : tie.MeasureT-loop
-μ-loop out₀ sel row₀ s d rows pairs a b u n i₀ out row i = n - i
+μ-loop out₀ sel row₀ t lit s d rows pairs f step a b u n i₀ out row i = n - i
 
 sub-n : tie.Need-sub-n Inv-loop μ-loop
 sub-n c = search showing
@@ -37,7 +38,7 @@ add-show-mixed-2 : tie.Need-add-show-mixed-2 Inv-loop μ-loop
 add-show-mixed-2 c = search showing
 
 show-mixed-requires : tie.Need-show-mixed-requires Inv-loop μ-loop
-show-mixed-requires c κs = (c .before .before .before .before .before .before .before .before .before .before .before .before .before .before .before .pre .0, c .before .before .before .before .before .before .before .before .before .before .before .before .before .before .before .pre .1, part-known _ _ _ _ _ _ (c .before .before .before .before .before .before .before .before .before .before .before .before .before .before .before .pre .2) (c .before .before .mixed-end .ensures .1), c .before .before .before .before .before .before .before .before .before .before .before .before .before .before .before .pre .3, let h = c .before .before .mixed-end .ensures .1 in let k = c .before .before .before .before .before .before .before .before .before .before .before .before .before .before .before .pre .4 in let j = c .before .before .before .before .before .before .before .before .before .before .before .before .before .before .before .pre .5 in omega arith, omega arith, let h = c .before .before .mixed-end .ensures .0 in omega arith, let h = c .before .before .mixed-end .ensures .1 in let k = c .before .before .before .before .before .before .before .before .before .before .before .before .before .before .before .pre .6 in let j = c .before .before .before .before .before .before .before .before .before .before .before .before .before .before .before .pre .5 in let l = c .before .before .before .before .before .before .before .before .loop .inv .long in omega arith, let h = c .before .before .mixed-end .ensures .1 in let k = c .before .before .before .before .before .before .before .before .before .before .before .before .before .before .before .pre .7 in omega arith, let h = c .before .before .mixed-end .ensures .2 in let k = c .before .before .before .before .before .before .before .before .before .before .before .before .before .before .before .pre .8 in let l = c .before .before .before .before .before .before .before .before .loop .inv .wide in omega arith)
+show-mixed-requires c κs = (c .before .before .before .before .before .before .before .before .before .before .before .before .before .before .before .before .before .pre .0, c .before .before .before .before .before .before .before .before .before .before .before .before .before .before .before .before .before .pre .1, part-known _ _ _ _ _ _ (c .before .before .before .before .before .before .before .before .before .before .before .before .before .before .before .before .before .pre .2) (c .before .before .mixed-end .ensures .1), least-part _ _ _ _ _ _ (c .before .before .before .before .before .before .before .before .before .before .before .before .before .before .before .before .before .pre .3) (c .before .before .mixed-end .ensures .1), c .before .before .before .before .before .before .before .before .before .before .before .before .before .before .before .before .before .pre .4, c .before .before .before .before .before .before .before .before .before .before .before .before .before .before .before .before .before .pre .5, let h = c .before .before .mixed-end .ensures .1 in let j = c .before .before .before .before .before .before .before .before .before .before .before .before .before .before .before .before .before .pre .7 in omega arith, let h = c .before .before .mixed-end .ensures .1 in let k = c .before .before .before .before .before .before .before .before .before .before .before .before .before .before .before .before .before .pre .6 in let j = c .before .before .before .before .before .before .before .before .before .before .before .before .before .before .before .before .before .pre .7 in omega arith, omega arith, let h = c .before .before .mixed-end .ensures .0 in omega arith, let h = c .before .before .mixed-end .ensures .1 in let k = c .before .before .before .before .before .before .before .before .before .before .before .before .before .before .before .before .before .pre .8 in let j = c .before .before .before .before .before .before .before .before .before .before .before .before .before .before .before .before .before .pre .7 in let l = c .before .before .before .before .before .before .before .before .loop .inv .long in omega arith, let h = c .before .before .mixed-end .ensures .1 in let k = c .before .before .before .before .before .before .before .before .before .before .before .before .before .before .before .before .before .pre .9 in omega arith, let h = c .before .before .mixed-end .ensures .2 in let k = c .before .before .before .before .before .before .before .before .before .before .before .before .before .before .before .before .before .pre .10 in let l = c .before .before .before .before .before .before .before .before .loop .inv .wide in omega arith, c .before .before .before .before .before .before .before .before .before .before .before .before .before .before .before .before .before .pre .11)
 
 loop-less : tie.Need-loop-less Inv-loop μ-loop
 loop-less c = search showing
@@ -55,7 +56,7 @@ add-lay-floor-3 : tie.Need-add-lay-floor-3 Inv-loop μ-loop
 add-lay-floor-3 c = search showing
 
 lay-floor-requires : tie.Need-lay-floor-requires Inv-loop μ-loop
-lay-floor-requires c κs = (c .before .before .before .before .before .before .before .before .before .before .before .before .before .pre .0, c .before .before .before .before .before .before .before .before .before .before .before .before .before .pre .1, here-known _ _ _ _ (c .before .before .before .before .before .before .before .before .before .before .before .before .before .pre .2) (c .before .before .before .before .before .loop-test .taken), let h = c .before .before .run-on .ensures .upto in let k = c .before .before .before .before .before .before .before .before .before .before .before .before .before .pre .4 in let j = c .before .before .before .before .before .before .before .before .before .before .before .before .before .pre .5 in omega arith, let h = c .before .before .run-on .ensures .from in omega arith, let h = c .before .before .run-on .ensures .upto in let m = c .before .before .run-on .ensures .from in let k = c .before .before .before .before .before .before .before .before .before .before .before .before .before .pre .6 in let j = c .before .before .before .before .before .before .before .before .before .before .before .before .before .pre .5 in let l = c .before .before .before .before .before .before .loop .inv .long in omega arith)
+lay-floor-requires c κs = (c .before .before .before .before .before .before .before .before .before .before .before .before .before .before .before .pre .0, c .before .before .before .before .before .before .before .before .before .before .before .before .before .before .before .pre .1, here-known _ _ _ _ (c .before .before .before .before .before .before .before .before .before .before .before .before .before .before .before .pre .2) (c .before .before .before .before .before .loop-test .taken), let h = c .before .before .run-on .ensures .upto in let k = c .before .before .before .before .before .before .before .before .before .before .before .before .before .before .before .pre .6 in let j = c .before .before .before .before .before .before .before .before .before .before .before .before .before .before .before .pre .7 in omega arith, let h = c .before .before .run-on .ensures .from in omega arith, let h = c .before .before .run-on .ensures .upto in let m = c .before .before .run-on .ensures .from in let k = c .before .before .before .before .before .before .before .before .before .before .before .before .before .before .before .pre .8 in let j = c .before .before .before .before .before .before .before .before .before .before .before .before .before .before .before .pre .7 in let l = c .before .before .before .before .before .before .loop .inv .long in omega arith)
 
 loop-less-2 : tie.Need-loop-less-2 Inv-loop μ-loop
 loop-less-2 c = let h = c .before .before .before .before .before .before .ahead .ensures .3 (c .before .before .before .before .before .before .before .before .loop-test .taken) in let k = c .before .before .before .before .before .run-on .ensures .upto in omega arith

@@ -1,43 +1,54 @@
-use mathlib.Core.List.{[]}
-use Rattle.paint_show.proofs.Laws.{first-known, dark-known, mixed-begun, mixed-end}
+use borrow.Author.Needs.{needs}
 use native.Mathlib.Omega.{arith}
 use borrow.Author.Needs.{needs}
 use Rattle.paint_show.proofs.show_mixed.Statement.{statement}
 use Rattle.paint_show.proofs.show_mixed.Tie as tie
+use Rattle.paint_show.proofs.show_mixed.Reads as reads
+use Rattle.paint_show.proofs.show_mixed.Lts as lts
+use Rattle.paint_show.proofs.mix_gathered.Reads as mix-gathered-reads
+use Rattle.paint_show.proofs.mix_laid.Reads as mix-laid-reads
 
-sub-v : tie.Need-sub-v
-sub-v c = search needs
+-- src/lib.rt:275:9
+mix-laid-requires : tie.Need-mix-laid-requires
+mix-laid-requires c κs = search needs
 
-shared-slice-read-v : tie.Need-shared-slice-read-v
-shared-slice-read-v c = search needs
-
-lay-floor-requires : tie.Need-lay-floor-requires
-lay-floor-requires c κs = (c .before .before .before .before .before .before .before .before .pre .0, c .before .before .before .before .before .before .before .before .pre .1, first-known _ _ _ _ _ (c .before .before .before .before .before .before .before .before .pre .2) (c .before .before .before .before .before .before .before .before .pre .5) (c .before .before .before .before .before .before .before .before .pre .6), c .before .before .before .before .before .before .before .before .pre .4, omega arith, let k = c .before .before .before .before .before .before .before .before .pre .7 in omega arith)
-
-pick-floor-requires : tie.Need-pick-floor-requires
-pick-floor-requires c κs = (c .before .before .before .before .before .before .before .before .before .before .before .before .before .pre .0, c .before .before .before .before .before .before .before .before .before .before .before .before .before .pre .1, dark-known _, c .before .before .before .before .before .before .before .before .before .before .before .before .before .pre .4, c .before .before .before .before .before .before .before .before .before .before .before .before .before .pre .5, omega arith, let l = c .before .before .before .before .lay-floor .ensures .long in let k = c .before .before .before .before .before .before .before .before .before .before .before .before .before .pre .7 in omega arith, c .before .before .before .before .before .before .before .before .before .before .before .before .before .pre .8, c .before .before .before .before .before .before .before .before .before .before .before .before .before .pre .9)
-
-pick-pairs-requires : tie.Need-pick-pairs-requires
-pick-pairs-requires c κs = (c .before .before .before .before .before .before .before .before .before .before .before .before .before .before .before .before .before .before .before .before .pre .0, c .before .before .before .before .before .before .before .before .before .before .before .before .before .before .before .before .before .before .before .before .pre .1, c .before .before .before .before .before .before .before .before .before .before .before .before .before .before .before .before .before .before .before .before .pre .2, c .before .before .before .before .before .before .before .before .before .before .before .before .before .before .before .before .before .before .before .before .pre .3, c .before .before .before .before .before .before .before .before .before .before .before .before .before .before .before .before .before .before .before .before .pre .4, c .before .before .before .before .before .before .before .before .before .before .before .before .before .before .before .before .before .before .before .before .pre .5, omega arith, let l = c .before .before .before .before .before .before .before .before .before .before .before .lay-floor .ensures .long in let m = c .before .before .before .before .before .before .pick-floor .ensures .long in let k = c .before .before .before .before .before .before .before .before .before .before .before .before .before .before .before .before .before .before .before .before .pre .7 in omega arith, c .before .before .before .before .before .before .before .before .before .before .before .before .before .before .before .before .before .before .before .before .pre .8, let k = c .before .before .before .before .before .before .before .before .before .before .before .before .before .before .before .before .before .before .before .before .pre .9 in omega arith, mixed-begun _ _ _ _ _ _ _ _ _ _ _ _ [] (c .before .before .before .before .before .before .before .before .before .before .before .lay-floor .ensures) (c .before .before .before .before .before .before .pick-floor .ensures))
-
+-- src/lib.rt:276:9
 same-length : tie.Need-same-length
 same-length c = search needs
 
+-- src/lib.rt:276:9
 same-length-2 : tie.Need-same-length-2
 same-length-2 c = search needs
 
+-- src/lib.rt:276:9
 returns : tie.Need-returns
-returns c = mixed-end _ _ _ _ _ _ _ _ _ _ _ _ _ (c .before .before .before .before .before .before .before .before .before .before .before .before .before .before .before .before .lay-floor .ensures) (c .before .before .before .before .before .before .before .before .before .before .before .pick-floor .ensures) (let h = c .before .before .before .before .before .before .before .before .before .before .before .before .before .before .before .before .before .before .before .before .before .before .before .before .before .pre .6 in omega arith) (c .before .before .before .before .pick-pairs .ensures)
+returns c = search needs
+
+-- src/lib.rt:278:5
+mix-gathered-requires : tie.Need-mix-gathered-requires
+mix-gathered-requires c κs = (c .before .before .before .before .before .before .before .before .before .before .before .pre .0, c .before .before .before .before .before .before .before .before .before .before .before .pre .1, c .before .before .before .before .before .before .before .before .before .before .before .pre .2, c .before .before .before .before .before .before .before .before .before .before .before .pre .3, c .before .before .before .before .before .before .before .before .before .before .before .pre .4, c .before .before .before .before .before .before .before .before .before .before .before .pre .5, c .before .before .before .before .before .before .before .before .before .before .before .pre .6, c .before .before .before .before .before .before .before .before .before .before .before .pre .7, c .before .before .before .before .before .before .before .before .before .before .before .pre .8, let h = c .before .before .before .before .before .before .before .before .before .before .before .pre .9 in omega arith, c .before .before .before .before .before .before .before .before .before .before .before .pre .10, c .before .before .before .before .before .before .before .before .before .before .before .pre .11, c .before .before .before .before .before .before .before .before .before .before .before .pre .12, c .before .before .before .before .before .before .before .before .before .before .before .pre .13 (λ z. c .before .before .if1 .left z))
+
+-- src/lib.rt:251:1
+same-length-3 : tie.Need-same-length-3
+same-length-3 c = search needs
+
+-- src/lib.rt:251:1
+same-length-4 : tie.Need-same-length-4
+same-length-4 c = search needs
+
+-- src/lib.rt:251:1
+returns-2 : tie.Need-returns-2
+returns-2 c = search needs
 
 pub show-mixed-spec : {M : Type 1} → statement M
 show-mixed-spec =
     tie.close
     (tie.spec
-    sub-v
-    shared-slice-read-v
-    lay-floor-requires
-    pick-floor-requires
-    pick-pairs-requires
+    mix-laid-requires
     same-length
     same-length-2
-    returns)
+    returns
+    mix-gathered-requires
+    same-length-3
+    same-length-4
+    returns-2)
