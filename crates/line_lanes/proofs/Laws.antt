@@ -254,8 +254,6 @@ module _ (w : Lane) (y : MainPos) where
   pub lane-down : (q : SamplePos) → LaneFits w → w .top ≤ y .0 → y .0 < w .bottom → q ≡ scale (w .ratio) (w .top) y → q .0 < 65536
   lane-down q f a b e = let n = down-near f a b in let z = ap (λ (i : SamplePos). i .0) e in omega arith
 
-pub ruleset crossing = (needs, row-above, row-below)
-
 -- ---- the rows of all layers in a line
 
 pub record Rowed (d ns : List ℕ) (y : MainPos) (n : ℕ) (out : List ℕ) (i : ℕ) : Type 0 where

@@ -1,3 +1,4 @@
+use mathlib.Core.Path.{refl}
 use Rattle.line_lanes.proofs.Laws.{laying}
 use native.Mathlib.Omega.{arith}
 use lib.ListN.{length-set}
@@ -99,7 +100,7 @@ slice-write-lanes-10 : tie.Need-slice-write-lanes-10
 slice-write-lanes-10 c = simp length-set (omega arith)
 
 same-length : tie.Need-same-length
-same-length c = search needs depth 12
+same-length c = simp length-set refl
 
 returns : tie.Need-returns
 returns c = search laying

@@ -1,4 +1,5 @@
-use Rattle.line_lanes.proofs.Laws.{lane-steps, lane-down, row-crossed, crossing}
+use native.Mathlib.Omega.{arith}
+use Rattle.line_lanes.proofs.Laws.{row-above, row-below, row-crossed, lane-steps, lane-down}
 use borrow.Author.Needs.{needs}
 use Rattle.line_lanes.proofs.row_from.Statement.{statement}
 use Rattle.line_lanes.proofs.row_from.Tie as tie
@@ -7,13 +8,13 @@ row-out-requires : tie.Need-row-out-requires
 row-out-requires c κs = search needs
 
 returns : tie.Need-returns
-returns c = search crossing
+returns c = row-above _ _ _ (omega arith) (c .row-out .ensures)
 
 row-out-requires-2 : tie.Need-row-out-requires-2
 row-out-requires-2 c κs = search needs
 
 returns-2 : tie.Need-returns-2
-returns-2 c = search crossing
+returns-2 c = row-below _ _ _ (omega arith) (c .row-out2 .ensures)
 
 scale-pos-requires : tie.Need-scale-pos-requires
 scale-pos-requires c κs =
