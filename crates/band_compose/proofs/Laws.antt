@@ -281,11 +281,11 @@ module _ (u : Colour) (s : List ℕ) (extent : Extent) (d : List ℕ) (width : �
       pub stacking-line : (numbers : ℕ) → rowsSize ≤ numbers → y < extent .height → SomeLineFits s extent d ns y width at (length out) numbers
       stacking-line numbers k h = record { list = t; line = stacked-line u s extent t d width out₀ out at y stacked ns numbers laned k h }
 
-      pub stacking-fits : length out₀ < 18446744073709551616 → y < extent .height → Fits w64 (at + width * 4)
-      stacking-fits b h =
+      pub stacking-small : length out₀ < 18446744073709551616 → y < extent .height → at + width * 4 < 18446744073709551616
+      stacking-small b h =
           let r = stacked-room u s extent t d width out₀ out at y stacked h in
           let l = stacked .long in
-          record { fits = omega arith }
+          omega arith
 
       pub stacking-all : extent .height ≤ y → out ≡ putAt out₀ 0 (bandLines u (sceneFrom s extent t d) (extent .height))
       stacking-all h = stacked-all u s extent t d width out₀ out at y stacked h

@@ -37,7 +37,7 @@ use Rattle.line_fetch.specs.Rows.{rowSize, numbersOf}
 use Rattle.line_rows.specs.Rows.{rowOut, otherOf, Layer, Standing}
 use Rattle.line_rows.proofs.Laws.{row-entry, layer-res, layer-turns}
 use Rattle.line_lanes.specs.declared.Lane.{Lane}
-use Rattle.line_lanes.specs.Lanes.{laneSize, laneAt, laneNumbers, bottomOf, laneBy, laneOf, lanesOf, rowFrom, rowsFrom, LaneFits, LanesFit}
+use Rattle.line_lanes.specs.Lanes.{laneSize, laneAt, laneNumbers, bottomOf, readOf, firstOf, laneBy, laneOf, lanesOf, rowFrom, rowsFrom, LaneFits, LanesFit}
 use Rattle.line_lanes.proofs.Rows.{lane-entry, lane-among, put-one-more}
 
 -- ---- the last line
@@ -58,17 +58,30 @@ pub ruleset bottoms = (needs, bottom-none, bottom-some, bottom-near)
 
 -- ---- a lane from a record
 
-module _ (r : Record) (k other : ℕ) (p : Start) (from width to m top bottom : ℕ) where
-  pub lane-unread : p ≡ Unread → from ≡ r .x → width ≡ r .width → to ≡ from + width * k → m ≡ factorOf k → top ≡ r .y → bottom ≡ bottomOf r k
-      → record { from = from; to = to; factor = m; read = 0; start = 0; other = other; ratio = k; top = top; bottom = bottom; step = 0 } ≡ laneBy r k p other
-  unfolding laneBy
-  lane-unread e f g h em et eb = rw (e, h, f, g, em, et, eb)
+module _ (r : Record) (p : Start) where
+  pub read-none : p ≡ Unread → 0 ≡ readOf r p
+  unfolding readOf
+  read-none e = rw e refl
 
-  pub lane-read : (a each step : ℕ) → p ≡ From a → from ≡ r .x → width ≡ r .width → to ≡ from + width * k → m ≡ factorOf k → top ≡ r .y → bottom ≡ bottomOf r k
-      → each ≡ depth r → step ≡ width * each
-      → record { from = from; to = to; factor = m; read = each; start = a; other = other; ratio = k; top = top; bottom = bottom; step = step } ≡ laneBy r k p other
-  unfolding laneBy
-  lane-read a each step e f g h em et eb ed es = rw (e, h, f, es, g, em, et, eb, ed)
+  pub read-some : (a n : ℕ) → p ≡ From a → n ≡ depth r → n ≡ readOf r p
+  unfolding readOf
+  read-some a n e f = rw e f
+
+pub first-none : (p : Start) → p ≡ Unread → 0 ≡ firstOf p
+unfolding firstOf
+first-none p e = rw e refl
+
+pub first-some : (p : Start) (a : ℕ) → p ≡ From a → a ≡ firstOf p
+unfolding firstOf
+first-some p a e = rw e refl
+
+pub ruleset starting = (needs, read-none, read-some, first-none, first-some)
+
+pub lane-made : (r : Record) (k other : ℕ) (p : Start) (from width each to m start top bottom step : ℕ) → from ≡ r .x → width ≡ r .width → each ≡ readOf r p → to ≡ from + width * k → m ≡ factorOf k
+    → start ≡ firstOf p → top ≡ r .y → bottom ≡ bottomOf r k → step ≡ width * each
+    → record { from = from; to = to; factor = m; read = each; start = start; other = other; ratio = k; top = top; bottom = bottom; step = step } ≡ laneBy r k p other
+unfolding laneBy
+lane-made r k other p from width each to m start top bottom step ef ew ee et em es ep eb ez = rw (ez, et, ef, ew, ee, em, es, ep, eb)
 
 pub step-small : (width each step : ℕ) → width < 65536 → each ≤ 3 → step ≡ width * each → step < 196608
 step-small width each step h g e =
@@ -79,8 +92,6 @@ step-small width each step h g e =
 pub lane-fits : (w : Lane) (y : ℕ) → 0 < w .ratio → w .ratio < 65536 → w .factor ≡ factorOf (w .ratio) → w .top ≡ y → w .bottom ≤ y + 65535 * w .ratio → w .start < 4294967296 → w .step < 196608 → LaneFits w
 lane-fits w y a b f t n s p =
     record { some = a; small = b; factor = f; near = subst (λ (i : ℕ). w .bottom ≤ i + 65535 * w .ratio) (sym t) n; start = s; step = p }
-
-pub ruleset laning = (needs, lane-unread, lane-read)
 
 -- ---- the lane of a layer of a stripe
 

@@ -52,7 +52,7 @@ pub row-by-lane : (r : Record) (q : ℕ) (y : MainPos) (p : Start) (other : ℕ)
 unfolding rowFrom laneBy rowBy
 row-by-lane r q y Unread other =
     ap₂ (λ (b : Bool) (n : ℕ). cond b (record { from = r .x; to = r .x + r .width * q; factor = factorOf q; read = 0; at = n; other = other; ratio = q }) (rowOut other))
-    (crosses-is r q y) (zero-add (scale q (r .y) y .0 * 0) ∙ mul-zero (scale q (r .y) y .0))
+    (crosses-is r q y) (zero-add (scale q (r .y) y .0 * (r .width * 0)) ∙ ap (λ (k : ℕ). scale q (r .y) y .0 * k) (mul-zero (r .width)) ∙ mul-zero (scale q (r .y) y .0))
 row-by-lane r q y (From a) other =
     ap₂ (λ (b : Bool) (n : ℕ). cond b (record { from = r .x; to = r .x + r .width * q; factor = factorOf q; read = depth r; at = a + n; other = other; ratio = q }) (rowOut other))
     (crosses-is r q y) (sym (mul-assoc (scale q (r .y) y .0) (r .width) (depth r)))

@@ -4,6 +4,8 @@
 --   laneAt ns l          the lane of layer l among the lanes' numbers
 --   laneNumbers          the numbers of a lane
 --   bottomOf r q         behind the last line that crosses the layer of the record r, of samples of q main pixels each
+--   readOf r p           the octets a sample, if it was read; else 0
+--   firstOf p            where the samples start, if they were read; else 0
 --   laneBy               the lane of a record, where its samples start and what the layer gives outside its area being known
 --   laneOf s extent ps l    the lane of layer l
 --   lanesOf              the numbers of the lanes of layers 1 to n, one after the other
@@ -64,12 +66,30 @@ laneNumbers w = w .from ∷ w .to ∷ w .factor ∷ w .read ∷ w .start ∷ w .
 unfoldable pub bottomOf : Record → ℕ → ℕ
 bottomOf r q = cond (coded r) (r .y + r .height * q) 0
 
+unfoldable pub readOf : Record → Start → ℕ
+readOf r Unread = 0
+readOf r (From a) = depth r
+
+unfoldable pub firstOf : Start → ℕ
+firstOf Unread = 0
+firstOf (From a) = a
+
+-- a layer that was not read steps by 0 octets: its rows start at 0
 unfoldable pub laneBy : Record → ℕ → Start → ℕ → Lane
-unfolding bottomOf
-laneBy r q Unread other =
-    record { from = r .x; to = r .x + r .width * q; factor = factorOf q; read = 0; start = 0; other = other; ratio = q; top = r .y; bottom = bottomOf r q; step = 0 }
-laneBy r q (From a) other =
-    record { from = r .x; to = r .x + r .width * q; factor = factorOf q; read = depth r; start = a; other = other; ratio = q; top = r .y; bottom = bottomOf r q; step = r .width * depth r }
+unfolding bottomOf readOf firstOf
+laneBy r q p other =
+    record {
+      from = r .x;
+      to = r .x + r .width * q;
+      factor = factorOf q;
+      read = readOf r p;
+      start = firstOf p;
+      other = other;
+      ratio = q;
+      top = r .y;
+      bottom = bottomOf r q;
+      step = r .width * readOf r p;
+    }
 
 unfoldable pub laneOf : List ℕ → Extent → List Plane → ℕ → Lane
 unfolding laneBy otherOf

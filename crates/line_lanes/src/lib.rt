@@ -6,7 +6,7 @@ ghost use Rattle.octets.specs.Octets.{putAt};
 ghost use Rattle.line_planes.specs.Listing.{entriesOf};
 ghost use Rattle.line_fetch.specs.Rows.{rowSize};
 ghost use Rattle.line_rows.specs.Rows.{Layer, Standing};
-ghost use Rattle.line_lanes.specs.Lanes.{laneSize, laneAt, laneNumbers, bottomOf, laneBy, laneOf, lanesOf, rowFrom, rowsFrom, LaneFits, LanesFit};
+ghost use Rattle.line_lanes.specs.Lanes.{laneSize, laneAt, laneNumbers, bottomOf, readOf, firstOf, laneBy, laneOf, lanesOf, rowFrom, rowsFrom, LaneFits, LanesFit};
 use line_fetch::Row;
 use line_planes::Listing;
 use pixel_rules::MainPos;
@@ -47,44 +47,44 @@ pub fn bottom_of(r: Record, ratio: usize) -> usize
     line_rows::area_end(octets_get::wide16(r.y), octets_get::wide16(r.height), ratio)
 }
 
+// The octets a sample of a layer that was read; 0 if it was not.
+pub fn read_of(r: Record, p: Start) -> usize
+    ensures { λ n. ⌜ (n ≡ readOf r p) × (n ≤ 3) ⌝ }
+{
+    match p {
+        Start::Unread => 0,
+        Start::From(_) => line_sample::depth_of(r),
+    }
+}
+
+// Where the samples of a layer start; 0 if it was not read.
+pub fn first_of(p: Start) -> usize
+    ensures { λ n. ⌜ (n ≡ firstOf p) × (n < 4294967296) ⌝ }
+{
+    match p {
+        Start::Unread => 0,
+        Start::From(a) => a as usize,
+    }
+}
+
 pub fn lane_by(r: Record, ratio: usize, p: Start, other: usize) -> Lane
     requires { ⌜ (0 < ratio) × (ratio < 65536) ⌝ }
     ensures { λ w. ⌜ (w ≡ laneBy r ratio p other) × LaneFits w ⌝ }
 {
     let from = octets_get::wide16(r.x);
     let width = octets_get::wide16(r.width);
-    let to = line_rows::area_end(from, width, ratio);
-    let factor = line_sample::factor_of(ratio);
-    let top = octets_get::wide16(r.y);
-    let bottom = bottom_of(r, ratio);
-    match p {
-        Start::Unread => Lane {
-            from: from,
-            to: to,
-            factor: factor,
-            read: 0,
-            start: 0,
-            other: other,
-            ratio: ratio,
-            top: top,
-            bottom: bottom,
-            step: 0,
-        },
-        Start::From(a) => {
-            let each = line_sample::depth_of(r);
-            Lane {
-                from: from,
-                to: to,
-                factor: factor,
-                read: each,
-                start: a as usize,
-                other: other,
-                ratio: ratio,
-                top: top,
-                bottom: bottom,
-                step: line_sample::sample_octets(width, each),
-            }
-        }
+    let each = read_of(r, p);
+    Lane {
+        from: from,
+        to: line_rows::area_end(from, width, ratio),
+        factor: line_sample::factor_of(ratio),
+        read: each,
+        start: first_of(p),
+        other: other,
+        ratio: ratio,
+        top: octets_get::wide16(r.y),
+        bottom: bottom_of(r, ratio),
+        step: line_sample::sample_octets(width, each),
     }
 }
 

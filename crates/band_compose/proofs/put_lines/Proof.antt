@@ -3,7 +3,7 @@ use native.Mathlib.Omega.{arith}
 use mathlib.Core.Path.{_≡_}
 use lib.ListN.{length}
 use Rattle.line_fetch.specs.Rows.{rowsSize}
-use Rattle.band_compose.proofs.Laws.{Stacking, stacking-more, stacking-line, stacking-fits, stacking-all, stacking-long, stacking}
+use Rattle.band_compose.proofs.Laws.{Stacking, stacking-more, stacking-line, stacking-small, stacking-all, stacking-long, stacking}
 use Rattle.band_compose.proofs.put_lines.Statement.{statement}
 use Rattle.band_compose.proofs.put_lines.Tie as tie
 
@@ -45,12 +45,13 @@ put-line-requires c κs =
 
 add-at : tie.Need-add-at Inv-loop μ-loop
 add-at c =
-    stacking-fits _ _ _ _ _ _ _ _ _ _
+    let small = stacking-small _ _ _ _ _ _ _ _ _ _
     (c .before .before .before .before .before .before .before .before .loop .inv .0) _
     (c .before .before .before .before .before .before .before .before .before .before .before .before .before .before .before .before .pre) _
     (c .before .before .before .before .before .before .before .before .before .before .put-lanes .ensures)
     (c .before .before .before .before .before .before .before .before .before .before .before .before .before .before .before .before .good .0 .0)
-    (c .before .before .before .before .before .before .before .loop-test .taken)
+    (c .before .before .before .before .before .before .before .loop-test .taken) in
+    record { fits = omega arith }
 
 add-y : tie.Need-add-y Inv-loop μ-loop
 add-y c = search stacking
