@@ -37,6 +37,8 @@ use Rattle.line_planes.specs.declared.Listing.{Listing}
 use Rattle.line_planes.specs.Listing.{listingOf, entriesOf}
 use Rattle.line_pixel.specs.Rows.{rowStack, RowsFit}
 use Rattle.line_rows.specs.Rows.{rowsOf, Standing}
+use Rattle.line_lanes.specs.Lanes.{laneSize, lanesSize, laneAt, lanesOf, rowsFrom, LanesFit}
+use Rattle.line_lanes.proofs.Rows.{lane-among, rows-from-lanes}
 use Rattle.paint_floor.specs.Floors.{PlainRows}
 use Rattle.paint_line.proofs.Plain.{rows-plain, pairs-few}
 use Rattle.line_verdict.specs.declared.Ruled.{Ruled}
@@ -44,7 +46,7 @@ use Rattle.line_verdict.specs.declared.Ruled.the-variants.{Shows, Refused}
 use Rattle.line_verdict.specs.Ruled.{listFrom, ruledOf}
 use Rattle.line_compose.specs.Composing.{sceneFrom, Showable}
 use Rattle.line_compose.proofs.Laws.{shown-place, shown-standing, shown-rows, rows-shown, shown-pixels, shown-wide, ruled-refused, ruled-shown, line-shown, listed-first}
-use Rattle.band_compose.specs.Banding.{LineFits, LinesFit, Banded}
+use Rattle.band_compose.specs.Banding.{Laned, LineFits, SomeLineFits, LinePut, LinesFit, Banded}
 
 -- ---- the size
 
@@ -75,27 +77,28 @@ part-back d at v h =
     ∙ ap (λ (a : List ℕ). take at d ++ (v ++ a)) (drop-drop (0 + length v) at d)
     ∙ ap (λ (n : ℕ). take at d ++ (v ++ drop n d)) z
 
-module _ (s : List ℕ) (extent : Extent) (t : Listing) (d : List ℕ) (y width at : ℕ) (out base : List ℕ) (g : LineFits (sceneFrom s extent t d) y width at (length out) (length base)) where
+module _ (s : List ℕ) (extent : Extent) (t : Listing) (d ns : List ℕ) (y width at : ℕ) (out base : List ℕ) (g : LineFits (sceneFrom s extent t d) ns y width at (length out) (length base)) where
   abbrev here : Scene
   here = sceneFrom s extent t d
 
-  pub line-standing : Standing s extent
-  line-standing = shown-standing s extent t d y (g .shown)
+  -- the rows from the lanes are those of the plane list
+  abbrev rowsHere : List ℕ → Type 0
+  rowsHere rows = rows ≡ putAt base 0 (rowsFrom ns (record { 0 = y }) (extent .layers))
 
-  pub line-rows : extent .layers * rowSize ≤ length base
-  line-rows = g .rows
+  listed : (rows : List ℕ) → rowsHere rows → rows ≡ putAt base 0 (rowsOf s extent (entriesOf t) (record { 0 = y }) (extent .layers))
+  listed rows e = e ∙ ap (putAt base 0) (rows-from-lanes s extent (entriesOf t) ns (extent .layers) (record { 0 = y }) (g .lanes .each))
 
-  pub line-fits : (rows : List ℕ) → rows ≡ putAt base 0 (rowsOf s extent (entriesOf t) (record { 0 = y }) (extent .layers)) → RowsFit s d rows (extent .layers / 2)
-  line-fits rows e = rows-shown s extent t d y (g .shown) base rows (g .rows) e
+  line-fits : (rows : List ℕ) → rowsHere rows → RowsFit s d rows (extent .layers / 2)
+  line-fits rows e = rows-shown s extent t d y (g .shown) base rows (g .rows) (listed rows e)
 
-  pub line-room : width * 4 ≤ length (take (length out - at) (drop at out))
+  line-room : width * 4 ≤ length (take (length out - at) (drop at out))
   line-room =
       let f = g .fits in
       let a = length-take (length out - at) (drop at out) in
       let b = length-drop at out in
       omega arith
 
-  pub line-narrow : width < 65536
+  line-narrow : width < 65536
   line-narrow =
       let w = g .wide in
       let h = g .shown in
@@ -106,28 +109,56 @@ module _ (s : List ℕ) (extent : Extent) (t : Listing) (d : List ℕ) (y width 
   stage : Stage s (record { entries = entriesOf t; part = g .shown .part }) d (g .shown .stripe) y here
   stage = shows-stage s (record { entries = entriesOf t; part = g .shown .part }) d (g .shown .stripe) y here (g .shown .ruling)
 
-  pub line-plain : (rows : List ℕ) → rows ≡ putAt base 0 (rowsOf s extent (entriesOf t) (record { 0 = y }) (extent .layers)) → PlainRows rows (extent .layers / 2)
+  line-plain : (rows : List ℕ) → rowsHere rows → PlainRows rows (extent .layers / 2)
   line-plain rows e =
-      subst (λ (r : List ℕ). PlainRows r (extent .layers / 2)) (sym e)
+      subst (λ (r : List ℕ). PlainRows r (extent .layers / 2)) (sym (listed rows e))
       (rows-plain here (record { entries = entriesOf t; part = g .shown .part }) (g .shown .stripe) y (record { 0 = y }) stage base (g .rows))
 
-  pub line-few : extent .layers / 2 ≤ 7
+  line-few : extent .layers / 2 ≤ 7
   line-few = pairs-few here (record { entries = entriesOf t; part = g .shown .part }) (g .shown .stripe) y (record { 0 = y }) stage
 
-  pub line-put : (u : Colour) (rows e : List ℕ) → rows ≡ putAt base 0 (rowsOf s extent (entriesOf t) (record { 0 = y }) (extent .layers))
+  line-put : (u : Colour) (rows e : List ℕ) → rowsHere rows
       → e ≡ putAt (take (length out - at) (drop at out)) 0 (pixels u (λ (x : MainPos). decide (rowStack s d rows x) (extent .layers / 2)) width)
       → take at out ++ (e ++ drop (length out - at) (drop at out)) ≡ putAt out at (linePixels u here y)
   line-put u rows e er ee =
       let w = g .wide in
       let f = g .fits in
       let l = length-line u here y in
-      let p = shown-pixels s extent t d y (g .shown) base rows (g .rows) er u in
+      let p = shown-pixels s extent t d y (g .shown) base rows (g .rows) (listed rows er) u in
       ap (λ (a : List ℕ). take at out ++ (a ++ drop (length out - at) (drop at out)))
       (ee ∙ ap (λ (n : ℕ). putAt (take (length out - at) (drop at out)) 0 (pixels u (λ (x : MainPos). decide (rowStack s d rows x) (extent .layers / 2)) n)) w
       ∙ ap (putAt (take (length out - at) (drop at out)) 0) p)
       ∙ part-back out at (linePixels u here y) (omega arith)
 
-pub ruleset lining = (needs, line-standing, line-rows, line-fits, line-plain, line-few, line-room, line-narrow, line-put)
+-- what the calls ask for, some plane list having these lanes
+module _ (s : List ℕ) (extent : Extent) (d ns : List ℕ) (y width at : ℕ) (out base : List ℕ) (g : SomeLineFits s extent d ns y width at (length out) (length base)) where
+  pub some-lanes : LanesFit ns (extent .layers)
+  some-lanes = g .line .lanes .fit
+
+  pub some-rows : extent .layers * rowSize ≤ length base
+  some-rows = g .line .rows
+
+  pub some-fits : (rows : List ℕ) → rows ≡ putAt base 0 (rowsFrom ns (record { 0 = y }) (extent .layers)) → RowsFit s d rows (extent .layers / 2)
+  some-fits rows e = line-fits s extent (g .list) d ns y width at out base (g .line) rows e
+
+  pub some-plain : (rows : List ℕ) → rows ≡ putAt base 0 (rowsFrom ns (record { 0 = y }) (extent .layers)) → PlainRows rows (extent .layers / 2)
+  some-plain rows e = line-plain s extent (g .list) d ns y width at out base (g .line) rows e
+
+  pub some-few : extent .layers / 2 ≤ 7
+  some-few = line-few s extent (g .list) d ns y width at out base (g .line)
+
+  pub some-room : width * 4 ≤ length (take (length out - at) (drop at out))
+  some-room = line-room s extent (g .list) d ns y width at out base (g .line)
+
+  pub some-narrow : width < 65536
+  some-narrow = line-narrow s extent (g .list) d ns y width at out base (g .line)
+
+pub line-is-put : (s : List ℕ) (extent : Extent) (d ns : List ℕ) (y width at : ℕ) (out base : List ℕ) (u : Colour) (rows e : List ℕ) → rows ≡ putAt base 0 (rowsFrom ns (record { 0 = y }) (extent .layers))
+    → e ≡ putAt (take (length out - at) (drop at out)) 0 (pixels u (λ (x : MainPos). decide (rowStack s d rows x) (extent .layers / 2)) width)
+    → LinePut u s extent d ns y width at (length base) out (take at out ++ (e ++ drop (length out - at) (drop at out)))
+line-is-put s extent d ns y width at out base u rows e er ee = record { put = λ t g. line-put s extent t d ns y width at out base g u rows e er ee }
+
+pub ruleset lining = (needs, some-lanes, some-rows, some-fits, some-plain, some-few, some-room, some-narrow, line-is-put)
 
 -- ---- the lines of a stripe that is to be shown, one behind the other
 
@@ -154,13 +185,13 @@ module _ (u : Colour) (s : List ℕ) (extent : Extent) (t : Listing) (d : List �
   abbrev scene : Scene
   scene = sceneFrom s extent t d
 
-  pub stacked-none : LinesFit scene width (length out₀) → Stacked u scene width out₀ out₀ 0 0
+  stacked-none : LinesFit scene width (length out₀) → Stacked u scene width out₀ out₀ 0 0
   unfolding bandLines
   stacked-none g = record { fits = g; within = omega arith; place = sym (zero-mul (width * 4)); long = refl; stacked = sym (put-nothing out₀ 0) }
 
   module _ (out : List ℕ) (at y : ℕ) (g : Stacked u scene width out₀ out at y) where
     -- the next line lies within the band
-    pub stacked-room : y < extent .height → at + width * 4 ≤ length out
+    stacked-room : y < extent .height → at + width * 4 ≤ length out
     unfolding bandSize
     stacked-room h =
         let f = g .fits .fits in
@@ -175,15 +206,17 @@ module _ (u : Colour) (s : List ℕ) (extent : Extent) (t : Listing) (d : List �
         turned a b = omega arith
 
     -- and its rows in as many numbers as any line's
-    pub stacked-line : (numbers : ℕ) → rowsSize ≤ numbers → y < extent .height → LineFits scene y width at (length out) numbers
-    stacked-line numbers r h =
+    stacked-line : (ns : List ℕ) (numbers : ℕ) → Laned scene ns → rowsSize ≤ numbers → y < extent .height → LineFits scene ns y width at (length out) numbers
+    stacked-line ns numbers w r h =
         let c = shown-rows s extent t d 0 (g .fits .shown) in
         let n : length {A = ℕ} (replicate rowsSize 0) ≡ rowsSize = refl in
-        record { shown = showable-line s extent t d y h (g .fits .shown); wide = g .fits .wide; fits = stacked-room h; rows = omega arith }
+        record { shown = showable-line s extent t d y h (g .fits .shown); wide = g .fits .wide; fits = stacked-room h; rows = omega arith; lanes = w }
 
-    pub stacked-more : (new : List ℕ) → y < extent .height → new ≡ putAt out at (linePixels u scene y) → Stacked u scene width out₀ new (at + width * 4) (y + 1)
+    stacked-more : (new : List ℕ) {ns : List ℕ} {numbers : ℕ} → LineFits scene ns y width at (length out) numbers → y < extent .height → LinePut u s extent d ns y width at numbers out new
+        → Stacked u scene width out₀ new (at + width * 4) (y + 1)
     unfolding bandLines
-    stacked-more new h e =
+    stacked-more new j h k =
+        let e = k .put t j in
         let r = stacked-room h in
         let w = g .fits .wide in
         let p = g .place in
@@ -202,14 +235,63 @@ module _ (u : Colour) (s : List ℕ) (extent : Extent) (t : Listing) (d : List �
               ∙ ap (λ (n : ℕ). putAt out₀ 0 (bandLines u scene n)) (sym z);
         }
 
-    pub stacked-all : extent .height ≤ y → out ≡ putAt out₀ 0 (bandLines u scene (extent .height))
+    stacked-all : extent .height ≤ y → out ≡ putAt out₀ 0 (bandLines u scene (extent .height))
     stacked-all h =
         let w = g .within in
         let z : y ≡ extent .height = omega arith in
         g .stacked ∙ ap (λ (n : ℕ). putAt out₀ 0 (bandLines u scene n)) z
 
-    pub stacked-long : length out ≡ length out₀
-    stacked-long = g .long
+-- the lanes of a stripe that is to be shown, in as many numbers as any stripe's
+module _ (s : List ℕ) (extent : Extent) (t : Listing) (d : List ℕ) (width room : ℕ) (g : LinesFit (sceneFrom s extent t d) width room) where
+  pub lanes-standing : Standing s extent
+  lanes-standing = shown-standing s extent t d 0 (g .shown)
+
+  pub lanes-room : (numbers : ℕ) → lanesSize ≤ numbers → extent .layers * laneSize ≤ numbers
+  lanes-room numbers h = let f = lanes-standing .fifteen in omega arith
+
+  lanes-put : (base ns : List ℕ) → (ns ≡ putAt base 0 (lanesOf s extent (entriesOf t) (extent .layers))) × LanesFit ns (extent .layers) → Laned (sceneFrom s extent t d) ns
+  lanes-put base ns e =
+      record {
+        fit = e .1;
+        each = λ l a b. ap (λ (w : List ℕ). laneAt w l) (e .0) ∙ lane-among s extent (entriesOf t) base (extent .layers) l a b;
+      }
+
+-- the same of every plane list that has these lanes: the loop has the lanes, and the list no longer
+pub record Stacking (u : Colour) (s : List ℕ) (extent : Extent) (d : List ℕ) (width : ℕ) (ns out₀ out : List ℕ) (at y : ℕ) : Type 0 where
+  pub of : (t : Listing) → LinesFit (sceneFrom s extent t d) width (length out₀) → Laned (sceneFrom s extent t d) ns → Stacked u (sceneFrom s extent t d) width out₀ out at y
+
+module _ (u : Colour) (s : List ℕ) (extent : Extent) (d : List ℕ) (width : ℕ) (ns out₀ : List ℕ) where
+  pub stacking-none : Stacking u s extent d width ns out₀ out₀ 0 0
+  stacking-none = record { of = λ t f w. stacked-none u s extent t d width out₀ f }
+
+  module _ (out : List ℕ) (at y : ℕ) (g : Stacking u s extent d width ns out₀ out at y) where
+    pub stacking-more : (new : List ℕ) (numbers : ℕ) → rowsSize ≤ numbers → y < extent .height → LinePut u s extent d ns y width at numbers out new → Stacking u s extent d width ns out₀ new (at + width * 4) (y + 1)
+    stacking-more new numbers k h q =
+        record { of = λ t f w. stacked-more u s extent t d width out₀ out at y (g .of t f w) new (stacked-line u s extent t d width out₀ out at y (g .of t f w) ns numbers w k h) h q }
+
+    -- this list has them
+    module _ (t : Listing) (f : LinesFit (sceneFrom s extent t d) width (length out₀)) (base : List ℕ)
+        (e : (ns ≡ putAt base 0 (lanesOf s extent (entriesOf t) (extent .layers))) × LanesFit ns (extent .layers)) where
+      laned : Laned (sceneFrom s extent t d) ns
+      laned = lanes-put s extent t d width (length out₀) f base ns e
+
+      stacked : Stacked u (sceneFrom s extent t d) width out₀ out at y
+      stacked = g .of t f laned
+
+      pub stacking-line : (numbers : ℕ) → rowsSize ≤ numbers → y < extent .height → SomeLineFits s extent d ns y width at (length out) numbers
+      stacking-line numbers k h = record { list = t; line = stacked-line u s extent t d width out₀ out at y stacked ns numbers laned k h }
+
+      pub stacking-small : length out₀ < 18446744073709551616 → y < extent .height → at + width * 4 < 18446744073709551616
+      stacking-small b h =
+          let r = stacked-room u s extent t d width out₀ out at y stacked h in
+          let l = stacked .long in
+          omega arith
+
+      pub stacking-all : extent .height ≤ y → out ≡ putAt out₀ 0 (bandLines u (sceneFrom s extent t d) (extent .height))
+      stacking-all h = stacked-all u s extent t d width out₀ out at y stacked h
+
+      pub stacking-long : length out ≡ length out₀
+      stacking-long = stacked .long
 
 pub lines-narrow : (s : List ℕ) (extent : Extent) (t : Listing) (d : List ℕ) (width room : ℕ) → LinesFit (sceneFrom s extent t d) width room → Fits w64 (width * 4)
 lines-narrow s extent t d width room g =
@@ -219,7 +301,7 @@ lines-narrow s extent t d width room g =
     let m = n .1 in
     record { fits = omega arith }
 
-pub ruleset stacking = (needs, lines-narrow, stacked-none, stacked-line, stacked-more, stacked-all, stacked-long)
+pub ruleset stacking = (needs, lines-narrow, stacking-none, lanes-standing, lanes-room)
 
 -- ---- a stripe that is to be shown: the room, then the lines
 

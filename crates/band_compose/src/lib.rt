@@ -4,13 +4,13 @@ ghost use Prim.Native.Nat.{_*_, _<_};
 ghost use lib.ListN.{length};
 ghost use Rattle.octets.specs.Octets.{putAt};
 ghost use Rattle.pixel_rules.specs.Planes.{listOf};
-ghost use Rattle.picture_rules.specs.Line.{linePixels};
 ghost use Rattle.band_rules.specs.Band.{bandLines, Bands};
 ghost use Rattle.line_verdict.specs.Ruled.{listFrom};
 ghost use Rattle.line_compose.specs.Composing.{sceneFrom, Showable};
-ghost use Rattle.band_compose.specs.Banding.{LineFits, LinesFit, Banded};
+ghost use Rattle.band_compose.specs.Banding.{SomeLineFits, LinePut, LinesFit, Banded};
 use answers::Answer;
 use line_fetch::ROWS_SIZE;
+use line_lanes::LANES_SIZE;
 use line_planes::Listing;
 use line_planes::PLANE_SIZE;
 use line_verdict::Ruled;
@@ -26,32 +26,26 @@ pub fn band_size(width: usize, height: usize) -> usize
     width * height * 4
 }
 
-// A line of a stripe that is to be shown, put at its place in the band; `rows` is room for what the line needs of each layer.
+// A line of a stripe that is to be shown, put at its place in the band; `rows` is room for what the line needs of each layer. It is the line of any
+// plane list that has these lanes: the list itself is not looked at.
 pub fn put_line(
     out: &mut [u8],
     at: usize,
     rows: &mut [usize],
+    lanes: &[usize],
     sheet: &[u8],
     extent: Extent,
-    list: Listing,
     samples: &[u8],
     y: usize,
     width: usize,
     unseen: Colour,
 )
-    requires { ⌜ LineFits (sceneFrom (now sheet) extent list (now samples)) y width at (length (now out)) (length (now rows)) ⌝ }
-    ensures { λ _. ⌜ now (out .exit) ≡ putAt (now (out .entry)) at (linePixels unseen (sceneFrom (now (sheet .entry)) extent list (now (samples .entry))) y) ⌝ }
+    requires { ⌜ SomeLineFits (now sheet) extent (now samples) (now lanes) y width at (length (now out)) (length (now rows)) ⌝ }
+    ensures { λ _. ⌜ LinePut unseen (now (sheet .entry)) extent (now (samples .entry)) (now (lanes .entry)) y width at (length (now (rows .entry))) (now (out .entry)) (now (out .exit)) ⌝ }
 {
-    line_rows::put_rows(rows, sheet, extent, list, MainPos(y));
-    paint_line::paint_line(
-        &mut out[at..],
-        sheet,
-        samples,
-        rows,
-        extent.layers as usize / 2,
-        width,
-        unseen,
-    );
+    let n = extent.layers as usize;
+    line_lanes::lane_rows(rows, lanes, n, MainPos(y));
+    paint_line::paint_line(&mut out[at..], sheet, samples, rows, n / 2, width, unseen);
 }
 
 // All lines of a stripe that is to be shown, one behind the other.
@@ -69,6 +63,8 @@ pub fn put_lines(
 {
     let height = extent.height as usize;
     let size = width * 4;
+    let mut lanes: [usize; LANES_SIZE] = [0; LANES_SIZE];
+    line_lanes::put_lanes(&mut lanes, sheet, extent, list);
     let mut rows: [usize; ROWS_SIZE] = [0; ROWS_SIZE];
     let mut at: usize = 0;
     let mut y: usize = 0;
@@ -77,9 +73,9 @@ pub fn put_lines(
             out,
             at,
             &mut rows,
+            &lanes,
             sheet,
             extent,
-            list,
             samples,
             y,
             width,

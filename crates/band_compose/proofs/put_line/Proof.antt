@@ -3,8 +3,11 @@ use borrow.Author.Needs.{needs}
 use Rattle.band_compose.proofs.put_line.Statement.{statement}
 use Rattle.band_compose.proofs.put_line.Tie as tie
 
-put-rows-requires : tie.Need-put-rows-requires
-put-rows-requires c κs = search lining
+cast-n : tie.Need-cast-n
+cast-n c = search needs
+
+lane-rows-requires : tie.Need-lane-rows-requires
+lane-rows-requires c κs = search lining
 
 sub-paint-line : tie.Need-sub-paint-line
 sub-paint-line c = search needs
@@ -14,9 +17,6 @@ part-paint-line-start c = search needs
 
 part-paint-line-end : tie.Need-part-paint-line-end
 part-paint-line-end c = search needs
-
-cast-paint-line : tie.Need-cast-paint-line
-cast-paint-line c = search needs
 
 paint-line-requires : tie.Need-paint-line-requires
 paint-line-requires c κs = search lining
@@ -34,11 +34,11 @@ pub put-line-spec : {M : Type 1} → statement M
 put-line-spec =
     tie.close
     (tie.spec
-    put-rows-requires
+    cast-n
+    lane-rows-requires
     sub-paint-line
     part-paint-line-start
     part-paint-line-end
-    cast-paint-line
     paint-line-requires
     same-length
     same-length-2

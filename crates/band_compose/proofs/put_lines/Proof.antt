@@ -3,16 +3,15 @@ use native.Mathlib.Omega.{arith}
 use mathlib.Core.Path.{_≡_}
 use lib.ListN.{length}
 use Rattle.line_fetch.specs.Rows.{rowsSize}
-use Rattle.line_compose.specs.Composing.{sceneFrom}
-use Rattle.band_compose.proofs.Laws.{Stacked, stacked-room, stacked-line, stacked-more, stacking}
+use Rattle.band_compose.proofs.Laws.{Stacking, stacking-more, stacking-line, stacking-small, stacking-all, stacking-long, stacking}
 use Rattle.band_compose.proofs.put_lines.Statement.{statement}
 use Rattle.band_compose.proofs.put_lines.Tie as tie
 
 abbrev Inv-loop : tie.InvT-loop
-Inv-loop out₀ sheet extent list samples width unseen height size rows₀ at₀ y₀ out rows at y = Stacked unseen (sceneFrom sheet extent list samples) width out₀ out at y × (length rows ≡ rowsSize)
+Inv-loop out₀ sheet extent samples width unseen height size lanes rows₀ at₀ y₀ out rows at y = Stacking unseen sheet extent samples width lanes out₀ out at y × (length rows ≡ rowsSize)
 
 abbrev μ-loop : tie.MeasureT-loop
-μ-loop out₀ sheet extent list samples width unseen height size rows₀ at₀ y₀ out rows at y = extent .height - y
+μ-loop out₀ sheet extent samples width unseen height size lanes rows₀ at₀ y₀ out rows at y = extent .height - y
 
 cast-height : tie.Need-cast-height Inv-loop μ-loop
 cast-height c = search stacking
@@ -20,18 +19,38 @@ cast-height c = search stacking
 mul-size : tie.Need-mul-size Inv-loop μ-loop
 mul-size c = search stacking
 
+slice-aggregate-put-lanes : tie.Need-slice-aggregate-put-lanes Inv-loop μ-loop
+slice-aggregate-put-lanes c = search stacking
+
+put-lanes-requires : tie.Need-put-lanes-requires Inv-loop μ-loop
+put-lanes-requires c κs = search stacking
+
 loop-holds : tie.Need-loop-holds Inv-loop μ-loop
 loop-holds c = search stacking
 
 slice-aggregate-put-line : tie.Need-slice-aggregate-put-line Inv-loop μ-loop
 slice-aggregate-put-line c = search stacking
 
+slice-aggregate-put-line-2 : tie.Need-slice-aggregate-put-line-2 Inv-loop μ-loop
+slice-aggregate-put-line-2 c = search stacking
+
 put-line-requires : tie.Need-put-line-requires Inv-loop μ-loop
-put-line-requires c κs = stacked-line _ _ _ _ _ _ _ _ _ _ (c .before .before .before .loop .inv .0) _ (omega arith) (c .before .before .loop-test .taken)
+put-line-requires c κs =
+    stacking-line _ _ _ _ _ _ _ _ _ _
+    (c .before .before .before .before .loop .inv .0) _
+    (c .before .before .before .before .before .before .before .before .before .before .before .before .pre) _
+    (c .before .before .before .before .before .before .put-lanes .ensures)
+    _ (omega arith)
+    (c .before .before .before .loop-test .taken)
 
 add-at : tie.Need-add-at Inv-loop μ-loop
 add-at c =
-    let room = stacked-room _ _ _ _ _ _ _ _ _ _ (c .before .before .before .before .before .before .before .loop .inv .0) (c .before .before .before .before .before .before .loop-test .taken) in
+    let small = stacking-small _ _ _ _ _ _ _ _ _ _
+    (c .before .before .before .before .before .before .before .before .loop .inv .0) _
+    (c .before .before .before .before .before .before .before .before .before .before .before .before .before .before .before .before .pre) _
+    (c .before .before .before .before .before .before .before .before .before .before .put-lanes .ensures)
+    (c .before .before .before .before .before .before .before .before .before .before .before .before .before .before .before .before .good .0 .0)
+    (c .before .before .before .before .before .before .before .loop-test .taken) in
     record { fits = omega arith }
 
 add-y : tie.Need-add-y Inv-loop μ-loop
@@ -42,18 +61,26 @@ loop-less c = search stacking
 
 loop-again : tie.Need-loop-again Inv-loop μ-loop
 loop-again c = (
-  stacked-more _ _ _ _ _ _ _ _ _ _
-      (c .before .before .before .before .before .before .before .loop .inv .0) _
-      (c .before .before .before .before .before .before .loop-test .taken)
+  stacking-more _ _ _ _ _ _ _ _ _ _
+      (c .before .before .before .before .before .before .before .before .loop .inv .0)
+      _ _ (omega arith)
+      (c .before .before .before .before .before .before .before .loop-test .taken)
       (c .before .before .before .put-line .ensures),
   search stacking,
 )
 
 same-length : tie.Need-same-length Inv-loop μ-loop
-same-length c = search stacking
+same-length c =
+    stacking-long _ _ _ _ _ _ _ _ _ _ (c .before .loop .inv .0) _
+    (c .before .before .before .before .before .before .before .before .before .pre) _
+    (c .before .before .before .put-lanes .ensures)
 
 returns : tie.Need-returns Inv-loop μ-loop
-returns c = search stacking
+returns c =
+    stacking-all _ _ _ _ _ _ _ _ _ _ (c .before .loop .inv .0) _
+    (c .before .before .before .before .before .before .before .before .before .pre) _
+    (c .before .before .before .put-lanes .ensures)
+    (c .loop-test .left)
 
 pub put-lines-spec : {M : Type 1} → statement M
 put-lines-spec =
@@ -63,8 +90,11 @@ put-lines-spec =
     μ-loop
     cast-height
     mul-size
+    slice-aggregate-put-lanes
+    put-lanes-requires
     loop-holds
     slice-aggregate-put-line
+    slice-aggregate-put-line-2
     put-line-requires
     add-at
     add-y
