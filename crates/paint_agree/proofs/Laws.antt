@@ -3,20 +3,24 @@
 use Prim.Native.Nat.{ℕ, _+_, _-_, _*_, _/_, _%_, _≤_, _<_}
 use native.Mathlib.Omega.{arith}
 use mathlib.Core.Path.{_≡_, refl, sym, ap, subst, _∙_}
-use mathlib.Core.Logic.{⊎-elim}
-use mathlib.Core.Bool.{Bool, true, false, _||_, cond, false≢true}
+use mathlib.Core.Logic.{inl, inr, ⊎-elim}
+use mathlib.Core.Bool.{Bool, true, false, _&&_, _||_, not, cond, false≢true}
 use mathlib.Core.List.{List}
 use lib.ListN.{length, getD}
 use lib.Dec.{eqb, ltb}
-use borrow.Author.Tests.{lt-ltb, le-ltb, ltb-false}
+use borrow.Author.Tests.{lt-ltb, le-ltb, ltb-false, eqb-true}
 use borrow.Author.Needs.{needs}
 use Rattle.laws.proofs.Says.{Says, says-eq, says-and, says-lt, says-else}
+use Rattle.pixel_rules.specs.declared.Sample.{Sample}
+use Rattle.pixel_rules.specs.declared.Sample.the-variants.{Known, Unknown}
+use Rattle.line_fetch.specs.declared.Row.{Row}
+use Rattle.line_fetch.specs.Rows.{rowImage}
 use Rattle.paint_words.specs.Words.{octetsOf, fourFrom}
 use Rattle.paint_coat.specs.Coat.{Coated, over}
 use Rattle.paint_coat.proofs.Coats.{coated-none, coated-chain, coated-as}
 use Rattle.paint_coat.proofs.Laws.{coat-begun, coat-end}
-use Rattle.paint_image.specs.Image.{moved}
-use Rattle.paint_agree.specs.Agree.{sameFour, agreed, agreeing, settles, Above}
+use Rattle.paint_image.specs.Image.{moved, imageFrom, shownFour}
+use Rattle.paint_agree.specs.Agree.{sameFour, agreed, agreeing, settles, Above, Unseen, Settled}
 
 -- ---- a pixel as a number
 
@@ -141,6 +145,91 @@ module _ (sel : List ℕ) (j p q : ℕ) where
 
 pub ruleset passing = (needs, pass-begun, pass-more, pass-all, pass-some, pass-block)
 
+-- ---- pixels that are unseen
+
+unseen-none : (l un : List ℕ) (p q : ℕ) → q ≤ p → Unseen l un p q
+unseen-none l un p q h = record { there = λ x a b. absurd (omega arith) }
+
+unseen-chain : (l un : List ℕ) (p i q : ℕ) → Unseen l un p i → Unseen l un i q → Unseen l un p q
+unseen-chain l un p i q g k =
+    record {
+      there = λ x a b. ⊎-elim
+          (λ (z : x < i). g .there x a z)
+          (λ (z : x < i → ⊥). k .there x (omega arith) b)
+          (says-else (says-lt x i));
+    }
+
+unseen-one : (l : List ℕ) (x w u : ℕ) → octetsOf w ≡ fourFrom l (x * 4) → w ≡ u → Unseen l (octetsOf u) x (x + 1)
+unseen-one l x w u e f =
+    record { there = λ y a b. let z : y ≡ x = omega arith in ap (λ (i : ℕ). fourFrom l (i * 4)) z ∙ sym e ∙ ap octetsOf f }
+
+pub record Cleared (l un : List ℕ) (x : ℕ) (all : Bool) (i : ℕ) : Type 0 where
+  pub few : i ≤ 16
+  pub each : all ≡ true → Unseen l un x (x + i)
+
+and-both : (a b : Bool) → (a && b) ≡ true → (a ≡ true) × (b ≡ true)
+and-both true b e = (refl, e)
+and-both false b e = absurd (false≢true e)
+
+pub clear-begun : (l un : List ℕ) (x : ℕ) → Cleared l un x true 0
+clear-begun l un x = record { few = omega arith; each = λ e. unseen-none l un x (x + 0) (omega arith) }
+
+pub clear-more : (l : List ℕ) (u x : ℕ) (all : Bool) (i w : ℕ) → Cleared l (octetsOf u) x all i → i < 16 → octetsOf w ≡ fourFrom l ((x + i) * 4)
+    → Cleared l (octetsOf u) x (all && eqb w u) (i + 1)
+clear-more l u x all i w c h k =
+    record {
+      few = omega arith;
+      each = λ e.
+          let b = and-both all (eqb w u) e in
+          let z : x + i + 1 ≡ x + (i + 1) = omega arith in
+          subst (Unseen l (octetsOf u) x) z (unseen-chain l (octetsOf u) x (x + i) (x + i + 1) (c .each (b .0)) (unseen-one l (x + i) w u k (eqb-true w u (b .1))));
+    }
+
+pub clear-all : (l un : List ℕ) (x : ℕ) (all : Bool) (i : ℕ) → Cleared l un x all i → 16 ≤ i → all ≡ true → Unseen l un x (x + 16)
+clear-all l un x all i c h e = let f = c .few in let z : x + i ≡ x + 16 = omega arith in subst (Unseen l un x) z (c .each e)
+
+pub ruleset clearing = (needs, clear-begun, clear-more, clear-all)
+
+pub record Fading (l un : List ℕ) (x e p : ℕ) : Type 0 where
+  pub from : x ≤ p
+  pub upto : p ≤ e
+  pub each : Unseen l un x p
+
+module _ (l un : List ℕ) (x e : ℕ) where
+  pub fade-begun : x ≤ e → Fading l un x e x
+  fade-begun h = record { from = omega arith; upto = h; each = unseen-none l un x x (omega arith) }
+
+  pub fade-seen : false ≡ true → Unseen l un x e
+  fade-seen f = absurd (false≢true f)
+
+  pub fade-all : (p : ℕ) → Fading l un x e p → e ≤ p → true ≡ true → Unseen l un x e
+  fade-all p c h f = let a = c .upto in let z : p ≡ e = omega arith in subst (Unseen l un x) z (c .each)
+
+  pub fade-block : (p : ℕ) (b : Bool) → Fading l un x e p → 16 ≤ e - p → (b ≡ true → Unseen l un p (p + 16)) → not b ≡ false → Fading l un x e (p + 16)
+  fade-block p true c h g f = let a = c .from in record { from = omega arith; upto = omega arith; each = unseen-chain l un x p (p + 16) (c .each) (g refl) }
+  fade-block p false c h g f = absurd (false≢true (sym f))
+
+  pub fade-rest : (p : ℕ) (b : Bool) → Fading l un x e p → (b ≡ true → Unseen l un p e) → b ≡ true → Unseen l un x e
+  fade-rest p b c g f = unseen-chain l un x p e (c .each) (g f)
+
+pub fade-more : (l : List ℕ) (u x e p w : ℕ) → Fading l (octetsOf u) x e p → p < e → octetsOf w ≡ fourFrom l (p * 4) → w ≡ u
+    → Fading l (octetsOf u) x e (p + 1)
+fade-more l u x e p w c h k f =
+    let a = c .from in
+    record { from = omega arith; upto = omega arith; each = unseen-chain l (octetsOf u) x p (p + 1) (c .each) (unseen-one l p w u k f) }
+
+pub ruleset fading = (needs, fade-begun, fade-seen, fade-all, fade-block, fade-rest, fade-more)
+
+pub rest-unseen : (sel : List ℕ) (a j : ℕ) (un l : List ℕ) (x e : ℕ) (b : Bool) → (b ≡ true → Unseen l un x e) → b ≡ true → true ≡ true → Settled sel a j un l x e
+rest-unseen sel a j un l x e b g f t = record { there = λ y p q. inl (g f .there y p q) }
+
+pub rest-above : (sel : List ℕ) (a j : ℕ) (un l : List ℕ) (x e : ℕ) (b : Bool) → a ≤ x → (b ≡ false → Above sel j (x - a) (e - a)) → not b ≡ true
+    → Settled sel a j un l x e
+rest-above sel a j un l x e true h g f = absurd (false≢true f)
+rest-above sel a j un l x e false h g f = record { there = λ y p q. inr (g refl .there (y - a) (omega arith) (omega arith)) }
+
+pub ruleset resting = (needs, rest-unseen, rest-above)
+
 -- ---- the layer's row, compared
 
 pub part-settled : (sel : List ℕ) (a j : ℕ) (up : ℕ → List ℕ) (un : List ℕ) (x e : ℕ) (l o row₀ row₁ : List ℕ) → a ≤ x → x ≤ e
@@ -160,15 +249,59 @@ pub ruleset parting = (needs, part-settled)
 
 -- ---- part by part
 
--- where no floor is below, each pixel stays
-kept : (sel : List ℕ) (a j : ℕ) (up : ℕ → List ℕ) (un l : List ℕ) (x e : ℕ) → a ≤ x → Above sel j (x - a) (e - a) → Coated (settles sel a j up un) l x e l
-unfolding settles
-kept sel a j up un l x e h g =
+-- two pixels of the same four octets are one
+same-four : (v w : List ℕ) → fourFrom v 0 ≡ v → fourFrom w 0 ≡ w → sameFour v w ≡ true → v ≡ w
+unfolding sameFour fourFrom
+same-four v w f g e =
+    let k = says-and
+    (says-and
+    (says-and (says-eq (getD v 0 0) (getD w 0 0)) (says-eq (getD v 1 0) (getD w 1 0)))
+    (says-eq (getD v 2 0) (getD w 2 0)))
+    (says-eq (getD v 3 0) (getD w 3 0)) .told e in
+    let a = k .0 .0 .0 in
+    let b = k .0 .0 .1 in
+    let c = k .0 .1 in
+    let d = k .1 in
+    cc
+
+four-again : (l : List ℕ) (i : ℕ) → fourFrom (fourFrom l i) 0 ≡ fourFrom l i
+unfolding fourFrom
+four-again l i = refl
+
+shown-four : (u : ℕ) (v : Sample) → fourFrom (shownFour (octetsOf u) v) 0 ≡ shownFour (octetsOf u) v
+unfolding fourFrom shownFour octetsOf
+shown-four u (Known c) = refl
+shown-four u Unknown = refl
+
+-- what is unseen stays so
+unseen-agreed : (up un old : List ℕ) → fourFrom up 0 ≡ up → fourFrom old 0 ≡ old → old ≡ un → old ≡ agreed up un old
+unfolding agreed
+unseen-agreed up un old f g e = by-test (sameFour old up) refl
+  where
+    by-test : (z : Bool) → z ≡ sameFour old up → old ≡ cond z up un
+    by-test true k = same-four old up g f (sym k)
+    by-test false k = e
+
+cond-same : (z : Bool) (v w : List ℕ) → w ≡ v → w ≡ cond z v w
+cond-same true v w e = e
+cond-same false v w e = refl
+
+-- where it is unseen, or no floor is below, each pixel stays
+kept : (sel : List ℕ) (a j : ℕ) (u : ℕ) (s d : List ℕ) (r : Row) (l : List ℕ) (x e : ℕ) → Settled sel a j (octetsOf u) l x e
+    → Coated (settles sel a j (imageFrom (octetsOf u) s d r) (octetsOf u)) l x e l
+unfolding settles imageFrom
+kept sel a j u s d r l x e g =
     record {
       long = refl;
       there = λ y p q.
-          ap (λ (z : Bool). cond z (agreed (up y) un (fourFrom l (y * 4))) (fourFrom l (y * 4)))
-          (sym (le-ltb (getD sel (y - a) 0) j (g .there (y - a) (omega arith) (omega arith))));
+          let z = ltb (getD sel (y - a) 0) j in
+          let up = shownFour (octetsOf u) (rowImage s d r (record { 0 = y })) in
+          let old = fourFrom l (y * 4) in
+          ⊎-elim
+          (λ (k : old ≡ octetsOf u). cond-same z (agreed up (octetsOf u) old) old
+          (unseen-agreed up (octetsOf u) old (shown-four u (rowImage s d r (record { 0 = y }))) (four-again l (y * 4)) k))
+          (λ (k : j ≤ getD sel (y - a) 0). ap (λ (b : Bool). cond b (agreed up (octetsOf u) old) old) (sym (le-ltb (getD sel (y - a) 0) j k)))
+          (g .there y p q);
       before = λ i k. refl;
       behind = λ i k. refl;
     }
@@ -193,13 +326,15 @@ module _ (f : ℕ → List ℕ → List ℕ) (l : List ℕ) (x0 x1 : ℕ) (row�
   pub settle-end : (out row : List ℕ) (x : ℕ) → Settling f l x0 x1 row₀ out row x → x1 ≤ x → Coated f l x0 x1 out
   settle-end out row x c h = let u = c .upto in let z : x ≡ x1 = omega arith in subst (λ (i : ℕ). Coated f l x0 i out) z (c .done)
 
-module _ (sel : List ℕ) (a j : ℕ) (up : ℕ → List ℕ) (un l : List ℕ) (x0 x1 : ℕ) (row₀ out row : List ℕ) (x : ℕ) where
-  pub settle-pass : (most f : ℕ) (b : Bool) → Settling (settles sel a j up un) l x0 x1 row₀ out row x → a ≤ x0 → (x < most) × (most ≤ x1) × (most ≤ x + 512)
-      → (x < f) × (f ≤ most) × (f ≤ x + 64) → (b ≡ false → Above sel j (x - a) (f - a)) → b ≡ false → Settling (settles sel a j up un) l x0 x1 row₀ out row f
-  settle-pass most f b c h p q g e =
-      let i = c .from in
-      settle-more (settles sel a j up un) l x0 x1 row₀ out row out row x f c (omega arith) (omega arith) (kept sel a j up un out x f (omega arith) (g e)) refl
+pub settle-pass : (sel : List ℕ) (a j u : ℕ) (s d : List ℕ) (r : Row) (l : List ℕ) (x0 x1 : ℕ) (row₀ out row : List ℕ) (x most f : ℕ) (b : Bool)
+    → Settling (settles sel a j (imageFrom (octetsOf u) s d r) (octetsOf u)) l x0 x1 row₀ out row x
+    → (x < most) × (most ≤ x1) × (most ≤ x + 512) → (x < f) × (f ≤ most) × (f ≤ x + 64) → (b ≡ true → Settled sel a j (octetsOf u) out x f) → b ≡ true
+    → Settling (settles sel a j (imageFrom (octetsOf u) s d r) (octetsOf u)) l x0 x1 row₀ out row f
+settle-pass sel a j u s d r l x0 x1 row₀ out row x most f b c p q g e =
+    settle-more (settles sel a j (imageFrom (octetsOf u) s d r) (octetsOf u)) l x0 x1 row₀ out row out row x f c (omega arith) (omega arith)
+    (kept sel a j u s d r out x f (g e)) refl
 
+module _ (sel : List ℕ) (a j : ℕ) (up : ℕ → List ℕ) (un l : List ℕ) (x0 x1 : ℕ) (row₀ out row : List ℕ) (x : ℕ) where
   pub settle-part : (most f e : ℕ) (new row′ : List ℕ) → Settling (settles sel a j up un) l x0 x1 row₀ out row x → a ≤ x0
       → (x < most) × (most ≤ x1) × (most ≤ x + 512) → (x < f) × (f ≤ most) × (f ≤ x + 64) → (f - a ≤ e) × (e ≤ most - a)
       → Coated (settles sel a j up un) out x (a + e) new → length row′ ≡ length row → Settling (settles sel a j up un) l x0 x1 row₀ new row′ (a + e)

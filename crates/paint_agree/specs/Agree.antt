@@ -5,7 +5,11 @@
 --   agreeing           where the floor is below pair j, what the pixel and that of a row agree on
 --   settles            the same, the layer's pixels being told by a function
 --   Above sel j p q    no floor among p up to q is below pair j
+--   Unseen l un p q    the pixels p up to q are the unseen one
+--   Settled            each of the pixels x up to e is the unseen one, or its floor is not below pair j
 use Prim.Native.Nat.{ℕ, _+_, _-_, _*_, _≤_, _<_}
+use mathlib.Core.Path.{_≡_}
+use mathlib.Core.Logic.{_⊎_}
 use mathlib.Core.Bool.{Bool, _&&_, cond}
 use mathlib.Core.List.{List}
 use lib.ListN.{getD}
@@ -29,3 +33,10 @@ settles sel a j up un x old = cond (ltb (getD sel (x - a) 0) j) (agreed (up x) u
 
 pub record Above (sel : List ℕ) (j p q : ℕ) : Type 0 where
   pub there : (i : ℕ) → p ≤ i → i < q → j ≤ getD sel i 0
+
+pub record Unseen (l un : List ℕ) (p q : ℕ) : Type 0 where
+  pub there : (x : ℕ) → p ≤ x → x < q → fourFrom l (x * 4) ≡ un
+
+-- the floors start at pixel a
+pub record Settled (sel : List ℕ) (a j : ℕ) (un l : List ℕ) (x e : ℕ) : Type 0 where
+  pub there : (y : ℕ) → x ≤ y → y < e → (fourFrom l (y * 4) ≡ un) ⊎ (j ≤ getD sel (y - a) 0)

@@ -1,7 +1,7 @@
 // Pixels under a mask that was not read: pair j's image layer shows there or does not. So a pixel whose floor is below pair j stays what it is where the
 // layer has the same four octets, and is unseen where it has not.
 ghost use mathlib.Core.Path.{_≡_};
-ghost use mathlib.Core.Bool.{false, cond};
+ghost use mathlib.Core.Bool.{true, false, cond};
 ghost use Prim.Native.Nat.{_+_, _-_, _*_, _<_, _≤_};
 ghost use lib.ListN.{length};
 ghost use lib.Dec.{ltb};
@@ -9,7 +9,7 @@ ghost use Rattle.line_fetch.specs.Rows.{ImageFits};
 ghost use Rattle.paint_words.specs.Words.{octetsOf};
 ghost use Rattle.paint_coat.specs.Coat.{Coated};
 ghost use Rattle.paint_image.specs.Image.{imageFrom, Plain};
-ghost use Rattle.paint_agree.specs.Agree.{agreeing, settles, Above};
+ghost use Rattle.paint_agree.specs.Agree.{agreeing, settles, Above, Unseen, Settled};
 use line_fetch::Row;
 
 // Both numbers are at hand, so that the compiler need not branch.
@@ -67,6 +67,60 @@ fn below(sel: &[u8], j: u8, p: usize, q: usize) -> bool
     false
 }
 
+// All sixteen from x on are looked at, as in `below64`: four pixels are compared at a time.
+fn unseen16(out: &[u8], x: usize, u: u32) -> bool
+    requires { ⌜ (x + 16) * 4 ≤ length (now out) ⌝ }
+    ensures { λ r. ⌜ (r ≡ true → Unseen (now (out .entry)) (octetsOf u) x (x + 16)) ⌝ }
+{
+    let mut all = true;
+    let mut i = 0;
+    while i < 16 {
+        all = all & (paint_words::word(out, (x + i) * 4) == u);
+        i += 1;
+    }
+    all
+}
+
+fn unseen_end(out: &[u8], x: usize, e: usize, u: u32) -> bool
+    requires { ⌜ (x ≤ e) × (e * 4 ≤ length (now out)) ⌝ }
+    ensures { λ r. ⌜ (r ≡ true → Unseen (now (out .entry)) (octetsOf u) x e) ⌝ }
+{
+    let mut p = x;
+    while p < e {
+        if paint_words::word(out, p * 4) != u {
+            return false;
+        }
+        p += 1;
+    }
+    true
+}
+
+// Are the pixels x up to e unseen? Where they are not, most often the first sixteen tell.
+fn unseen(out: &[u8], x: usize, e: usize, u: u32) -> bool
+    requires { ⌜ (x ≤ e) × (e * 4 ≤ length (now out)) ⌝ }
+    ensures { λ r. ⌜ (r ≡ true → Unseen (now (out .entry)) (octetsOf u) x e) ⌝ }
+{
+    let mut p = x;
+    while 16 <= e - p {
+        if !unseen16(out, p, u) {
+            return false;
+        }
+        p += 16;
+    }
+    unseen_end(out, p, e, u)
+}
+
+// Do the pixels x up to e stay as they are, whatever the layer has? Those that are unseen do, and those whose floor is not below pair j.
+fn settled(out: &[u8], sel: &[u8], j: u8, a: usize, x: usize, e: usize, u: u32) -> bool
+    requires { ⌜ (a ≤ x) × (x ≤ e) × (e * 4 ≤ length (now out)) × (e - a ≤ length (now sel)) ⌝ }
+    ensures { λ r. ⌜ (r ≡ true → Settled (now (sel .entry)) a j (octetsOf u) (now (out .entry)) x e) ⌝ }
+{
+    if unseen(out, x, e, u) {
+        return true;
+    }
+    !below(sel, j, x - a, e - a)
+}
+
 // A step of n, or of what is left.
 fn ahead(x: usize, n: usize, to: usize) -> usize
     requires { ⌜ (x < to) × (0 < n) ⌝ }
@@ -115,7 +169,7 @@ fn agree_part(
     agree_words(out, sel, x - a, j, row, x, e, u);
 }
 
-// The floors are those of the pixels from a on, `row` is for work. A stretch without any floor below pair j costs the test alone.
+// The floors are those of the pixels from a on, `row` is for work. A stretch that stays as it is costs the test alone.
 pub fn agree_image(
     out: &mut [u8],
     sel: &[u8],
@@ -138,12 +192,12 @@ pub fn agree_image(
     while x < x1 {
         let most = ahead(x, 512, x1);
         let f = ahead(x, 64, most);
-        if below(sel, j, x - a, f - a) {
+        if settled(out, sel, j, a, x, f, u) {
+            x = f;
+        } else {
             let e = a + below_end(sel, j, f - a, most - a);
             agree_part(out, sel, j, row, s, d, r, a, x, e, u);
             x = e;
-        } else {
-            x = f;
         }
     }
 }

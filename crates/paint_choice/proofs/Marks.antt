@@ -1,6 +1,6 @@
 -- Octets marked under a mask, one by one and in parts; samples spread.
 -- Assumes nothing.
-use Prim.Native.Nat.{ℕ, _+_, _-_, _*_, _/_, _≤_, _<_}
+use Prim.Native.Nat.{ℕ, _+_, _-_, _*_, _/_, _%_, _≤_, _<_}
 use native.Mathlib.Omega.{arith}
 use native.Mathlib.Nat.{div-eq-of-lt-le, mul-le-mul-right, add-mul, one-mul}
 use mathlib.Core.Path.{_≡_, refl, sym, ap, subst, _∙_}
@@ -147,16 +147,60 @@ spread-two m i n l e q c h =
     let k = marking-end (ever 1) e (q * 2) (q * 2 + 2) (getD m (i + q) 0) (set (set e (q * 2) (getD m (i + q) 0)) (q * 2 + 1) (getD m (i + q) 0)) (q * 2 + 1 + 1) t (omega arith) in
     subst (λ (p : ℕ). Spreading m i 2 n l (set (set e (q * 2) (getD m (i + q) 0)) (q * 2 + 1) (getD m (i + q) 0)) (q + 1) p) w (spread-more m i 2 n l e q (q * 2) c _ h k)
 
-pub spread-zero : (m : List ℕ) (i n : ℕ) (l : List ℕ) → n * 2 ≤ length l → Spreading m i 2 n l l 0 (0 * 2)
-spread-zero m i n l h = let z : 0 ≡ 0 * 2 = omega arith in subst (λ (p : ℕ). Spreading m i 2 n l l 0 p) z (spread-begun m i 2 n l (omega arith) h)
+pub spread-zero : (m : List ℕ) (i k n : ℕ) (l : List ℕ) → 0 < k → n * k ≤ length l → Spreading m i k n l l 0 (0 * k)
+spread-zero m i k n l s h = let z : 0 ≡ 0 * k = omega arith in subst (λ (p : ℕ). Spreading m i k n l l 0 p) z (spread-begun m i k n l s h)
 
-pub spread-twice : (m : List ℕ) (i n : ℕ) (l e : List ℕ) (q : ℕ) → Spreading m i 2 n l e q (q * 2) → n ≤ q → Spread m i 2 n l e
-spread-twice m i n l e q c h = spread-end m i 2 n l e q (q * 2) c h
+pub spread-done : (m : List ℕ) (i k n : ℕ) (l e : List ℕ) (q : ℕ) → Spreading m i k n l e q (q * k) → n ≤ q → Spread m i k n l e
+spread-done m i k n l e q c h = spread-end m i k n l e q (q * k) c h
 
 pub spread-first : (m : List ℕ) (i n : ℕ) (l e : List ℕ) (q : ℕ) → Spreading m i 2 n l e q (q * 2) → q < n → q * 2 + 1 < length e
 spread-first m i n l e q c h = let r = c .room in let g = c .done .long in omega arith
 
-pub ruleset twice = (needs, spread-zero, spread-two, spread-twice, spread-first)
+pub ruleset twice = (needs, spread-zero, spread-two, spread-done, spread-first)
+
+-- one value as the two octets of a number
+pub put-two : (l : List ℕ) (p v w : ℕ) → p + 2 ≤ length l → (w ≡ v) × (w < 256) → Marked (ever 1) l p (p + 2) v (set (set l p (w * 257 % 256)) (p + 1) (w * 257 / 256))
+put-two l p v w h e =
+    let a : w * 257 % 256 ≡ v = omega arith in
+    let b : w * 257 / 256 ≡ v = omega arith in
+    let o = marking-more (ever 1) l p (p + 2) v l p (w * 257 % 256) (a ∙ ever-is p (getD l p 0) v) (omega arith) (marking-begun (ever 1) l p (p + 2) v (omega arith) h) in
+    let t = marking-more (ever 1) l p (p + 2) v (set l p (w * 257 % 256)) (p + 1) (w * 257 / 256)
+    (b ∙ ever-is (p + 1) (getD (set l p (w * 257 % 256)) (p + 1) 0) v) (omega arith) o in
+    marking-end (ever 1) l p (p + 2) v (set (set l p (w * 257 % 256)) (p + 1) (w * 257 / 256)) (p + 1 + 1) t (omega arith)
+
+pub two-room : (l : List ℕ) (p w : ℕ) → p + 2 ≤ length l → p + 1 < length (set l p w)
+two-room l p w h = let n = length-set l p w in omega arith
+
+pub ruleset putting = (needs, put-two, two-room)
+
+-- one fill behind the other
+fill-chain : (l e g : List ℕ) (p i q v : ℕ) → p ≤ i → i ≤ q → Marked (ever 1) l p i v e → Marked (ever 1) e i q v g → Marked (ever 1) l p q v g
+unfolding ever
+fill-chain l e g p i q v a b c k =
+    record {
+      long = k .long ∙ c .long;
+      there = λ x r s. ⊎-elim
+          (λ (z : x < i). k .before x z ∙ c .there x r z)
+          (λ (z : x < i → ⊥). k .there x (omega arith) s)
+          (says-else (says-lt x i));
+      before = λ x r. k .before x (omega arith) ∙ c .before x r;
+      behind = λ x r. k .behind x r ∙ c .behind x (omega arith);
+    }
+
+-- four times, by two such stores
+pub spread-four : (m : List ℕ) (i n : ℕ) (l e o g : List ℕ) (q : ℕ) → Spreading m i 4 n l e q (q * 4) → q < n → Marked (ever 1) e (q * 4) (q * 4 + 2) (getD m (i + q) 0) o
+    → Marked (ever 1) o (q * 4 + 2) (q * 4 + 2 + 2) (getD m (i + q) 0) g → Spreading m i 4 n l g (q + 1) ((q + 1) * 4)
+spread-four m i n l e o g q c h a b =
+    let z : q * 4 + 2 + 2 ≡ q * 4 + 4 = omega arith in
+    let w : q * 4 + 4 ≡ (q + 1) * 4 = omega arith in
+    let k = fill-chain e o g (q * 4) (q * 4 + 2) (q * 4 + 2 + 2) (getD m (i + q) 0) (omega arith) (omega arith) a b in
+    subst (λ (p : ℕ). Spreading m i 4 n l g (q + 1) p) w
+    (spread-more m i 4 n l e q (q * 4) c g h (subst (λ (p : ℕ). Marked (ever 1) e (q * 4) p (getD m (i + q) 0) g) z k))
+
+pub four-room : (m : List ℕ) (i n : ℕ) (l e : List ℕ) (q : ℕ) → Spreading m i 4 n l e q (q * 4) → q < n → q * 4 + 2 + 2 ≤ length e
+four-room m i n l e q c h = let r = c .room in let g = c .done .long in omega arith
+
+pub ruleset fourfold = (needs, spread-zero, spread-done, four-room)
 
 pub ruleset spreading = (needs, spread-begun, spread-room, spread-end)
 

@@ -22,14 +22,14 @@ ahead-requires c κs = search settling
 ahead-requires-2 : tie.Need-ahead-requires-2 Inv-loop μ-loop
 ahead-requires-2 c κs = search settling
 
-sub-below : tie.Need-sub-below Inv-loop μ-loop
-sub-below c = search settling
+settled-requires : tie.Need-settled-requires Inv-loop μ-loop
+settled-requires c κs = search settling
 
-sub-below-2 : tie.Need-sub-below-2 Inv-loop μ-loop
-sub-below-2 c = search settling
+loop-less : tie.Need-loop-less Inv-loop μ-loop
+loop-less c = search settling
 
-below-requires : tie.Need-below-requires Inv-loop μ-loop
-below-requires c κs = search settling
+loop-again : tie.Need-loop-again Inv-loop μ-loop
+loop-again c = settle-pass _ _ _ _ _ _ _ _ _ _ _ _ _ _ _ _ _ (c .before .before .before .before .before .before .loop .inv) (c .before .before .before .before .ahead .ensures) (c .before .before .before .ahead2 .ensures) (c .before .settled .ensures) (c .if1 .taken)
 
 sub-below-end : tie.Need-sub-below-end Inv-loop μ-loop
 sub-below-end c = search settling
@@ -44,19 +44,13 @@ add-e : tie.Need-add-e Inv-loop μ-loop
 add-e c = search settling
 
 agree-part-requires : tie.Need-agree-part-requires Inv-loop μ-loop
-agree-part-requires c κs = (c .before .before .before .before .before .before .before .before .before .before .before .before .before .before .pre .0, c .before .before .before .before .before .before .before .before .before .before .before .before .before .before .pre .1, omega arith, omega arith, omega arith, omega arith, omega arith, omega arith)
-
-loop-less : tie.Need-loop-less Inv-loop μ-loop
-loop-less c = search settling
-
-loop-again : tie.Need-loop-again Inv-loop μ-loop
-loop-again c = settle-part _ _ _ _ _ _ _ _ _ _ _ _ _ _ _ _ _ (c .before .before .before .before .before .before .before .before .before .before .before .before .before .loop .inv) (c .before .before .before .before .before .before .before .before .before .before .before .before .before .before .before .before .before .before .before .pre .2) (c .before .before .before .before .before .before .before .before .before .before .before .ahead .ensures) (c .before .before .before .before .before .before .before .before .before .before .ahead2 .ensures) (c .before .before .before .before .before .before .before .below-end .ensures) (c .before .before .before .before .agree-part .ensures) (c .before .row .given)
+agree-part-requires c κs = (c .before .before .before .before .before .before .before .before .before .before .before .before .before .before .before .pre .0, c .before .before .before .before .before .before .before .before .before .before .before .before .before .before .before .pre .1, omega arith, omega arith, omega arith, omega arith, omega arith, omega arith)
 
 loop-less-2 : tie.Need-loop-less-2 Inv-loop μ-loop
 loop-less-2 c = search settling
 
 loop-again-2 : tie.Need-loop-again-2 Inv-loop μ-loop
-loop-again-2 c = settle-pass _ _ _ _ _ _ _ _ _ _ _ _ _ _ _ (c .before .before .before .before .before .loop .inv) (c .before .before .before .before .before .before .before .before .before .before .before .pre .2) (c .before .before .before .ahead .ensures) (c .before .before .ahead2 .ensures) (c .before .below .ensures) (c .if1 .left)
+loop-again-2 c = settle-part _ _ _ _ _ _ _ _ _ _ _ _ _ _ _ _ _ (c .before .before .before .before .before .before .before .before .before .before .before .before .before .before .loop .inv) (c .before .before .before .before .before .before .before .before .before .before .before .before .before .before .before .before .before .before .before .before .pre .2) (c .before .before .before .before .before .before .before .before .before .before .before .before .ahead .ensures) (c .before .before .before .before .before .before .before .before .before .before .before .ahead2 .ensures) (c .before .before .before .before .before .before .before .below-end .ensures) (c .before .before .before .before .agree-part .ensures) (c .before .row .given)
 
 same-length : tie.Need-same-length Inv-loop μ-loop
 same-length c = search settling
@@ -76,16 +70,14 @@ agree-image-spec =
     loop-holds
     ahead-requires
     ahead-requires-2
-    sub-below
-    sub-below-2
-    below-requires
+    settled-requires
+    loop-less
+    loop-again
     sub-below-end
     sub-below-end-2
     below-end-requires
     add-e
     agree-part-requires
-    loop-less
-    loop-again
     loop-less-2
     loop-again-2
     same-length

@@ -3,75 +3,57 @@ use borrow.Author.Needs.{needs}
 use Rattle.paint_choice.proofs.lay_bits.Statement.{statement}
 use Rattle.paint_choice.proofs.lay_bits.Tie as tie
 
--- src/lib.rt:73:14
 bits-twice-requires : tie.Need-bits-twice-requires
 bits-twice-requires c κs = search ratios
 
--- src/lib.rt:74:14
 bits-by-requires : tie.Need-bits-by-requires
 bits-by-requires c κs = search ratios
 
--- src/lib.rt:75:14
+bits-four-requires : tie.Need-bits-four-requires
+bits-four-requires c κs = search ratios
+
 bits-by-requires-2 : tie.Need-bits-by-requires-2
 bits-by-requires-2 c κs = search ratios
 
--- src/lib.rt:76:14
 bits-by-requires-3 : tie.Need-bits-by-requires-3
 bits-by-requires-3 c κs = search ratios
 
--- src/lib.rt:77:15
 bits-by-requires-4 : tie.Need-bits-by-requires-4
-bits-by-requires-4 c κs = search ratios
+bits-by-requires-4 c κs = search needs
 
--- src/lib.rt:78:14
-bits-by-requires-5 : tie.Need-bits-by-requires-5
-bits-by-requires-5 c κs = search needs
-
--- src/lib.rt:68:1
 same-length : tie.Need-same-length
 same-length c = search needs
 
--- src/lib.rt:68:1
 returns : tie.Need-returns
 returns c = search ratios
 
--- src/lib.rt:68:1
 same-length-2 : tie.Need-same-length-2
 same-length-2 c = search needs
 
--- src/lib.rt:68:1
 returns-2 : tie.Need-returns-2
 returns-2 c = search ratios
 
--- src/lib.rt:68:1
 same-length-3 : tie.Need-same-length-3
 same-length-3 c = search needs
 
--- src/lib.rt:68:1
 returns-3 : tie.Need-returns-3
 returns-3 c = search ratios
 
--- src/lib.rt:68:1
 same-length-4 : tie.Need-same-length-4
 same-length-4 c = search needs
 
--- src/lib.rt:68:1
 returns-4 : tie.Need-returns-4
 returns-4 c = search ratios
 
--- src/lib.rt:68:1
 same-length-5 : tie.Need-same-length-5
 same-length-5 c = search needs
 
--- src/lib.rt:68:1
 returns-5 : tie.Need-returns-5
 returns-5 c = search ratios
 
--- src/lib.rt:68:1
 same-length-6 : tie.Need-same-length-6
 same-length-6 c = search needs
 
--- src/lib.rt:68:1
 returns-6 : tie.Need-returns-6
 returns-6 c = search needs
 
@@ -81,10 +63,10 @@ lay-bits-spec =
     (tie.spec
     bits-twice-requires
     bits-by-requires
+    bits-four-requires
     bits-by-requires-2
     bits-by-requires-3
     bits-by-requires-4
-    bits-by-requires-5
     same-length
     returns
     same-length-2
