@@ -5,6 +5,7 @@ import errno
 import fcntl
 import os
 import random
+import select
 import shutil
 import signal
 import stat
@@ -14,8 +15,6 @@ import tempfile
 import time
 
 import files_kit
-import page_making
-import test_outside
 from files_kit import OUTPUTS, Run, found, old_octets, put_old
 from make_kit import read, write
 
@@ -279,11 +278,35 @@ def check_random_signals(tally, folder, rng, rounds):
                         number, status, {name: octets[:20] for name, octets in there.items()}))
 
 
-def slow_page():
-    """A page that is composed for seconds: one image in its corner, and much paper."""
-    return (page_making.start(mask=4, main=300, width=32768)
-            + page_making.stripe(type=4, x1=0, y1=0, x3=0, y3=0, height=60000, mask=0)
-            + test_outside.stored()["cjpeg.jpg"].octets + b"\xff\xd9\xff\xd9")
+class Held:
+    """A run that stands still unless its lines are taken: its standard output has room for one of them, and
+    who takes a line lets it go on to the line after the next."""
+
+    def __init__(self, words, inner):
+        self.end, theirs = os.pipe2(os.O_DIRECT | os.O_CLOEXEC)     # each write is a packet, in a page of its own
+        fcntl.fcntl(theirs, fcntl.F_SETPIPE_SZ, 1)                  # one page, the least there is
+        self.run = subprocess.Popen(words, cwd=inner, stdout=theirs, stderr=subprocess.DEVNULL, stdin=subprocess.DEVNULL)
+        os.close(theirs)
+
+    def line(self):
+        """The next line; none where the run has ended, or tells nothing any more."""
+        ready = select.select([self.end], [], [], files_kit.SECONDS)[0]
+        return os.read(self.end, select.PIPE_BUF) if ready else b""
+
+    def killed(self):
+        self.run.kill()
+        os.close(self.end)
+        return self.run.wait()
+
+
+def noise_page(folder):
+    """A page of two stripes of noise: what is shown of one is over 256 KiB however it is compressed, and so many
+    the viewer collects before it writes. At the second stripe a part of the picture is in its file."""
+    inner = folder.sub("noise")
+    write(os.path.join(inner, "m.pbm"), b"P4 2048 1040\n" + random.Random(7).randbytes(2048 * 1040 // 8))
+    write(os.path.join(inner, "p.plan"), "resolution 400\n" + 2 * "stripe\nmask m.pbm\n")
+    ran = Run([files_kit.MAKE, "p.plan", "-o", "p.page"], inner)
+    return read(os.path.join(inner, "p.page")) if ran.status == 0 else b""
 
 
 def check_nameless(tally):
@@ -295,17 +318,17 @@ def check_nameless(tally):
         return
     folder = files_kit.Folder(within)
     inner = folder.sub("slow")
-    write(os.path.join(inner, "in.page"), slow_page())
+    write(os.path.join(inner, "in.page"), noise_page(folder))
     for olds in (("a.png",), ()):
         numbers = put_old(inner, olds)
-        run = subprocess.Popen(folder.showing(), cwd=inner, stdout=subprocess.DEVNULL)
-        until, seen = time.monotonic() + 0.7, set()
-        while time.monotonic() < until:
+        held, line, seen = Held(folder.showing(), inner), b".", set()
+        while line and b": stripe 1, layer 1: " not in line:
+            line = held.line()
             seen.update(name for name in os.listdir(inner) if name not in files_kit.READ)
-            time.sleep(0.002)
-        tally.check(run.poll() is None and seen == set(olds), "during a run there were %s" % seen)
-        run.kill()
-        run.wait()
+        # it tells two more lines before it shows this stripe, and there is room for one
+        tally.check(line and seen == set(olds), "during a run there were %s; it told %s" % (seen, line))
+        status = held.killed()
+        tally.check(status == -signal.SIGKILL, "SIGKILL during a run: status %s" % status)
         check_old(tally, inner, numbers, "SIGKILL during a run")
 
 
