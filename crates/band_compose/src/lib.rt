@@ -1,6 +1,6 @@
 // A band of pixels, all lines of a stripe: the verdict, then the room, then line after line. So a refusal changes nothing that was lent.
 ghost use mathlib.Core.Path.{_≡_};
-ghost use Prim.Native.Nat.{_*_, _<_};
+ghost use Prim.Native.Nat.{_*_, _<_, _≤_};
 ghost use lib.ListN.{length};
 ghost use Rattle.octets.specs.Octets.{putAt};
 ghost use Rattle.pixel_rules.specs.Planes.{listOf};
@@ -14,6 +14,10 @@ use line_lanes::LANES_SIZE;
 use line_planes::Listing;
 use line_planes::PLANE_SIZE;
 use line_verdict::Ruled;
+use paint_gather::FLOORS;
+use paint_gather::TABLE;
+use paint_line::BITS;
+use paint_line::PART;
 use pixel_rules::MainPos;
 use sheet_rules::Colour;
 use sheet_rules::Extent;
@@ -32,6 +36,11 @@ pub fn put_line(
     out: &mut [u8],
     at: usize,
     rows: &mut [usize],
+    sel: &mut [u8],
+    bits: &mut [u8],
+    row: &mut [u8],
+    t: &mut [usize],
+    lit: &mut [u8],
     lanes: &[usize],
     sheet: &[u8],
     extent: Extent,
@@ -40,12 +49,26 @@ pub fn put_line(
     width: usize,
     unseen: Colour,
 )
-    requires { ⌜ SomeLineFits (now sheet) extent (now samples) (now lanes) y width at (length (now out)) (length (now rows)) ⌝ }
+    requires { ⌜ SomeLineFits (now sheet) extent (now samples) (now lanes) y width at (length (now out)) (length (now rows))
+        × (2048 ≤ length (now sel)) × (2072 ≤ length (now bits)) × (2048 ≤ length (now row)) × (192 ≤ length (now t)) × (16 ≤ length (now lit)) ⌝ }
     ensures { λ _. ⌜ LinePut unseen (now (sheet .entry)) extent (now (samples .entry)) (now (lanes .entry)) y width at (length (now (rows .entry))) (now (out .entry)) (now (out .exit)) ⌝ }
 {
     let n = extent.layers as usize;
     line_lanes::lane_rows(rows, lanes, n, MainPos(y));
-    paint_line::paint_line(&mut out[at..], sheet, samples, rows, n / 2, width, unseen);
+    paint_line::paint_line(
+        &mut out[at..],
+        sel,
+        bits,
+        row,
+        t,
+        lit,
+        sheet,
+        samples,
+        rows,
+        n / 2,
+        width,
+        unseen,
+    );
 }
 
 // All lines of a stripe that is to be shown, one behind the other.
@@ -66,6 +89,11 @@ pub fn put_lines(
     let mut lanes: [usize; LANES_SIZE] = [0; LANES_SIZE];
     line_lanes::put_lanes(&mut lanes, sheet, extent, list);
     let mut rows: [usize; ROWS_SIZE] = [0; ROWS_SIZE];
+    let mut sel: [u8; PART] = [0; PART];
+    let mut bits: [u8; BITS] = [0; BITS];
+    let mut row: [u8; PART] = [0; PART];
+    let mut t: [usize; TABLE] = [0; TABLE];
+    let mut lit: [u8; FLOORS] = [0; FLOORS];
     let mut at: usize = 0;
     let mut y: usize = 0;
     while y < height {
@@ -73,6 +101,11 @@ pub fn put_lines(
             out,
             at,
             &mut rows,
+            &mut sel,
+            &mut bits,
+            &mut row,
+            &mut t,
+            &mut lit,
             &lanes,
             sheet,
             extent,

@@ -11,10 +11,10 @@ use mir.Val.{Fits}
 use mir.Syntax.{w64}
 use borrow.Author.Needs.{needs}
 use Rattle.octets.specs.Octets.{putAt}
-use Rattle.paint_words.specs.Words.{octetsOf, fourFrom, seenFrom}
+use Rattle.paint_words.specs.Words.{octetsOf, seenFrom}
 use Rattle.paint_coat.specs.Coat.{Coated, over}
 use Rattle.paint_coat.proofs.Coats.{coated-none, coated-chain, coated-put, coated-as}
-use Rattle.paint_coat.proofs.Laws.{coat-begun, coat-more, coat-end}
+use Rattle.paint_coat.proofs.Laws.{coat-begun, coat-end}
 use Rattle.paint_gather.specs.Gather.{entry, placeIn, gathered, fourAt, FourReach, Reaches, Running}
 
 -- ---- a sample

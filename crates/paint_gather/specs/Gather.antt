@@ -8,7 +8,6 @@
 --   Reaches                the places of the pixels p up to q of the part do
 --   Running                the pixels x up to y are gathered, and fewer than twelve are left
 use Prim.Native.Nat.{ℕ, _+_, _-_, _*_, _/_, _%_, _≤_, _<_}
-use mathlib.Core.Path.{_≡_}
 use mathlib.Core.List.{List}
 use lib.ListN.{length, getD}
 use Rattle.paint_words.specs.Words.{seenFrom}

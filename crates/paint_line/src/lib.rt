@@ -12,7 +12,6 @@ ghost use Rattle.paint_words.specs.Words.{octetsOf};
 ghost use Rattle.paint_coat.specs.Coat.{Coated};
 ghost use Rattle.paint_floor.specs.Floors.{PlainRows, Sure};
 ghost use Rattle.paint_line.specs.Painted.{Told, Kept, decided};
-use line_fetch::Row;
 use sheet_rules::Colour;
 
 // Pair j + 1, if its mask was not read: what lies below and its image layer agree, or nothing is known.

@@ -1,14 +1,9 @@
 use native.Mathlib.Omega.{arith}
-use Rattle.paint_gather.proofs.Laws.{reaches-part, gather-chain, gather-all}
+use Rattle.paint_gather.proofs.Laws.{reaches-part}
 use Rattle.paint_gather.proofs.Laws.{gathering}
 use borrow.Author.Needs.{needs}
 use Rattle.paint_gather.proofs.gather.Statement.{statement}
 use Rattle.paint_gather.proofs.gather.Tie as tie
-use Rattle.paint_gather.proofs.gather.Reads as reads
-use Rattle.paint_gather.proofs.gather.Lts as lts
-use Rattle.paint_gather.proofs.gather_few.Reads as gather-few-reads
-use Rattle.paint_gather.proofs.gather_rest.Reads as gather-rest-reads
-use Rattle.paint_gather.proofs.twelfth.Reads as twelfth-reads
 
 -- src/lib.rt:102:9
 twelfth-requires : tie.Need-twelfth-requires

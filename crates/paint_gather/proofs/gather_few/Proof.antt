@@ -3,13 +3,8 @@ use Rattle.paint_coat.proofs.Laws.{Coating, coat-more}
 use Rattle.paint_gather.specs.Gather.{gathered}
 use Rattle.paint_gather.proofs.Laws.{fews, few-few, few-there, few-is}
 use Prim.Native.Nat.{_-_}
-use native.Mathlib.Omega.{arith}
 use Rattle.paint_gather.proofs.gather_few.Statement.{statement}
 use Rattle.paint_gather.proofs.gather_few.Tie as tie
-use Rattle.paint_gather.proofs.gather_few.Reads as reads
-use Rattle.paint_gather.proofs.gather_few.Lts as lts
-use Rattle.paint_gather.proofs.sample_at.Reads as sample-at-reads
-use Rattle.paint_words.proofs.put_word.Reads as put-word-reads
 
 abbrev Inv-loop : tie.InvT-loop
 Inv-loop out₀ a sel t d x e step y₀ out y = Coating (over (gathered sel t d step a)) out₀ x e out y

@@ -4,10 +4,6 @@ use native.Mathlib.Omega.{arith}
 use borrow.Author.Needs.{needs}
 use Rattle.paint_gather.proofs.gather_four.Statement.{statement}
 use Rattle.paint_gather.proofs.gather_four.Tie as tie
-use Rattle.paint_gather.proofs.gather_four.Reads as reads
-use Rattle.paint_gather.proofs.gather_four.Lts as lts
-use Rattle.paint_gather.proofs.sample.Reads as sample-reads
-use Rattle.paint_words.proofs.put_word.Reads as put-word-reads
 
 -- src/lib.rt:29:29
 shared-slice-read-sample : tie.Need-shared-slice-read-sample

@@ -1,13 +1,8 @@
 use native.Mathlib.Omega.{arith}
 use Rattle.paint_gather.proofs.Laws.{reaches-part, rest-chain}
-use Rattle.paint_gather.proofs.Laws.{gathering}
 use borrow.Author.Needs.{needs}
 use Rattle.paint_gather.proofs.gather_rest.Statement.{statement}
 use Rattle.paint_gather.proofs.gather_rest.Tie as tie
-use Rattle.paint_gather.proofs.gather_rest.Reads as reads
-use Rattle.paint_gather.proofs.gather_rest.Lts as lts
-use Rattle.paint_gather.proofs.gather_few.Reads as gather-few-reads
-use Rattle.paint_gather.proofs.gather_run.Reads as gather-run-reads
 
 -- src/lib.rt:93:9
 gather-run-requires : tie.Need-gather-run-requires

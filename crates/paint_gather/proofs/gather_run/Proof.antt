@@ -1,12 +1,9 @@
 use Rattle.paint_gather.proofs.Laws.{step-fits, step-adds}
-use Rattle.paint_gather.proofs.Laws.{Turning, turning, turning-more, four-reach, part-low}
+use Rattle.paint_gather.proofs.Laws.{Turning, turning, turning-more, four-reach}
 use Prim.Native.Nat.{_-_}
 use native.Mathlib.Omega.{arith}
 use Rattle.paint_gather.proofs.gather_run.Statement.{statement}
 use Rattle.paint_gather.proofs.gather_run.Tie as tie
-use Rattle.paint_gather.proofs.gather_run.Reads as reads
-use Rattle.paint_gather.proofs.gather_run.Lts as lts
-use Rattle.paint_gather.proofs.gather_four.Reads as gather-four-reads
 
 abbrev Inv-loop : tie.InvT-loop
 Inv-loop out₀ a sel t d x e step y₀ i₀ out y i = Turning sel t d step a x e out₀ out y i

@@ -2,9 +2,6 @@ use Rattle.paint_gather.proofs.Laws.{sampling}
 use borrow.Author.Needs.{needs}
 use Rattle.paint_gather.proofs.sample.Statement.{statement}
 use Rattle.paint_gather.proofs.sample.Tie as tie
-use Rattle.paint_gather.proofs.sample.Reads as reads
-use Rattle.paint_gather.proofs.sample.Lts as lts
-use Rattle.paint_words.proofs.seen_wide.Reads as seen-wide-reads
 
 -- src/lib.rt:21:33
 mul-seen-wide : tie.Need-mul-seen-wide

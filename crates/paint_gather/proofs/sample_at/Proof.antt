@@ -2,9 +2,6 @@ use Rattle.paint_gather.proofs.Laws.{sampling}
 use borrow.Author.Needs.{needs}
 use Rattle.paint_gather.proofs.sample_at.Statement.{statement}
 use Rattle.paint_gather.proofs.sample_at.Tie as tie
-use Rattle.paint_gather.proofs.sample_at.Reads as reads
-use Rattle.paint_gather.proofs.sample_at.Lts as lts
-use Rattle.paint_words.proofs.seen_wide.Reads as seen-wide-reads
 
 -- src/lib.rt:29:15
 mul-p : tie.Need-mul-p

@@ -7,12 +7,6 @@ use lib.ListN.{length}
 use Rattle.paint_line.proofs.Laws.{painting}
 use Rattle.paint_line.proofs.paint_line.Statement.{statement}
 use Rattle.paint_line.proofs.paint_line.Tie as tie
-use Rattle.paint_line.proofs.paint_line.Reads as reads
-use Rattle.paint_line.proofs.paint_line.Lts as lts
-use Rattle.paint_image.proofs.within.Reads as within-reads
-use Rattle.paint_line.proofs.paint_part.Reads as paint-part-reads
-use Rattle.paint_line.proofs.part_end.Reads as part-end-reads
-use Rattle.paint_words.proofs.word_of.Reads as word-of-reads
 
 abbrev Inv-loop : tie.InvT-loop
 Inv-loop out₀ sel₀ bits₀ row₀ t₀ lit₀ s d rows pairs width unseen u x₀ out sel bits row t lit x = Painting unseen s d rows pairs width out₀ out x × (length sel ≡ length sel₀) × (length bits ≡ length bits₀) × (length row ≡ length row₀) × (length t ≡ length t₀) × (length lit ≡ length lit₀)

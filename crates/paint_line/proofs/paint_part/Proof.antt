@@ -1,15 +1,8 @@
 use Rattle.paint_line.proofs.Laws.{part-covered}
-use native.Mathlib.Omega.{arith}
 use borrow.Author.Needs.{needs}
 use borrow.Author.Needs.{needs}
 use Rattle.paint_line.proofs.paint_part.Statement.{statement}
 use Rattle.paint_line.proofs.paint_part.Tie as tie
-use Rattle.paint_line.proofs.paint_part.Reads as reads
-use Rattle.paint_line.proofs.paint_part.Lts as lts
-use Rattle.paint_floor.proofs.first_pair.Reads as first-pair-reads
-use Rattle.paint_floor.proofs.put_floors.Reads as put-floors-reads
-use Rattle.paint_line.proofs.show_part.Reads as show-part-reads
-use Rattle.paint_show.proofs.lay_floor.Reads as lay-floor-reads
 
 -- src/lib.rt:122:9
 first-pair-requires : tie.Need-first-pair-requires

@@ -3,11 +3,6 @@ use Prim.Native.Nat.{_-_, _+_, _*_, _≤_, _<_}
 use native.Mathlib.Omega.{arith}
 use Rattle.paint_line.proofs.part_end.Statement.{statement}
 use Rattle.paint_line.proofs.part_end.Tie as tie
-use Rattle.paint_line.proofs.part_end.Reads as reads
-use Rattle.paint_line.proofs.part_end.Lts as lts
-use Rattle.line_fetch.proofs.row_at.Reads as row-at-reads
-use Rattle.paint_image.proofs.within.Reads as within-reads
-use Rattle.paint_line.proofs.cut.Reads as cut-reads
 
 abbrev Inv-loop : tie.InvT-loop
 Inv-loop s d rows pairs a b l₀ left₀ right₀ l left right = (a ≤ left) × (left ≤ b) × (a < right) × (right ≤ b) × (l ≤ pairs * 2 + 1)

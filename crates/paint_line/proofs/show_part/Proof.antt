@@ -4,11 +4,6 @@ use borrow.Author.Needs.{needs}
 use borrow.Author.Needs.{needs}
 use Rattle.paint_line.proofs.show_part.Statement.{statement}
 use Rattle.paint_line.proofs.show_part.Tie as tie
-use Rattle.paint_line.proofs.show_part.Reads as reads
-use Rattle.paint_line.proofs.show_part.Lts as lts
-use Rattle.paint_line.proofs.agree_pairs.Reads as agree-pairs-reads
-use Rattle.paint_show.proofs.show_floors.Reads as show-floors-reads
-use Rattle.paint_table.proofs.make_table.Reads as make-table-reads
 
 -- src/lib.rt:96:9
 make-table-requires : tie.Need-make-table-requires

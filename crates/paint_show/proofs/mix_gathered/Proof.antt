@@ -5,11 +5,6 @@ use native.Mathlib.Omega.{arith}
 use borrow.Author.Needs.{needs}
 use Rattle.paint_show.proofs.mix_gathered.Statement.{statement}
 use Rattle.paint_show.proofs.mix_gathered.Tie as tie
-use Rattle.paint_show.proofs.mix_gathered.Reads as reads
-use Rattle.paint_show.proofs.mix_gathered.Lts as lts
-use Rattle.paint_gather.proofs.gather.Reads as gather-reads
-use Rattle.paint_show.proofs.pick_floor.Reads as pick-floor-reads
-use Rattle.paint_show.proofs.pick_unlit.Reads as pick-unlit-reads
 
 -- src/lib.rt:245:5
 gather-requires : tie.Need-gather-requires

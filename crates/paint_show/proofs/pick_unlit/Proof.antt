@@ -5,10 +5,6 @@ use Prim.Native.Nat.{_-_, _+_}
 use native.Mathlib.Omega.{arith}
 use Rattle.paint_show.proofs.pick_unlit.Statement.{statement}
 use Rattle.paint_show.proofs.pick_unlit.Tie as tie
-use Rattle.paint_show.proofs.pick_unlit.Reads as reads
-use Rattle.paint_show.proofs.pick_unlit.Lts as lts
-use Rattle.paint_show.proofs.pick_floor.Reads as pick-floor-reads
-use Rattle.paint_show.proofs.skipped.Reads as skipped-reads
 
 abbrev Inv-loop : tie.InvT-loop
 Inv-loop out₀ sel row₀ lit s d rows pairs f a x e u c₀ out row c = Mixing (octetsOf u) s d rows sel pairs a x e (isLit lit) out₀ row₀ out row c

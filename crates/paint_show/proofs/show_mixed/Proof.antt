@@ -3,10 +3,6 @@ use native.Mathlib.Omega.{arith}
 use borrow.Author.Needs.{needs}
 use Rattle.paint_show.proofs.show_mixed.Statement.{statement}
 use Rattle.paint_show.proofs.show_mixed.Tie as tie
-use Rattle.paint_show.proofs.show_mixed.Reads as reads
-use Rattle.paint_show.proofs.show_mixed.Lts as lts
-use Rattle.paint_show.proofs.mix_gathered.Reads as mix-gathered-reads
-use Rattle.paint_show.proofs.mix_laid.Reads as mix-laid-reads
 
 -- src/lib.rt:275:9
 mix-laid-requires : tie.Need-mix-laid-requires

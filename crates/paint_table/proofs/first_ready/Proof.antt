@@ -2,10 +2,6 @@ use Rattle.paint_table.proofs.Laws.{firsts}
 use Prim.Native.Nat.{_-_, _+_, _≤_}
 use Rattle.paint_table.proofs.first_ready.Statement.{statement}
 use Rattle.paint_table.proofs.first_ready.Tie as tie
-use Rattle.paint_table.proofs.first_ready.Reads as reads
-use Rattle.paint_table.proofs.first_ready.Lts as lts
-use Rattle.line_fetch.proofs.row_at.Reads as row-at-reads
-use Rattle.paint_table.proofs.ready.Reads as ready-reads
 
 abbrev Inv-loop : tie.InvT-loop
 Inv-loop s d rows pairs f a b c₀ c = (f ≤ c) × (c ≤ pairs + 1)

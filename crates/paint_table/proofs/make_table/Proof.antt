@@ -4,11 +4,6 @@ use Rattle.paint_table.proofs.Laws.{making}
 use borrow.Author.Needs.{needs}
 use Rattle.paint_table.proofs.make_table.Statement.{statement}
 use Rattle.paint_table.proofs.make_table.Tie as tie
-use Rattle.paint_table.proofs.make_table.Reads as reads
-use Rattle.paint_table.proofs.make_table.Lts as lts
-use Rattle.line_fetch.proofs.row_at.Reads as row-at-reads
-use Rattle.paint_table.proofs.first_ready.Reads as first-ready-reads
-use Rattle.paint_table.proofs.put_table.Reads as put-table-reads
 
 -- src/lib.rt:154:8
 sub-if1 : tie.Need-sub-if1

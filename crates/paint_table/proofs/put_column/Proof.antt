@@ -4,11 +4,6 @@ use Rattle.paint_table.proofs.Laws.{columns}
 use borrow.Author.Needs.{needs}
 use Rattle.paint_table.proofs.put_column.Statement.{statement}
 use Rattle.paint_table.proofs.put_column.Tie as tie
-use Rattle.paint_table.proofs.put_column.Reads as reads
-use Rattle.paint_table.proofs.put_column.Lts as lts
-use Rattle.line_fetch.proofs.row_at.Reads as row-at-reads
-use Rattle.paint_table.proofs.put_places.Reads as put-places-reads
-use Rattle.paint_table.proofs.ready.Reads as ready-reads
 
 -- src/lib.rt:85:38
 mul-row-at : tie.Need-mul-row-at

@@ -2,9 +2,6 @@ use Rattle.paint_table.proofs.Laws.{tablings, Tabling}
 use Prim.Native.Nat.{_-_, _+_}
 use Rattle.paint_table.proofs.put_columns.Statement.{statement}
 use Rattle.paint_table.proofs.put_columns.Tie as tie
-use Rattle.paint_table.proofs.put_columns.Reads as reads
-use Rattle.paint_table.proofs.put_columns.Lts as lts
-use Rattle.paint_table.proofs.put_column.Reads as put-column-reads
 
 abbrev Inv-loop : tie.InvT-loop
 Inv-loop t₀ lit₀ s d rows pairs f first a b c₀ t lit c = Tabling d rows first pairs f a b t₀ lit₀ t lit c

@@ -2,9 +2,6 @@ use Rattle.paint_table.proofs.Laws.{placings, Placing}
 use Prim.Native.Nat.{_-_}
 use Rattle.paint_table.proofs.put_places.Statement.{statement}
 use Rattle.paint_table.proofs.put_places.Tie as tie
-use Rattle.paint_table.proofs.put_places.Reads as reads
-use Rattle.paint_table.proofs.put_places.Lts as lts
-use Rattle.paint_image.proofs.sample_of.Reads as sample-of-reads
 
 abbrev Inv-loop : tie.InvT-loop
 Inv-loop t₀ d c r k a b j₀ t j = Placing t₀ c r a t j

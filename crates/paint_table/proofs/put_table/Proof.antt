@@ -1,12 +1,7 @@
 use native.Mathlib.Omega.{arith}
-use Rattle.paint_table.proofs.Laws.{making}
 use borrow.Author.Needs.{needs}
 use Rattle.paint_table.proofs.put_table.Statement.{statement}
 use Rattle.paint_table.proofs.put_table.Tie as tie
-use Rattle.paint_table.proofs.put_table.Reads as reads
-use Rattle.paint_table.proofs.put_table.Lts as lts
-use Rattle.paint_table.proofs.put_columns.Reads as put-columns-reads
-use Rattle.paint_table.proofs.put_places.Reads as put-places-reads
 
 -- src/lib.rt:112:22
 cast-put-places : tie.Need-cast-put-places

@@ -2,9 +2,6 @@ use Rattle.paint_table.proofs.Laws.{readying}
 use borrow.Author.Needs.{needs}
 use Rattle.paint_table.proofs.ready.Statement.{statement}
 use Rattle.paint_table.proofs.ready.Tie as tie
-use Rattle.paint_table.proofs.ready.Reads as reads
-use Rattle.paint_table.proofs.ready.Lts as lts
-use Rattle.paint_image.proofs.sample_of.Reads as sample-of-reads
 
 -- src/lib.rt:22:9
 returns : tie.Need-returns
