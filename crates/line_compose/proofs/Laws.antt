@@ -26,7 +26,7 @@ use Rattle.pixel_rules.specs.Planes.{PlaneList, listOf}
 use Rattle.pixel_rules.specs.Samples.{Scene, widthOf}
 use Rattle.pixel_rules.specs.Decide.{decide}
 use Rattle.picture_rules.specs.Line.{pixels, linePixels, Ruling, shows, refused, rulingOf, lineAnswer, lineOf, lineHolds, lineInto, Lines}
-use Rattle.picture_rules.proofs.Scenes.{Stage, shows-stage, stage-layers, scene-ratio-some, scene-res}
+use Rattle.picture_rules.proofs.Scenes.{Stage, shows-stage, stage-layers, scene-ratio-some, scene-res, scene-width}
 use Rattle.picture_rules.proofs.First.{lines-first}
 use Rattle.line_planes.specs.declared.Listing.{Listing}
 use Rattle.line_planes.specs.Listing.{listingOf, entriesOf}
@@ -34,6 +34,8 @@ use Rattle.line_planes.proofs.Entries.{gathered-holds}
 use Rattle.line_pixel.specs.Rows.{rowStack, RowsFit}
 use Rattle.line_rows.specs.Rows.{rowsOf, Standing}
 use Rattle.line_rows.proofs.Fit.{rows-fit, pixel-is}
+use Rattle.paint_floor.specs.Floors.{PlainRows}
+use Rattle.paint_line.proofs.Plain.{rows-plain, pairs-few}
 use Rattle.line_verdict.specs.declared.Ruled.{Ruled}
 use Rattle.line_verdict.specs.declared.Ruled.the-variants.{Shows, Refused}
 use Rattle.line_verdict.specs.Ruled.{listFrom, ruledOf}
@@ -89,6 +91,16 @@ module _ (s : List ℕ) (extent : Extent) (t : Listing) (d : List ℕ) (y : ℕ)
   pub shown-fits : (rows : List ℕ) → rows ≡ putAt (replicate rowsSize 0) 0 (rowsOf s extent (entriesOf t) (record { 0 = y }) (extent .layers)) → RowsFit s d rows (extent .layers / 2)
   shown-fits rows e = rows-shown (replicate rowsSize 0) rows shown-rows e
 
+  pub shown-plain : (rows : List ℕ) → rows ≡ putAt (replicate rowsSize 0) 0 (rowsOf s extent (entriesOf t) (record { 0 = y }) (extent .layers)) → PlainRows rows (extent .layers / 2)
+  shown-plain rows e = subst (λ (r : List ℕ). PlainRows r (extent .layers / 2)) (sym e) (rows-plain here list (g .stripe) y (record { 0 = y }) stage (replicate rowsSize 0) shown-rows)
+
+  pub shown-few : extent .layers / 2 ≤ 7
+  shown-few = pairs-few here list (g .stripe) y (record { 0 = y }) stage
+
+  pub shown-narrow : (second : Record) (width : ℕ) → second ≡ recordAt s (extent .first + 1) → width ≡ second .width → width < 65536
+  unfolding layerRecord
+  shown-narrow second width es ew = let m = scene-width stage .1 in let z : width ≡ widthOf here = ew ∙ ap (λ (r : Record). r .width) es in omega arith
+
   pub shown-wide : (second : Record) (width : ℕ) → second ≡ recordAt s (extent .first + 1) → width ≡ second .width → width ≡ widthOf here
   unfolding layerRecord
   shown-wide second width es ew = ew ∙ ap (λ (r : Record). r .width) es
@@ -115,7 +127,7 @@ module _ (s : List ℕ) (extent : Extent) (t : Listing) (d : List ℕ) (y : ℕ)
               ∙ ap (putAt out 0) (shown-pixels (replicate rowsSize 0) rows shown-rows er u));
         }
 
-pub ruleset showing = (needs, shown-place, shown-standing, shown-rows, shown-fits, shown-no-room, shown-done)
+pub ruleset showing = (needs, shown-place, shown-standing, shown-rows, shown-fits, shown-plain, shown-few, shown-narrow, shown-no-room, shown-done)
 
 -- ---- after the verdict
 

@@ -32,7 +32,7 @@ pub fn show_line(
     }
     let mut rows: [usize; ROWS_SIZE] = [0; ROWS_SIZE];
     line_rows::put_rows(&mut rows, sheet, extent, list, MainPos(y as usize));
-    line_put::put_pixels(
+    paint_line::draw_line(
         out,
         sheet,
         samples,

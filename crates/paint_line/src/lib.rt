@@ -12,6 +12,8 @@ ghost use Rattle.paint_words.specs.Words.{octetsOf};
 ghost use Rattle.paint_coat.specs.Coat.{Coated};
 ghost use Rattle.paint_floor.specs.Floors.{PlainRows, Sure};
 ghost use Rattle.paint_line.specs.Painted.{Told, Kept, decided};
+use paint_gather::FLOORS;
+use paint_gather::TABLE;
 use sheet_rules::Colour;
 
 // Pair j + 1, if its mask was not read: what lies below and its image layer agree, or nothing is known.
@@ -209,4 +211,45 @@ pub fn paint_line(
         );
         x = e;
     }
+}
+
+// A line by itself: fewer pixels than this take less time one by one than the scratch of a painted row.
+const FEW: usize = 64;
+
+pub fn draw_line(
+    out: &mut [u8],
+    s: &[u8],
+    d: &[u8],
+    rows: &[usize],
+    pairs: usize,
+    width: usize,
+    unseen: Colour,
+)
+    requires { ⌜ RowsFit (now s) (now d) (now rows) pairs × PlainRows (now rows) pairs × (pairs ≤ 7) × (width * 4 ≤ length (now out)) × (width < 65536) ⌝ }
+    ensures { λ _.
+        ⌜ now (out .exit) ≡ putAt (now (out .entry)) 0 (pixels unseen (λ (x : MainPos). decide (rowStack (now (s .entry)) (now (d .entry)) (now (rows .entry)) x) pairs) width) ⌝ }
+{
+    if width < FEW {
+        line_put::put_pixels(out, s, d, rows, pairs, width, unseen);
+        return;
+    }
+    let mut sel: [u8; PART] = [0; PART];
+    let mut bits: [u8; BITS] = [0; BITS];
+    let mut row: [u8; PART] = [0; PART];
+    let mut t: [usize; TABLE] = [0; TABLE];
+    let mut lit: [u8; FLOORS] = [0; FLOORS];
+    paint_line(
+        out,
+        &mut sel,
+        &mut bits,
+        &mut row,
+        &mut t,
+        &mut lit,
+        s,
+        d,
+        rows,
+        pairs,
+        width,
+        unseen,
+    );
 }

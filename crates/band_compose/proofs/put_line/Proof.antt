@@ -4,59 +4,45 @@ use borrow.Author.Needs.{needs}
 use Rattle.band_compose.proofs.put_line.Statement.{statement}
 use Rattle.band_compose.proofs.put_line.Tie as tie
 
--- src/lib.rt:56:13
 cast-n : tie.Need-cast-n
 cast-n c = search needs
 
--- src/lib.rt:57:5
 lane-rows-requires : tie.Need-lane-rows-requires
 lane-rows-requires c κs = search needs
 
--- src/lib.rt:59:9
 sub-paint-line : tie.Need-sub-paint-line
 sub-paint-line c = search needs
 
--- src/lib.rt:59:9
 part-paint-line-start : tie.Need-part-paint-line-start
 part-paint-line-start c = search needs
 
--- src/lib.rt:59:9
 part-paint-line-end : tie.Need-part-paint-line-end
 part-paint-line-end c = search needs
 
--- src/lib.rt:58:5
 paint-line-requires : tie.Need-paint-line-requires
 paint-line-requires c κs = (search lining, search lining, search lining, search lining, search lining, c .before .before .before .before .before .before .before .before .before .before .before .before .before .before .before .before .before .before .before .before .before .before .pre .1, c .before .before .before .before .before .before .before .before .before .before .before .before .before .before .before .before .before .before .before .before .before .before .pre .2, c .before .before .before .before .before .before .before .before .before .before .before .before .before .before .before .before .before .before .before .before .before .before .pre .3, c .before .before .before .before .before .before .before .before .before .before .before .before .before .before .before .before .before .before .before .before .before .before .pre .4, c .before .before .before .before .before .before .before .before .before .before .before .before .before .before .before .before .before .before .before .before .before .before .pre .5)
 
--- src/lib.rt:35:1
 same-length : tie.Need-same-length
 same-length c = search needs
 
--- src/lib.rt:35:1
 same-length-2 : tie.Need-same-length-2
 same-length-2 c = search needs
 
--- src/lib.rt:35:1
 same-length-3 : tie.Need-same-length-3
 same-length-3 c = search needs
 
--- src/lib.rt:35:1
 same-length-4 : tie.Need-same-length-4
 same-length-4 c = search needs
 
--- src/lib.rt:35:1
 same-length-5 : tie.Need-same-length-5
 same-length-5 c = search needs
 
--- src/lib.rt:35:1
 same-length-6 : tie.Need-same-length-6
 same-length-6 c = search needs
 
--- src/lib.rt:35:1
 same-length-7 : tie.Need-same-length-7
 same-length-7 c = search needs
 
--- src/lib.rt:35:1
 returns : tie.Need-returns
 returns c = search lining
 

@@ -5,31 +5,24 @@ use borrow.Author.Needs.{needs}
 use Rattle.paint_gather.proofs.gather.Statement.{statement}
 use Rattle.paint_gather.proofs.gather.Tie as tie
 
--- src/lib.rt:102:9
 twelfth-requires : tie.Need-twelfth-requires
 twelfth-requires c κs = search needs
 
--- src/lib.rt:103:5
 gather-few-requires : tie.Need-gather-few-requires
 gather-few-requires c κs = (let h = c .before .twelfth .ensures .1 in reaches-part _ _ _ _ _ _ _ _ (c .before .before .before .before .before .before .pre .0) (omega arith) (omega arith), c .before .before .before .before .before .before .pre .1, c .before .twelfth .ensures .0, let h = c .before .twelfth .ensures .1 in let k = c .before .before .before .before .before .before .pre .5 in omega arith)
 
--- src/lib.rt:105:9
 gather-rest-requires : tie.Need-gather-rest-requires
 gather-rest-requires c κs = (let h = c .before .before .before .before .before .before .twelfth .ensures .0 in reaches-part _ _ _ _ _ _ _ _ (c .before .before .before .before .before .before .before .before .before .before .before .pre .0) (omega arith) (omega arith), let h = c .before .before .before .before .before .before .twelfth .ensures .0 in let k = c .before .before .before .before .before .before .before .before .before .before .before .pre .1 in omega arith, omega arith, let h = c .before .before .before .before .gather-few .ensures .long in let k = c .before .before .before .before .before .before .before .before .before .before .before .pre .5 in omega arith, c .before .before .before .before .before .before .twelfth .ensures .2 (c .before .if1 .taken), c .before .before .before .before .before .before .before .before .before .before .before .pre .3, c .before .before .before .before .before .before .before .before .before .before .before .pre .4)
 
--- src/lib.rt:98:1
 same-length : tie.Need-same-length
 same-length c = search needs
 
--- src/lib.rt:98:1
 returns : tie.Need-returns
 returns c = search gathering
 
--- src/lib.rt:98:1
 same-length-2 : tie.Need-same-length-2
 same-length-2 c = search needs
 
--- src/lib.rt:98:1
 returns-2 : tie.Need-returns-2
 returns-2 c = search gathering
 

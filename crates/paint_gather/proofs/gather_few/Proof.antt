@@ -12,51 +12,39 @@ Inv-loop out₀ a sel t d x e step y₀ out y = Coating (over (gathered sel t d 
 abbrev μ-loop : tie.MeasureT-loop
 μ-loop out₀ a sel t d x e step y₀ out y = e - y
 
--- src/lib.rt:54:5
 loop-holds : tie.Need-loop-holds Inv-loop μ-loop
 loop-holds c = search fews
 
--- src/lib.rt:55:33
 sub-sample-at : tie.Need-sub-sample-at Inv-loop μ-loop
 sub-sample-at c = search fews
 
--- src/lib.rt:55:44
 sub-sample-at-2 : tie.Need-sub-sample-at-2 Inv-loop μ-loop
 sub-sample-at-2 c = search fews
 
--- src/lib.rt:55:40
 shared-slice-read-sample-at : tie.Need-shared-slice-read-sample-at Inv-loop μ-loop
 shared-slice-read-sample-at c = search fews
 
--- src/lib.rt:55:13
 sample-at-requires : tie.Need-sample-at-requires Inv-loop μ-loop
 sample-at-requires c κs = (c .before .before .before .before .before .before .before .pre .0 .table, few-few _ _ _ _ _ _ _ (c .before .before .before .before .before .before .before .pre .0) (c .before .before .before .before .before .before .before .pre .1) _ (c .before .before .loop .inv .from) (c .before .loop-test .taken), few-there _ _ _ _ _ _ _ (c .before .before .before .before .before .before .before .pre .0) (c .before .before .before .before .before .before .before .pre .1) _ (c .before .before .loop .inv .from) (c .before .loop-test .taken))
 
--- src/lib.rt:56:36
 mul-put-word : tie.Need-mul-put-word Inv-loop μ-loop
 mul-put-word c = search fews
 
--- src/lib.rt:56:9
 put-word-requires : tie.Need-put-word-requires Inv-loop μ-loop
 put-word-requires c κs = search fews
 
--- src/lib.rt:57:9
 add-y : tie.Need-add-y Inv-loop μ-loop
 add-y c = search fews
 
--- src/lib.rt:54:5
 loop-less : tie.Need-loop-less Inv-loop μ-loop
 loop-less c = search fews
 
--- src/lib.rt:54:5
 loop-again : tie.Need-loop-again Inv-loop μ-loop
 loop-again c = coat-more _ _ _ _ _ _ _ _ (c .before .before .put-word .ensures) (few-is _ _ _ _ _ _ _ _ (c .before .before .before .before .sample-at .ensures)) (c .before .before .before .before .before .before .loop-test .taken) (c .before .before .before .before .before .before .before .loop .inv)
 
--- src/lib.rt:49:1
 same-length : tie.Need-same-length Inv-loop μ-loop
 same-length c = search fews
 
--- src/lib.rt:49:1
 returns : tie.Need-returns Inv-loop μ-loop
 returns c = search fews
 

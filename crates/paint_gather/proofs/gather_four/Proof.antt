@@ -5,111 +5,84 @@ use borrow.Author.Needs.{needs}
 use Rattle.paint_gather.proofs.gather_four.Statement.{statement}
 use Rattle.paint_gather.proofs.gather_four.Tie as tie
 
--- src/lib.rt:29:29
 shared-slice-read-sample : tie.Need-shared-slice-read-sample
 shared-slice-read-sample c = search needs
 
--- src/lib.rt:29:9
 sample-requires : tie.Need-sample-requires
 sample-requires c κs = (c .before .before .before .before .before .pre .0 .table, let h = c .before .before .before .before .before .pre .0 .low in omega arith, first-few _ _ _ _ _ (c .before .before .before .before .before .pre .0), first-there _ _ _ _ _ (c .before .before .before .before .before .pre .0))
 
--- src/lib.rt:30:26
 add-sample : tie.Need-add-sample
 add-sample c = search needs
 
--- src/lib.rt:30:37
 add-sample-2 : tie.Need-add-sample-2
 add-sample-2 c = search needs
 
--- src/lib.rt:30:33
 shared-slice-read-sample-2 : tie.Need-shared-slice-read-sample-2
 shared-slice-read-sample-2 c = search needs
 
--- src/lib.rt:30:9
 sample-requires-2 : tie.Need-sample-requires-2
 sample-requires-2 c κs = (c .before .before .before .before .before .before .before .pre .0 .table, let h = c .before .before .before .before .before .before .before .pre .0 .low in omega arith, four-few _ _ _ _ _ (c .before .before .before .before .before .before .before .pre .0) 1 (omega arith), c .before .before .before .before .before .before .before .pre .0 .there 1 (omega arith))
 
--- src/lib.rt:31:26
 add-sample-3 : tie.Need-add-sample-3
 add-sample-3 c = search needs
 
--- src/lib.rt:31:37
 add-sample-4 : tie.Need-add-sample-4
 add-sample-4 c = search needs
 
--- src/lib.rt:31:33
 shared-slice-read-sample-3 : tie.Need-shared-slice-read-sample-3
 shared-slice-read-sample-3 c = search needs
 
--- src/lib.rt:31:9
 sample-requires-3 : tie.Need-sample-requires-3
 sample-requires-3 c κs = (c .before .before .before .before .before .before .before .before .before .pre .0 .table, let h = c .before .before .before .before .before .before .before .before .before .pre .0 .low in omega arith, four-few _ _ _ _ _ (c .before .before .before .before .before .before .before .before .before .pre .0) 2 (omega arith), c .before .before .before .before .before .before .before .before .before .pre .0 .there 2 (omega arith))
 
--- src/lib.rt:32:26
 add-sample-5 : tie.Need-add-sample-5
 add-sample-5 c = search needs
 
--- src/lib.rt:32:37
 add-sample-6 : tie.Need-add-sample-6
 add-sample-6 c = search needs
 
--- src/lib.rt:32:33
 shared-slice-read-sample-4 : tie.Need-shared-slice-read-sample-4
 shared-slice-read-sample-4 c = search needs
 
--- src/lib.rt:32:9
 sample-requires-4 : tie.Need-sample-requires-4
 sample-requires-4 c κs = (c .before .before .before .before .before .before .before .before .before .before .before .pre .0 .table, let h = c .before .before .before .before .before .before .before .before .before .before .before .pre .0 .low in omega arith, four-few _ _ _ _ _ (c .before .before .before .before .before .before .before .before .before .before .before .pre .0) 3 (omega arith), c .before .before .before .before .before .before .before .before .before .before .before .pre .0 .there 3 (omega arith))
 
--- src/lib.rt:33:32
 mul-put-word : tie.Need-mul-put-word
 mul-put-word c = search needs
 
--- src/lib.rt:33:5
 put-word-requires : tie.Need-put-word-requires
 put-word-requires c κs = search needs
 
--- src/lib.rt:34:33
 add-put-word : tie.Need-add-put-word
 add-put-word c = search needs
 
--- src/lib.rt:34:32
 mul-put-word-2 : tie.Need-mul-put-word-2
 mul-put-word-2 c = search needs
 
--- src/lib.rt:34:5
 put-word-requires-2 : tie.Need-put-word-requires-2
 put-word-requires-2 c κs = search needs
 
--- src/lib.rt:35:33
 add-put-word-2 : tie.Need-add-put-word-2
 add-put-word-2 c = search needs
 
--- src/lib.rt:35:32
 mul-put-word-3 : tie.Need-mul-put-word-3
 mul-put-word-3 c = search needs
 
--- src/lib.rt:35:5
 put-word-requires-3 : tie.Need-put-word-requires-3
 put-word-requires-3 c κs = search needs
 
--- src/lib.rt:36:33
 add-put-word-3 : tie.Need-add-put-word-3
 add-put-word-3 c = search needs
 
--- src/lib.rt:36:32
 mul-put-word-4 : tie.Need-mul-put-word-4
 mul-put-word-4 c = search needs
 
--- src/lib.rt:36:5
 put-word-requires-4 : tie.Need-put-word-requires-4
 put-word-requires-4 c κs = search needs
 
--- src/lib.rt:25:1
 same-length : tie.Need-same-length
 same-length c = search needs
 
--- src/lib.rt:25:1
 returns : tie.Need-returns
 returns c = four-gathered _ _ _ _ _ _ _ _ _ _ _ _ _ _ _ (c .before .before .before .before .before .before .before .before .before .before .before .before .before .before .before .before .before .before .before .before .before .before .before .before .before .before .before .before .pre .1) (c .before .before .before .before .before .before .before .before .before .before .before .before .before .before .before .before .before .before .before .before .before .before .sample .ensures) (c .before .before .before .before .before .before .before .before .before .before .before .before .before .before .before .before .before .before .before .before .sample2 .ensures) (c .before .before .before .before .before .before .before .before .before .before .before .before .before .before .before .before .before .before .sample3 .ensures) (c .before .before .before .before .before .before .before .before .before .before .before .before .before .before .before .before .sample4 .ensures) (c .before .before .before .before .before .before .before .before .before .before .before .before .before .before .put-word .ensures) (c .before .before .before .before .before .before .before .before .before .before .put-word2 .ensures) (c .before .before .before .before .before .before .put-word3 .ensures) (c .before .before .put-word4 .ensures)
 

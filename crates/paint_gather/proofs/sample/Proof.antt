@@ -3,27 +3,21 @@ use borrow.Author.Needs.{needs}
 use Rattle.paint_gather.proofs.sample.Statement.{statement}
 use Rattle.paint_gather.proofs.sample.Tie as tie
 
--- src/lib.rt:21:33
 mul-seen-wide : tie.Need-mul-seen-wide
 mul-seen-wide c = search needs
 
--- src/lib.rt:21:33
 add-seen-wide : tie.Need-add-seen-wide
 add-seen-wide c = search needs
 
--- src/lib.rt:21:31
 mul-seen-wide-2 : tie.Need-mul-seen-wide-2
 mul-seen-wide-2 c = search needs
 
--- src/lib.rt:21:31
 shared-slice-read-seen-wide : tie.Need-shared-slice-read-seen-wide
 shared-slice-read-seen-wide c = search needs
 
--- src/lib.rt:21:5
 seen-wide-requires : tie.Need-seen-wide-requires
 seen-wide-requires c κs = search sampling
 
--- src/lib.rt:17:1
 returns : tie.Need-returns
 returns c = search sampling
 

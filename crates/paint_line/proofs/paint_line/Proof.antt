@@ -14,63 +14,48 @@ Inv-loop out₀ sel₀ bits₀ row₀ t₀ lit₀ s d rows pairs width unseen u 
 abbrev μ-loop : tie.MeasureT-loop
 μ-loop out₀ sel₀ bits₀ row₀ t₀ lit₀ s d rows pairs width unseen u x₀ out sel bits row t lit x = width - x
 
--- src/lib.rt:166:9
 word-of-requires : tie.Need-word-of-requires Inv-loop μ-loop
 word-of-requires c κs = search painting
 
--- src/lib.rt:168:5
 loop-holds : tie.Need-loop-holds Inv-loop μ-loop
 loop-holds c = (painting-begun _ _ _ _ _ _ _, refl, refl, refl, refl, refl)
 
--- src/lib.rt:169:40
 add-within : tie.Need-add-within Inv-loop μ-loop
 add-within c = search painting
 
--- src/lib.rt:169:13
 within-requires : tie.Need-within-requires Inv-loop μ-loop
 within-requires c κs = search painting
 
--- src/lib.rt:170:13
 part-end-requires : tie.Need-part-end-requires Inv-loop μ-loop
 part-end-requires c κs = (c .before .before .before .before .before .before .before .before .before .before .before .before .before .pre .0, c .before .before .before .before .before .before .before .before .before .before .before .before .before .pre .2, part-some _ _ _ _ (omega arith) (c .within .ensures) (c .before .loop-test .taken))
 
--- src/lib.rt:171:9
 paint-part-requires : tie.Need-paint-part-requires Inv-loop μ-loop
 paint-part-requires c κs = (c .before .before .before .before .before .before .before .before .before .before .before .before .before .before .before .before .before .before .before .before .pre .0, c .before .before .before .before .before .before .before .before .before .before .before .before .before .before .before .before .before .before .before .before .pre .1, c .before .before .before .before .before .before .before .before .before .before .before .before .before .before .before .before .before .before .before .before .pre .2, let h = c .before .before .before .before .before .before .part-end .ensures .0 in omega arith, let h = c .before .before .before .before .before .before .part-end .ensures .1 in let k = c .before .before .before .before .before .before .before .within .ensures .high in let j = c .before .before .before .before .before .before .before .before .before .before .before .before .before .before .before .before .before .before .before .before .pre .4 in omega arith, let h = c .before .before .before .before .before .before .part-end .ensures .1 in let k = c .before .before .before .before .before .before .before .within .ensures .high in let j = c .before .before .before .before .before .before .before .before .before .before .before .before .before .before .before .before .before .before .before .before .pre .3 in let l = c .before .before .before .before .before .before .before .before .before .loop .inv .0 .long in omega arith, let h = c .before .before .before .before .before .before .part-end .ensures .1 in let k = part-most _ _ _ _ (c .before .before .before .before .before .before .before .within .ensures) in let l = c .before .before .before .before .before .before .before .before .before .loop .inv .1 in let m = c .before .before .before .before .before .before .before .before .before .before .before .before .before .before .before .before .before .before .before .before .pre .5 in omega arith, let h = c .before .before .before .before .before .before .part-end .ensures .1 in let k = part-most _ _ _ _ (c .before .before .before .before .before .before .before .within .ensures) in let l = c .before .before .before .before .before .before .before .before .before .loop .inv .2 in let m = c .before .before .before .before .before .before .before .before .before .before .before .before .before .before .before .before .before .before .before .before .pre .6 in omega arith, let l = c .before .before .before .before .before .before .before .before .before .loop .inv .3 in let m = c .before .before .before .before .before .before .before .before .before .before .before .before .before .before .before .before .before .before .before .before .pre .7 in omega arith, unseen-word _ _ (c .before .before .before .before .before .before .before .before .before .before .word-of .ensures), let l = c .before .before .before .before .before .before .before .before .before .loop .inv .4 in let m = c .before .before .before .before .before .before .before .before .before .before .before .before .before .before .before .before .before .before .before .before .pre .8 in omega arith, let l = c .before .before .before .before .before .before .before .before .before .loop .inv .5 in let m = c .before .before .before .before .before .before .before .before .before .before .before .before .before .before .before .before .before .before .before .before .pre .9 in omega arith)
 
--- src/lib.rt:168:5
 loop-less : tie.Need-loop-less Inv-loop μ-loop
 loop-less c = search painting
 
--- src/lib.rt:168:5
 loop-again : tie.Need-loop-again Inv-loop μ-loop
 loop-again c = (painting-more _ _ _ _ _ _ _ _ _ _ _ (c .before .before .before .before .before .before .before .before .before .before .before .before .before .before .before .before .before .before .before .before .before .before .loop .inv .0) (c .before .before .before .before .before .before .before .before .before .before .before .before .before .before .before .before .before .before .before .part-end .ensures .0) (let h = c .before .before .before .before .before .before .before .before .before .before .before .before .before .before .before .before .before .before .before .part-end .ensures .1 in let k = c .before .before .before .before .before .before .before .before .before .before .before .before .before .before .before .before .before .before .before .before .within .ensures .high in omega arith) (c .before .before .before .before .before .before .before .before .before .before .before .before .paint-part .ensures), let l = c .before .before .before .before .before .before .before .before .before .before .before .before .before .before .before .before .before .before .before .before .before .before .loop .inv .1 in omega arith, let l = c .before .before .before .before .before .before .before .before .before .before .before .before .before .before .before .before .before .before .before .before .before .before .loop .inv .2 in omega arith, let l = c .before .before .before .before .before .before .before .before .before .before .before .before .before .before .before .before .before .before .before .before .before .before .loop .inv .3 in omega arith, let l = c .before .before .before .before .before .before .before .before .before .before .before .before .before .before .before .before .before .before .before .before .before .before .loop .inv .4 in omega arith, let l = c .before .before .before .before .before .before .before .before .before .before .before .before .before .before .before .before .before .before .before .before .before .before .loop .inv .5 in omega arith)
 
--- src/lib.rt:147:1
 same-length : tie.Need-same-length Inv-loop μ-loop
 same-length c = let l = c .before .loop .inv .0 .long in omega arith
 
--- src/lib.rt:147:1
 same-length-2 : tie.Need-same-length-2 Inv-loop μ-loop
 same-length-2 c = let l = c .before .loop .inv .1 in omega arith
 
--- src/lib.rt:147:1
 same-length-3 : tie.Need-same-length-3 Inv-loop μ-loop
 same-length-3 c = let l = c .before .loop .inv .2 in omega arith
 
--- src/lib.rt:147:1
 same-length-4 : tie.Need-same-length-4 Inv-loop μ-loop
 same-length-4 c = let l = c .before .loop .inv .3 in omega arith
 
--- src/lib.rt:147:1
 same-length-5 : tie.Need-same-length-5 Inv-loop μ-loop
 same-length-5 c = let l = c .before .loop .inv .4 in omega arith
 
--- src/lib.rt:147:1
 same-length-6 : tie.Need-same-length-6 Inv-loop μ-loop
 same-length-6 c = let l = c .before .loop .inv .5 in omega arith
 
--- src/lib.rt:147:1
 returns : tie.Need-returns Inv-loop μ-loop
 returns c = painting-end _ _ _ _ _ _ _ _ _ (c .before .loop .inv .0) (omega arith) (c .before .before .before .before .before .before .before .before .before .before .before .before .pre .3)
 

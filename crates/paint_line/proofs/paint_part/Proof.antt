@@ -4,59 +4,45 @@ use borrow.Author.Needs.{needs}
 use Rattle.paint_line.proofs.paint_part.Statement.{statement}
 use Rattle.paint_line.proofs.paint_part.Tie as tie
 
--- src/lib.rt:122:9
 first-pair-requires : tie.Need-first-pair-requires
 first-pair-requires c κs = search needs
 
--- src/lib.rt:124:58
 cast-lay-floor : tie.Need-cast-lay-floor
 cast-lay-floor c = search needs
 
--- src/lib.rt:124:9
 lay-floor-requires : tie.Need-lay-floor-requires
 lay-floor-requires c κs = search needs
 
--- src/lib.rt:125:9
 same-length : tie.Need-same-length
 same-length c = search needs
 
--- src/lib.rt:125:9
 returns : tie.Need-returns
 returns c = part-covered _ _ _ _ _ _ _ _ _ (c .before .before .before .before .before .before .before .before .before .before .before .before .before .before .before .pre .9) (c .before .before .before .before .before .before .before .before .before .before .before .before .before .before .before .pre .2) _ _ (c .before .before .before .before .before .first-pair .ensures) (c .before .before .before .before .if1 .taken) (c .before .before .lay-floor .ensures) (c .before .before .before .before .before .before .before .before .before .before .before .before .before .before .before .pre .3)
 
--- src/lib.rt:127:5
 put-floors-requires : tie.Need-put-floors-requires
 put-floors-requires c κs = search needs
 
--- src/lib.rt:128:5
 show-part-requires : tie.Need-show-part-requires
 show-part-requires c κs = (c .before .before .before .before .before .before .before .before .before .before .before .before .before .before .before .before .before .before .before .before .before .before .before .pre .0, c .before .before .before .before .before .before .before .before .before .before .before .before .before .before .before .before .before .before .before .before .before .before .before .pre .1, c .before .before .before .before .before .before .before .before .before .put-floors .ensures, c .before .before .before .before .before .before .before .before .before .before .before .before .before .first-pair .ensures .most, c .before .before .before .before .before .before .before .before .before .before .before .before .before .before .before .before .before .before .before .before .before .before .before .pre .2, c .before .before .before .before .before .before .before .before .before .before .before .before .before .before .before .before .before .before .before .before .before .before .before .pre .3, c .before .before .before .before .before .before .before .before .before .before .before .before .before .before .before .before .before .before .before .before .before .before .before .pre .4, c .before .before .before .before .before .before .before .before .before .before .before .before .before .before .before .before .before .before .before .before .before .before .before .pre .5, c .before .before .before .before .before .before .before .before .before .before .before .before .before .before .before .before .before .before .before .before .before .before .before .pre .8, c .before .before .before .before .before .before .before .before .before .before .before .before .before .before .before .before .before .before .before .before .before .before .before .pre .9, c .before .before .before .before .before .before .before .before .before .before .before .before .before .before .before .before .before .before .before .before .before .before .before .pre .10, c .before .before .before .before .before .before .before .before .before .before .before .before .before .before .before .before .before .before .before .before .before .before .before .pre .11)
 
--- src/lib.rt:102:1
 same-length-2 : tie.Need-same-length-2
 same-length-2 c = search needs
 
--- src/lib.rt:102:1
 same-length-3 : tie.Need-same-length-3
 same-length-3 c = search needs
 
--- src/lib.rt:102:1
 same-length-4 : tie.Need-same-length-4
 same-length-4 c = search needs
 
--- src/lib.rt:102:1
 same-length-5 : tie.Need-same-length-5
 same-length-5 c = search needs
 
--- src/lib.rt:102:1
 same-length-6 : tie.Need-same-length-6
 same-length-6 c = search needs
 
--- src/lib.rt:102:1
 same-length-7 : tie.Need-same-length-7
 same-length-7 c = search needs
 
--- src/lib.rt:102:1
 returns-2 : tie.Need-returns-2
 returns-2 c = search needs
 

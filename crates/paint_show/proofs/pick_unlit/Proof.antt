@@ -12,51 +12,39 @@ Inv-loop out₀ sel row₀ lit s d rows pairs f a x e u c₀ out row c = Mixing 
 abbrev μ-loop : tie.MeasureT-loop
 μ-loop out₀ sel row₀ lit s d rows pairs f a x e u c₀ out row c = pairs + 1 - c
 
--- src/lib.rt:214:5
 loop-holds : tie.Need-loop-holds Inv-loop μ-loop
 loop-holds c = mixing-from _ _ _ _ _ _ _ _ _ _ _ _ _ (c .before .before .before .before .before .before .before .pre .4) (c .before .before .before .before .before .before .before .pre .5) (c .before .before .before .before .before .before .before .pre .7) (c .before .before .before .before .before .before .before .pre .3) (c .before .before .before .before .before .before .before .pre .13)
 
--- src/lib.rt:215:25
 shared-slice-read-skipped : tie.Need-shared-slice-read-skipped Inv-loop μ-loop
 shared-slice-read-skipped c = search mixings
 
--- src/lib.rt:215:33
 cast-skipped : tie.Need-cast-skipped Inv-loop μ-loop
 cast-skipped c = search mixings
 
--- src/lib.rt:215:13
 skipped-requires : tie.Need-skipped-requires Inv-loop μ-loop
 skipped-requires c κs = search mixings
 
--- src/lib.rt:216:57
 cast-pick-floor : tie.Need-cast-pick-floor Inv-loop μ-loop
 cast-pick-floor c = search mixings
 
--- src/lib.rt:216:9
 pick-floor-requires : tie.Need-pick-floor-requires Inv-loop μ-loop
 pick-floor-requires c κs = (c .before .before .before .before .before .before .before .before .before .before .before .before .before .pre .0, c .before .before .before .before .before .before .before .before .before .before .before .before .before .pre .1, some-known _ _ (c .before .before .before .before .loop-test .taken), c .before .before .before .before .before .before .before .before .before .before .before .before .before .pre .6, c .before .before .before .before .before .before .before .before .before .before .before .before .before .pre .7, c .before .before .before .before .before .before .before .before .before .before .before .before .before .pre .8, let l = c .before .before .before .before .before .loop .inv .long in let k = c .before .before .before .before .before .before .before .before .before .before .before .before .before .pre .9 in omega arith, c .before .before .before .before .before .before .before .before .before .before .before .before .before .pre .10, let l = c .before .before .before .before .before .loop .inv .wide in let k = c .before .before .before .before .before .before .before .before .before .before .before .before .before .pre .11 in omega arith)
 
--- src/lib.rt:217:9
 add-c : tie.Need-add-c Inv-loop μ-loop
 add-c c = search mixings
 
--- src/lib.rt:214:5
 loop-less : tie.Need-loop-less Inv-loop μ-loop
 loop-less c = search mixings
 
--- src/lib.rt:214:5
 loop-again : tie.Need-loop-again Inv-loop μ-loop
 loop-again c = mixing-more _ _ _ _ _ _ _ _ _ _ _ _ _ _ _ (c .before .before .before .before .before .before .before .before .before .before .loop .inv) _ _ _ (is-lit _ _ _ (c .before .before .before .before .before .before .before .skipped .ensures)) (c .before .before .before .before .before .before .before .before .before .loop-test .taken) (c .before .before .before .before .before .before .before .before .before .before .before .before .before .before .before .before .before .before .pre .5) (omega arith) (c .before .before .before .before .pick-floor .ensures)
 
--- src/lib.rt:193:1
 same-length : tie.Need-same-length Inv-loop μ-loop
 same-length c = let l = c .before .loop .inv .long in omega arith
 
--- src/lib.rt:193:1
 same-length-2 : tie.Need-same-length-2 Inv-loop μ-loop
 same-length-2 c = let l = c .before .loop .inv .wide in omega arith
 
--- src/lib.rt:193:1
 returns : tie.Need-returns Inv-loop μ-loop
 returns c = mixing-end _ _ _ _ _ _ _ _ _ _ _ _ _ _ _ (c .before .loop .inv) (c .before .before .before .before .before .before .before .before .before .pre .2) (c .before .before .before .before .before .before .before .before .before .pre .7) (omega arith)
 

@@ -4,35 +4,27 @@ use borrow.Author.Needs.{needs}
 use Rattle.paint_show.proofs.show_mixed.Statement.{statement}
 use Rattle.paint_show.proofs.show_mixed.Tie as tie
 
--- src/lib.rt:275:9
 mix-laid-requires : tie.Need-mix-laid-requires
 mix-laid-requires c κs = search needs
 
--- src/lib.rt:276:9
 same-length : tie.Need-same-length
 same-length c = search needs
 
--- src/lib.rt:276:9
 same-length-2 : tie.Need-same-length-2
 same-length-2 c = search needs
 
--- src/lib.rt:276:9
 returns : tie.Need-returns
 returns c = search needs
 
--- src/lib.rt:278:5
 mix-gathered-requires : tie.Need-mix-gathered-requires
 mix-gathered-requires c κs = (c .before .before .before .before .before .before .before .before .before .before .before .pre .0, c .before .before .before .before .before .before .before .before .before .before .before .pre .1, c .before .before .before .before .before .before .before .before .before .before .before .pre .2, c .before .before .before .before .before .before .before .before .before .before .before .pre .3, c .before .before .before .before .before .before .before .before .before .before .before .pre .4, c .before .before .before .before .before .before .before .before .before .before .before .pre .5, c .before .before .before .before .before .before .before .before .before .before .before .pre .6, c .before .before .before .before .before .before .before .before .before .before .before .pre .7, c .before .before .before .before .before .before .before .before .before .before .before .pre .8, let h = c .before .before .before .before .before .before .before .before .before .before .before .pre .9 in omega arith, c .before .before .before .before .before .before .before .before .before .before .before .pre .10, c .before .before .before .before .before .before .before .before .before .before .before .pre .11, c .before .before .before .before .before .before .before .before .before .before .before .pre .12, c .before .before .before .before .before .before .before .before .before .before .before .pre .13 (λ z. c .before .before .if1 .left z))
 
--- src/lib.rt:251:1
 same-length-3 : tie.Need-same-length-3
 same-length-3 c = search needs
 
--- src/lib.rt:251:1
 same-length-4 : tie.Need-same-length-4
 same-length-4 c = search needs
 
--- src/lib.rt:251:1
 returns-2 : tie.Need-returns-2
 returns-2 c = search needs
 

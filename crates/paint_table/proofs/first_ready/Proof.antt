@@ -9,47 +9,36 @@ Inv-loop s d rows pairs f a b c₀ c = (f ≤ c) × (c ≤ pairs + 1)
 abbrev μ-loop : tie.MeasureT-loop
 μ-loop s d rows pairs f a b c₀ c = pairs + 1 - c
 
--- src/lib.rt:56:5
 loop-holds : tie.Need-loop-holds Inv-loop μ-loop
 loop-holds c = search firsts
 
--- src/lib.rt:57:42
 mul-row-at : tie.Need-mul-row-at Inv-loop μ-loop
 mul-row-at c = search firsts
 
--- src/lib.rt:57:42
 add-row-at : tie.Need-add-row-at Inv-loop μ-loop
 add-row-at c = search firsts
 
--- src/lib.rt:57:13
 row-at-requires : tie.Need-row-at-requires Inv-loop μ-loop
 row-at-requires c κs = search firsts
 
--- src/lib.rt:58:12
 rem-if1 : tie.Need-rem-if1 Inv-loop μ-loop
 rem-if1 c = search firsts
 
--- src/lib.rt:59:16
 ready-requires : tie.Need-ready-requires Inv-loop μ-loop
 ready-requires c κs = search firsts
 
--- src/lib.rt:60:17
 returns : tie.Need-returns Inv-loop μ-loop
 returns c = search firsts
 
--- src/lib.rt:63:9
 add-c : tie.Need-add-c Inv-loop μ-loop
 add-c c = search firsts
 
--- src/lib.rt:56:5
 loop-less : tie.Need-loop-less Inv-loop μ-loop
 loop-less c = search firsts
 
--- src/lib.rt:56:5
 loop-again : tie.Need-loop-again Inv-loop μ-loop
 loop-again c = search firsts
 
--- src/lib.rt:51:1
 returns-2 : tie.Need-returns-2 Inv-loop μ-loop
 returns-2 c = search firsts
 

@@ -5,67 +5,51 @@ use borrow.Author.Needs.{needs}
 use Rattle.paint_table.proofs.make_table.Statement.{statement}
 use Rattle.paint_table.proofs.make_table.Tie as tie
 
--- src/lib.rt:154:8
 sub-if1 : tie.Need-sub-if1
 sub-if1 c = search needs
 
--- src/lib.rt:155:9
 returns : tie.Need-returns
 returns c = search making
 
--- src/lib.rt:157:9
 first-ready-requires : tie.Need-first-ready-requires
 first-ready-requires c κs = search needs
 
--- src/lib.rt:159:9
 returns-2 : tie.Need-returns-2
 returns-2 c = search making
 
--- src/lib.rt:161:44
 add-first-ready : tie.Need-add-first-ready
 add-first-ready c = search needs
 
--- src/lib.rt:161:9
 first-ready-requires-2 : tie.Need-first-ready-requires-2
 first-ready-requires-2 c κs = search needs
 
--- src/lib.rt:163:9
 returns-3 : tie.Need-returns-3
 returns-3 c = search making
 
--- src/lib.rt:165:42
 mul-row-at : tie.Need-mul-row-at
 mul-row-at c = search needs
 
--- src/lib.rt:165:42
 add-row-at : tie.Need-add-row-at
 add-row-at c = search needs
 
--- src/lib.rt:165:9
 row-at-requires : tie.Need-row-at-requires
 row-at-requires c κs = (omega arith, row-room _ _ _ _ _ (c .before .before .before .before .before .before .before .before .before .before .pre .0) (omega arith))
 
--- src/lib.rt:166:5
 put-table-requires : tie.Need-put-table-requires
 put-table-requires c κs = (c .before .before .before .before .before .before .before .before .before .before .before .before .before .pre .0, c .before .before .before .before .before .before .before .before .before .before .before .before .before .pre .1, c .before .before .before .before .before .before .before .before .before .before .before .before .before .pre .2, chosen-ready _ _ _ _ _ _ _ (c .before .before .before .before .before .before .first-ready .ensures) (omega arith) _ (c .before .before .row-at .ensures), chosen-divides _ _ _ _ _ _ _ (c .before .before .before .before .before .before .first-ready .ensures) (omega arith) _ (c .before .before .row-at .ensures), omega arith, c .before .before .before .before .before .before .before .before .before .before .before .before .before .pre .4, c .before .before .before .before .before .before .before .before .before .before .before .before .before .pre .5, c .before .before .before .before .before .before .before .before .before .before .before .before .before .pre .6)
 
--- src/lib.rt:167:5
 div-result : tie.Need-div-result
 div-result c = chosen-some _ _ _ _ _ _ _ (c .before .before .before .before .before .before .before .before .before .before .before .before .first-ready .ensures) (omega arith) _ (c .before .before .before .before .before .before .before .before .row-at .ensures)
 
--- src/lib.rt:167:5
 mul-result : tie.Need-mul-result
 mul-result c = search making
 
--- src/lib.rt:140:1
 same-length : tie.Need-same-length
 same-length c = search needs
 
--- src/lib.rt:140:1
 same-length-2 : tie.Need-same-length-2
 same-length-2 c = search needs
 
--- src/lib.rt:140:1
 returns-4 : tie.Need-returns-4
 returns-4 c = search needs
 

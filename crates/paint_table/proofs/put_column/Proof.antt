@@ -5,59 +5,45 @@ use borrow.Author.Needs.{needs}
 use Rattle.paint_table.proofs.put_column.Statement.{statement}
 use Rattle.paint_table.proofs.put_column.Tie as tie
 
--- src/lib.rt:85:38
 mul-row-at : tie.Need-mul-row-at
 mul-row-at c = search needs
 
--- src/lib.rt:85:38
 add-row-at : tie.Need-add-row-at
 add-row-at c = search needs
 
--- src/lib.rt:85:9
 row-at-requires : tie.Need-row-at-requires
 row-at-requires c κs = search columns
 
--- src/lib.rt:86:8
 ready-requires : tie.Need-ready-requires
 ready-requires c κs = search columns
 
--- src/lib.rt:87:9
 put-places-requires : tie.Need-put-places-requires
 put-places-requires c κs = search columns
 
--- src/lib.rt:88:9
 slice-write-lit : tie.Need-slice-write-lit
 slice-write-lit c = search needs
 
--- src/lib.rt:89:9
 same-length : tie.Need-same-length
 same-length c = search needs
 
--- src/lib.rt:89:9
 same-length-2 : tie.Need-same-length-2
 same-length-2 c = search needs
 
--- src/lib.rt:89:9
 returns : tie.Need-returns
 returns c = column-own _ _ _ _ _ _ _ _ _ (c .before .before .before .before .before .before .before .before .before .before .before .before .pre .7) (let h = c .before .before .before .before .before .before .before .before .before .before .before .before .pre .1 in let k = c .before .before .before .before .before .before .before .before .before .before .before .before .pre .2 in omega arith) _ _ (c .before .before .before .before .before .before .row-at .ensures) (c .before .before .before .before .before .ready .ensures) (c .before .before .before .before .if1 .taken) (c .before .before .put-places .ensures)
 
--- src/lib.rt:91:5
 put-places-requires-2 : tie.Need-put-places-requires-2
 put-places-requires-2 c κs = search needs
 
--- src/lib.rt:92:5
 slice-write-lit-2 : tie.Need-slice-write-lit-2
 slice-write-lit-2 c = search needs
 
--- src/lib.rt:69:1
 same-length-3 : tie.Need-same-length-3
 same-length-3 c = search needs
 
--- src/lib.rt:69:1
 same-length-4 : tie.Need-same-length-4
 same-length-4 c = search needs
 
--- src/lib.rt:69:1
 returns-2 : tie.Need-returns-2
 returns-2 c = column-first _ _ _ _ _ _ _ _ _ (c .before .before .before .before .before .before .before .before .before .before .before .before .pre .7) (let h = c .before .before .before .before .before .before .before .before .before .before .before .before .pre .1 in let k = c .before .before .before .before .before .before .before .before .before .before .before .before .pre .2 in omega arith) (c .before .before .before .before .before .before .before .before .before .before .before .before .pre .3) (c .before .before .put-places2 .ensures)
 

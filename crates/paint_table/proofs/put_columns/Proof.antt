@@ -9,35 +9,27 @@ Inv-loop t₀ lit₀ s d rows pairs f first a b c₀ t lit c = Tabling d rows fi
 abbrev μ-loop : tie.MeasureT-loop
 μ-loop t₀ lit₀ s d rows pairs f first a b c₀ t lit c = pairs + 1 - c
 
--- src/lib.rt:133:5
 loop-holds : tie.Need-loop-holds Inv-loop μ-loop
 loop-holds c = search tablings
 
--- src/lib.rt:134:9
 put-column-requires : tie.Need-put-column-requires Inv-loop μ-loop
 put-column-requires c κs = search tablings
 
--- src/lib.rt:135:9
 add-c : tie.Need-add-c Inv-loop μ-loop
 add-c c = search tablings
 
--- src/lib.rt:133:5
 loop-less : tie.Need-loop-less Inv-loop μ-loop
 loop-less c = search tablings
 
--- src/lib.rt:133:5
 loop-again : tie.Need-loop-again Inv-loop μ-loop
 loop-again c = search tablings
 
--- src/lib.rt:116:1
 same-length : tie.Need-same-length Inv-loop μ-loop
 same-length c = search tablings
 
--- src/lib.rt:116:1
 same-length-2 : tie.Need-same-length-2 Inv-loop μ-loop
 same-length-2 c = search tablings
 
--- src/lib.rt:116:1
 returns : tie.Need-returns Inv-loop μ-loop
 returns c = search tablings
 

@@ -9,59 +9,45 @@ Inv-loop t₀ d c r k a b j₀ t j = Placing t₀ c r a t j
 abbrev μ-loop : tie.MeasureT-loop
 μ-loop t₀ d c r k a b j₀ t j = 12 - j
 
--- src/lib.rt:43:5
 loop-holds : tie.Need-loop-holds Inv-loop μ-loop
 loop-holds c = search placings
 
--- src/lib.rt:44:43
 add-sample-of : tie.Need-add-sample-of Inv-loop μ-loop
 add-sample-of c = search placings
 
--- src/lib.rt:44:13
 sample-of-requires : tie.Need-sample-of-requires Inv-loop μ-loop
 sample-of-requires c κs = search placings
 
--- src/lib.rt:45:36
 mul-t : tie.Need-mul-t Inv-loop μ-loop
 mul-t c = search placings
 
--- src/lib.rt:45:29
 add-t : tie.Need-add-t Inv-loop μ-loop
 add-t c = search placings
 
--- src/lib.rt:45:11
 mul-t-2 : tie.Need-mul-t-2 Inv-loop μ-loop
 mul-t-2 c = search placings
 
--- src/lib.rt:45:11
 add-t-2 : tie.Need-add-t-2 Inv-loop μ-loop
 add-t-2 c = search placings
 
--- src/lib.rt:45:9
 mul-t-3 : tie.Need-mul-t-3 Inv-loop μ-loop
 mul-t-3 c = search placings
 
--- src/lib.rt:45:9
 slice-write-t : tie.Need-slice-write-t Inv-loop μ-loop
 slice-write-t c = search placings
 
--- src/lib.rt:46:9
 add-j : tie.Need-add-j Inv-loop μ-loop
 add-j c = search placings
 
--- src/lib.rt:43:5
 loop-less : tie.Need-loop-less Inv-loop μ-loop
 loop-less c = search placings
 
--- src/lib.rt:43:5
 loop-again : tie.Need-loop-again Inv-loop μ-loop
 loop-again c = search placings
 
--- src/lib.rt:38:1
 same-length : tie.Need-same-length Inv-loop μ-loop
 same-length c = search placings
 
--- src/lib.rt:38:1
 returns : tie.Need-returns Inv-loop μ-loop
 returns c = search placings
 

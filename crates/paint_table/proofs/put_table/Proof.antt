@@ -3,27 +3,21 @@ use borrow.Author.Needs.{needs}
 use Rattle.paint_table.proofs.put_table.Statement.{statement}
 use Rattle.paint_table.proofs.put_table.Tie as tie
 
--- src/lib.rt:112:22
 cast-put-places : tie.Need-cast-put-places
 cast-put-places c = search needs
 
--- src/lib.rt:112:5
 put-places-requires : tie.Need-put-places-requires
 put-places-requires c κs = search needs
 
--- src/lib.rt:113:5
 put-columns-requires : tie.Need-put-columns-requires
 put-columns-requires c κs = (c .before .before .before .before .before .before .before .before .before .before .before .pre .0, c .before .before .before .before .before .before .before .before .before .before .before .pre .1, c .before .before .before .before .before .before .before .before .before .before .before .pre .2, c .before .before .before .before .before .before .before .before .before .before .before .pre .3, c .before .before .before .before .before .before .before .before .before .before .before .pre .4, c .before .before .before .before .before .before .before .before .before .before .before .pre .5, c .before .before .before .before .before .before .before .before .before .before .before .pre .6, let h = c .before .before .before .before .put-places .ensures .long in let k = c .before .before .before .before .before .before .before .before .before .before .before .pre .7 in omega arith, c .before .before .before .before .before .before .before .before .before .before .before .pre .8, c .before .before .before .before .put-places .ensures .here)
 
--- src/lib.rt:96:1
 same-length : tie.Need-same-length
 same-length c = search needs
 
--- src/lib.rt:96:1
 same-length-2 : tie.Need-same-length-2
 same-length-2 c = search needs
 
--- src/lib.rt:96:1
 returns : tie.Need-returns
 returns c = search needs
 

@@ -3,43 +3,33 @@ use borrow.Author.Needs.{needs}
 use Rattle.paint_table.proofs.ready.Statement.{statement}
 use Rattle.paint_table.proofs.ready.Tie as tie
 
--- src/lib.rt:22:9
 returns : tie.Need-returns
 returns c = search readying
 
--- src/lib.rt:25:9
 returns-2 : tie.Need-returns-2
 returns-2 c = search readying
 
--- src/lib.rt:28:9
 returns-3 : tie.Need-returns-3
 returns-3 c = search readying
 
--- src/lib.rt:31:9
 returns-4 : tie.Need-returns-4
 returns-4 c = search readying
 
--- src/lib.rt:33:39
 sub-sample-of : tie.Need-sub-sample-of
 sub-sample-of c = search needs
 
--- src/lib.rt:33:9
 sample-of-requires : tie.Need-sample-of-requires
 sample-of-requires c κs = search needs
 
--- src/lib.rt:34:12
 mul-result : tie.Need-mul-result
 mul-result c = search readying
 
--- src/lib.rt:34:5
 add-result : tie.Need-add-result
 add-result c = search readying
 
--- src/lib.rt:34:5
 add-result-2 : tie.Need-add-result-2
 add-result-2 c = search readying
 
--- src/lib.rt:17:1
 returns-5 : tie.Need-returns-5
 returns-5 c = search readying
 
