@@ -127,7 +127,7 @@ fn pick_floor(
     }
 }
 
-// The floors of all pairs, where v and the dark are shown.
+// The floors from f on, where v and the dark are shown.
 fn pick_pairs(
     out: &mut [u8],
     sel: &[u8],
@@ -136,18 +136,19 @@ fn pick_pairs(
     d: &[u8],
     rows: &[usize],
     pairs: usize,
+    f: usize,
     v: u8,
     a: usize,
     x: usize,
     e: usize,
     u: u32,
 )
-    requires { ⌜ RowsFit (now s) (now d) (now rows) pairs × PlainRows (now rows) pairs × Paired (now sel) (x - a) (e - a) pairs × (pairs ≤ 7) × (e < 65536) × (a ≤ x) × (x ≤ e)
-        × (e * 4 ≤ length (now out)) × (e - a ≤ length (now sel)) × ((e - x) * 4 ≤ length (now row))
+    requires { ⌜ RowsFit (now s) (now d) (now rows) pairs × PlainRows (now rows) pairs × Paired (now sel) (x - a) (e - a) pairs × Least (now sel) (x - a) (e - a) f × (f ≤ pairs) × (pairs ≤ 7)
+        × (e < 65536) × (a ≤ x) × (x ≤ e) × (e * 4 ≤ length (now out)) × (e - a ≤ length (now sel)) × ((e - x) * 4 ≤ length (now row))
         × Begun (octetsOf u) (now s) (now d) (now rows) (now sel) a x e (isFloor v) (now out) ⌝ }
     ensures { λ _. ⌜ Coated (shows (octetsOf u) (now (s .entry)) (now (d .entry)) (now (rows .entry)) (now (sel .entry)) a) (now (out .entry)) x e (now (out .exit)) ⌝ }
 {
-    let mut c = 0;
+    let mut c = f;
     while c <= pairs {
         pick_floor(out, sel, row, s, d, rows, pairs, v, c as u8, a, x, e, u);
         c += 1;
@@ -163,19 +164,20 @@ fn mix_laid(
     d: &[u8],
     rows: &[usize],
     pairs: usize,
+    f: usize,
     a: usize,
     x: usize,
     e: usize,
     u: u32,
 )
-    requires { ⌜ RowsFit (now s) (now d) (now rows) pairs × PlainRows (now rows) pairs × Paired (now sel) (x - a) (e - a) pairs × (pairs ≤ 7) × (e < 65536) × (a ≤ x) × (x < e)
-        × (e * 4 ≤ length (now out)) × (e - a ≤ length (now sel)) × ((e - x) * 4 ≤ length (now row)) ⌝ }
+    requires { ⌜ RowsFit (now s) (now d) (now rows) pairs × PlainRows (now rows) pairs × Paired (now sel) (x - a) (e - a) pairs × Least (now sel) (x - a) (e - a) f × (f ≤ pairs) × (pairs ≤ 7)
+        × (e < 65536) × (a ≤ x) × (x < e) × (e * 4 ≤ length (now out)) × (e - a ≤ length (now sel)) × ((e - x) * 4 ≤ length (now row)) ⌝ }
     ensures { λ _. ⌜ Coated (shows (octetsOf u) (now (s .entry)) (now (d .entry)) (now (rows .entry)) (now (sel .entry)) a) (now (out .entry)) x e (now (out .exit)) ⌝ }
 {
     let v = sel[x - a];
     lay_floor(out, x, s, d, rows, pairs, v, x, e, u);
     pick_floor(out, sel, row, s, d, rows, pairs, v, DARK, a, x, e, u);
-    pick_pairs(out, sel, row, s, d, rows, pairs, v, a, x, e, u);
+    pick_pairs(out, sel, row, s, d, rows, pairs, f, v, a, x, e, u);
 }
 
 // No floor has this number.
@@ -272,7 +274,7 @@ fn show_mixed(
     ensures { λ _. ⌜ Coated (shows (octetsOf u) (now (s .entry)) (now (d .entry)) (now (rows .entry)) (now (sel .entry)) a) (now (out .entry)) x e (now (out .exit)) ⌝ }
 {
     if step == 0 {
-        mix_laid(out, sel, row, s, d, rows, pairs, a, x, e, u);
+        mix_laid(out, sel, row, s, d, rows, pairs, f, a, x, e, u);
         return;
     }
     mix_gathered(

@@ -1,54 +1,38 @@
-use native.Mathlib.Omega.{arith}
 use borrow.Author.Needs.{needs}
 use borrow.Author.Needs.{needs}
 use Rattle.paint_line.proofs.draw_line.Statement.{statement}
 use Rattle.paint_line.proofs.draw_line.Tie as tie
-use Rattle.paint_line.proofs.draw_line.Reads as reads
-use Rattle.paint_line.proofs.draw_line.Lts as lts
-use Rattle.line_put.proofs.put_pixels.Reads as put-pixels-reads
-use Rattle.paint_line.proofs.paint_line.Reads as paint-line-reads
 
--- src/lib.rt:233:9
 put-pixels-requires : tie.Need-put-pixels-requires
 put-pixels-requires c κs = search needs
 
--- src/lib.rt:234:9
 same-length : tie.Need-same-length
 same-length c = search needs
 
--- src/lib.rt:234:9
 returns : tie.Need-returns
 returns c = search needs
 
--- src/lib.rt:243:9
 slice-aggregate-paint-line : tie.Need-slice-aggregate-paint-line
 slice-aggregate-paint-line c = search needs
 
--- src/lib.rt:244:9
 slice-aggregate-paint-line-2 : tie.Need-slice-aggregate-paint-line-2
 slice-aggregate-paint-line-2 c = search needs
 
--- src/lib.rt:245:9
 slice-aggregate-paint-line-3 : tie.Need-slice-aggregate-paint-line-3
 slice-aggregate-paint-line-3 c = search needs
 
--- src/lib.rt:246:9
 slice-aggregate-paint-line-4 : tie.Need-slice-aggregate-paint-line-4
 slice-aggregate-paint-line-4 c = search needs
 
--- src/lib.rt:247:9
 slice-aggregate-paint-line-5 : tie.Need-slice-aggregate-paint-line-5
 slice-aggregate-paint-line-5 c = search needs
 
--- src/lib.rt:241:5
 paint-line-requires : tie.Need-paint-line-requires
 paint-line-requires c κs = (c .before .before .before .before .before .before .before .before .before .before .before .pre .0, c .before .before .before .before .before .before .before .before .before .before .before .pre .1, c .before .before .before .before .before .before .before .before .before .before .before .pre .2, c .before .before .before .before .before .before .before .before .before .before .before .pre .3, c .before .before .before .before .before .before .before .before .before .before .before .pre .4, search needs, search needs, search needs, search needs, search needs)
 
--- src/lib.rt:219:1
 same-length-2 : tie.Need-same-length-2
 same-length-2 c = search needs
 
--- src/lib.rt:219:1
 returns-2 : tie.Need-returns-2
 returns-2 c = search needs
 

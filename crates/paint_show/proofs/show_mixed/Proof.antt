@@ -5,7 +5,7 @@ use Rattle.paint_show.proofs.show_mixed.Statement.{statement}
 use Rattle.paint_show.proofs.show_mixed.Tie as tie
 
 mix-laid-requires : tie.Need-mix-laid-requires
-mix-laid-requires c κs = search needs
+mix-laid-requires c κs = (c .before .before .before .before .before .before .before .before .before .before .before .pre .0, c .before .before .before .before .before .before .before .before .before .before .before .pre .1, c .before .before .before .before .before .before .before .before .before .before .before .pre .2, c .before .before .before .before .before .before .before .before .before .before .before .pre .3, c .before .before .before .before .before .before .before .before .before .before .before .pre .4, c .before .before .before .before .before .before .before .before .before .before .before .pre .5, c .before .before .before .before .before .before .before .before .before .before .before .pre .7, c .before .before .before .before .before .before .before .before .before .before .before .pre .8, c .before .before .before .before .before .before .before .before .before .before .before .pre .9, c .before .before .before .before .before .before .before .before .before .before .before .pre .10, c .before .before .before .before .before .before .before .before .before .before .before .pre .11, c .before .before .before .before .before .before .before .before .before .before .before .pre .12)
 
 same-length : tie.Need-same-length
 same-length c = search needs
