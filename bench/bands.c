@@ -1,5 +1,6 @@
 // Times the proved composing of a band beside tuned C, which paints layer by layer too, and beside
-// the proved line call, line by line, on the same sheets and samples in one run. First all must agree,
+// a line call, line by line, on the same sheets and samples in one run: with BEFORE that of an earlier
+// library, which goes pixel by pixel, else the proved one, which paints lines too. First all must agree,
 // answer and band octet for octet, on what is timed and on small calls, good and damaged. Last, the
 // line call beside one line by that C.
 #include "band.h"
@@ -34,14 +35,26 @@ static const uint8_t *second_of(const uint8_t *sheet, uint32_t stripe)
     return sheet + RECORD_SIZE;
 }
 
+#ifdef BEFORE
+spirerook_answer before_line_unseen(const uint8_t *sheet, size_t sheet_len, const uint8_t *planes,
+                                    size_t planes_len, const uint8_t *samples, size_t samples_len,
+                                    uint32_t stripe, uint32_t line, uint8_t u0, uint8_t u1,
+                                    uint8_t u2, uint8_t *out, size_t out_len);
+#define LINE_CALL before_line_unseen
+#define LINE_NAME "the line call of the library before"
+#else
+#define LINE_CALL spirerook_line_unseen
+#define LINE_NAME "the line call"
+#endif
+
 // A band by the line call. The first has no room, so that it only judges.
 static spirerook_answer by_lines(const uint8_t *sheet, size_t sheet_len, const uint8_t *planes,
                                  size_t planes_len, const uint8_t *samples, size_t samples_len,
                                  uint32_t stripe, uint8_t u0, uint8_t u1, uint8_t u2, uint8_t *out,
                                  size_t out_len)
 {
-    spirerook_answer a = spirerook_line_unseen(sheet, sheet_len, planes, planes_len, samples,
-                                               samples_len, stripe, 0, u0, u1, u2, out, 0);
+    spirerook_answer a = LINE_CALL(sheet, sheet_len, planes, planes_len, samples, samples_len,
+                                   stripe, 0, u0, u1, u2, out, 0);
     if (a.number != SPIREROOK_NO_ROOM)
         return a;
     const uint8_t *second = second_of(sheet, stripe);
@@ -49,8 +62,8 @@ static spirerook_answer by_lines(const uint8_t *sheet, size_t sheet_len, const u
     if (out_len < count)
         return a;
     for (uint32_t y = 0; y < be16(second + 10); y++)
-        a = spirerook_line_unseen(sheet, sheet_len, planes, planes_len, samples, samples_len,
-                                  stripe, y, u0, u1, u2, out + size * y, size);
+        a = LINE_CALL(sheet, sheet_len, planes, planes_len, samples, samples_len, stripe, y, u0, u1,
+                      u2, out + size * y, size);
     a.count = count;
     return a;
 }
@@ -294,7 +307,7 @@ static void print_bands(void)
     }
     printf("\n%u of %d bands are over the limit, %.1f times C; %u are at most C's time\n", over,
            BAND_ROWS, LIMIT, least);
-    printf("%u of %d bands with masks in runs are over %.2f times the line call\n\n", slow,
+    printf("%u of %d bands with masks in runs are over %.2f times " LINE_NAME "\n\n", slow,
            BAND_ROWS / 2, LINES_LIMIT);
 }
 
@@ -325,8 +338,8 @@ static void print_lines(void)
     printf("\n%u of %d lines are over the limit, %.1f times the C of a band\n", over, PIXEL_ROWS,
            LINE_LIMIT);
     puts(
-        "\nratios: Rattle / the other, below 1 is faster; C paints a band layer by layer, lowest first, as Rattle does; lines is the line call, once a "
-        "line");
+        "\nratios: Rattle / the other, below 1 is faster; C paints a band layer by layer, lowest first, as Rattle does; lines is " LINE_NAME
+        ", once a line");
 }
 
 int main(void)

@@ -143,8 +143,10 @@ def bands(lines):
     begin, beside = "bands, ns a pixel", ("beside C", "beside lines")
     rows = band_rows(lines, begin)
     kinds = list(next(iter(rows.values())))
+    earlier = any("lines is the line call of the library before" in line for line in lines)
     table("A band of pixels", "A stripe of 2480 by 96 pixels in one call, beside tuned C that paints layer by layer too, sixteen pixels a step; then "
-          "beside the line call, once a line. All layers are read; or both of every other pair above layer 3 are unread; or masks and images in turn.",
+          "beside the line call%s, once a line. All layers are read; or both of every other pair above layer 3 are unread; or masks and images in turn."
+          % (" of an earlier library, which went pixel by pixel" if earlier else ""),
           ("stripe", *("%s, %s" % (kind, what) for what in beside for kind in kinds)),
           [(name, *(row[kind][k] for k in range(2) for kind in kinds)) for name, row in rows.items()])
     tell_lines(lines, begin, " bands are over the limit", " bands with masks in runs ")
