@@ -64,7 +64,7 @@ cond-octets : (z : Bool) (up u : ℕ) → octetsOf (cond z up u) ≡ cond z (oct
 cond-octets true up u = refl
 cond-octets false up u = refl
 
-agreed-word : (low up u : ℕ) → octetsOf (cond (eqb low up) up u) ≡ agreed (octetsOf up) (octetsOf u) (octetsOf low)
+pub agreed-word : (low up u : ℕ) → octetsOf (cond (eqb low up) up u) ≡ agreed (octetsOf up) (octetsOf u) (octetsOf low)
 unfolding agreed
 agreed-word low up u =
     cond-octets (eqb low up) up u ∙ ap (λ (z : Bool). cond z (octetsOf up) (octetsOf u)) (same-tests (eqb low up) (sameFour (octetsOf low) (octetsOf up)) (says-eq low up) (same-says low up))
@@ -317,7 +317,7 @@ module _ (f : ℕ → List ℕ → List ℕ) (l : List ℕ) (x0 x1 : ℕ) (row�
   pub settle-begun : x0 ≤ x1 → Settling f l x0 x1 row₀ l row₀ x0
   settle-begun h = record { from = omega arith; upto = h; long = refl; work = refl; done = coated-none f l x0 x0 (omega arith) }
 
-  settle-more : (out row new row′ : List ℕ) (x e : ℕ) → Settling f l x0 x1 row₀ out row x → x ≤ e → e ≤ x1 → Coated f out x e new → length row′ ≡ length row
+  pub settle-more : (out row new row′ : List ℕ) (x e : ℕ) → Settling f l x0 x1 row₀ out row x → x ≤ e → e ≤ x1 → Coated f out x e new → length row′ ≡ length row
       → Settling f l x0 x1 row₀ new row′ e
   settle-more out row new row′ x e c h k g w =
       let a = c .from in

@@ -5,6 +5,7 @@
 --   bitsFrom m p i       a mask's samples from place i on, the first at p
 --   Spread m i k n l e   n samples from place i on stand k times each
 --   maskBits d m a       the samples of a mask of row m, as they stand at the pixels from a on
+--   SpreadAt             the octets of the mask's pixels from x up to y stand from place r on
 --   MaskPart             the pixels from x up to y lie in the area of a mask that was read
 use Prim.Native.Nat.{ℕ, _+_, _-_, _*_, _/_, _≤_, _<_}
 use mathlib.Core.Path.{_≡_}
@@ -42,3 +43,8 @@ pub record MaskPart (d : List ℕ) (m : Row) (x y : ℕ) : Type 0 where
   pub to : y ≤ m .to
   pub near : y < 65536
   pub there : (z : ℕ) → m .from ≤ z → z < m .to → m .at + (z - m .from) / m .ratio < length d
+
+pub record SpreadAt (d : List ℕ) (m : Row) (x y room r : ℕ) (e : List ℕ) : Type 0 where
+  pub long : length e ≡ room
+  pub fits : r + (y - x) ≤ room
+  pub there : (i : ℕ) → i < y - x → getD e (r + i) 0 ≡ getD d (m .at + (x + i - m .from) / m .ratio) 0

@@ -4,7 +4,7 @@ ghost use mathlib.Core.Bool.{cond};
 ghost use Prim.Native.Nat.{_+_, _-_, _*_, _<_, _≤_};
 ghost use lib.ListN.{length};
 ghost use lib.Dec.{eqb};
-ghost use Rattle.paint_choice.specs.Choice.{Marked, ever, bitsFrom, Spread, maskBits, MaskPart};
+ghost use Rattle.paint_choice.specs.Choice.{Marked, ever, bitsFrom, Spread, maskBits, SpreadAt, MaskPart};
 use line_fetch::Row;
 
 // Mask 0 keeps.
@@ -104,6 +104,17 @@ fn lay_bits(bits: &mut [u8], m: &[u8], i: usize, n: usize, k: usize)
     }
 }
 
+// A mask that was read, in a part of its area, as octets of its pixels: it answers where the octet of pixel x is.
+pub fn spread(bits: &mut [u8], d: &[u8], m: Row, x: usize, y: usize) -> usize
+    requires { ⌜ MaskPart (now d) m x y × (y - x + 24 ≤ length (now bits)) ⌝ }
+    ensures { λ r. ⌜ SpreadAt (now (d .entry)) m x y (length (now (bits .entry))) r (now (bits .exit)) ⌝ }
+{
+    let i = paint_image::sample_of(m, x);
+    let n = paint_image::sample_of(m, y - 1) - i + 1;
+    lay_bits(bits, d, m.at + i, n, m.ratio);
+    x - (m.from + i * m.ratio)
+}
+
 // A mask that was read, in a part of its area: pixels from x up to y, the floors starting at pixel a.
 pub fn mask_read(
     sel: &mut [u8],
@@ -122,8 +133,6 @@ pub fn mask_read(
         choose(sel, x - a, y - a, d, m.at + (x - m.from), v);
         return;
     }
-    let i = paint_image::sample_of(m, x);
-    let n = paint_image::sample_of(m, y - 1) - i + 1;
-    lay_bits(bits, d, m.at + i, n, m.ratio);
-    choose(sel, x - a, y - a, bits, x - (m.from + i * m.ratio), v);
+    let i = spread(bits, d, m, x, y);
+    choose(sel, x - a, y - a, bits, i, v);
 }

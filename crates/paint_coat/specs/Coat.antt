@@ -2,7 +2,9 @@
 --
 --   Coated f l a b e   the pixels a up to b were painted, each by f from what stood there: the row was l and is e
 --   over up            whatever stood there, pixel x is then up x
+--   kept               what stood there
 --   flat v             the same four octets at every pixel
+--   chosenBy m low up  by what is below where the mask m is 0, and else by what is above
 --   fourIn n s p       the four octets of the seen sample of n octets at a place
 --   samplesBy n k s t i   samples of n octets, k pixels each, the first at pixel t and place i
 --   WideBy             n samples of three octets are laid, up to pixel r
@@ -22,6 +24,12 @@ pub record Coated (f : ℕ → List ℕ → List ℕ) (l : List ℕ) (a b : ℕ)
 
 unfoldable pub over : (ℕ → List ℕ) → ℕ → List ℕ → List ℕ
 over up x old = up x
+
+unfoldable pub kept : ℕ → List ℕ → List ℕ
+kept x old = old
+
+unfoldable pub chosenBy : (ℕ → ℕ) → (ℕ → List ℕ → List ℕ) → (ℕ → List ℕ → List ℕ) → ℕ → List ℕ → List ℕ
+chosenBy mask low up x old = cond (eqb (mask x) 0) (low x old) (up x old)
 
 unfoldable pub flat : List ℕ → ℕ → List ℕ
 flat v x = v

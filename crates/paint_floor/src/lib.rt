@@ -15,7 +15,7 @@ use line_fetch::Row;
 pub const DARK: u8 = 8;
 
 // The layer's area has all pixels from a up to b.
-fn spans(r: Row, a: usize, b: usize) -> bool
+pub fn spans(r: Row, a: usize, b: usize) -> bool
     ensures { λ z. ⌜ (z ≡ true → Between r a b) ⌝ }
 {
     if r.from <= a {
@@ -102,7 +102,7 @@ fn mask_pair(
 }
 
 // The pair shows its image layer all over a part, whatever lies below: its mask is 1 without samples, or neither of its layers is read.
-fn covers(m: Row, r: Row, a: usize, b: usize) -> bool
+pub fn covers(m: Row, r: Row, a: usize, b: usize) -> bool
     ensures { λ z. ⌜ (z ≡ true → Covers m r a b) ⌝ }
 {
     if m.other != 0 {

@@ -1,9 +1,12 @@
 -- One law for each way out of the functions of words: its premises are what is known there.
 -- Assumes nothing.
-use Prim.Native.Nat.{ℕ, suc, _+_, _*_, _/_, _%_, _≤_, _<_}
+use Prim.Native.Nat.{ℕ, suc, _+_, _-_, _*_, _/_, _%_, _≤_, _<_}
 use native.Mathlib.Omega.{arith}
-use mathlib.Core.Path.{_≡_}
-use mathlib.Core.Bool.{cond}
+use mathlib.Core.Path.{_≡_, sym, subst}
+use mir.Val.{Fits}
+use mir.Syntax.{w32}
+use native.Mathlib.Nat.{mul-le-mul}
+use mathlib.Core.Bool.{Bool, true, false, cond}
 use mathlib.Core.List.{List, [], _∷_}
 use lib.ListN.{length, getD, set}
 use lib.Dec.{eqb}
@@ -63,3 +66,42 @@ pub same-other : (low up o : ℕ) → (low ≡ up → ⊥) → o ≡ cond (eqb l
 same-other low up o n = simp (ne-eqb low up n)
 
 pub ruleset picking = (needs, same-up, same-other)
+
+pub bit-zero : (m : ℕ) → m ≡ 0 → 0 ≡ cond {A = ℕ} (eqb m 0) 0 1
+bit-zero m e = simp (eq-eqb m 0 e)
+
+pub bit-one : (m : ℕ) → (m ≡ 0 → ⊥) → 1 ≡ cond {A = ℕ} (eqb m 0) 0 1
+bit-one m n = simp (ne-eqb m 0 n)
+
+-- a sum of products, of which one is with 0
+chosen-sum : (z : Bool) (b low up : ℕ) → b ≡ cond {A = ℕ} z 0 1 → low * (1 - b) + up * b ≡ cond z low up
+chosen-sum true b low up e = rw e (omega arith)
+chosen-sum false b low up e = rw e (omega arith)
+
+pub either-is : (m b low up : ℕ) → b ≡ cond {A = ℕ} (eqb m 0) 0 1 → low * (1 - b) + up * b ≡ cond (eqb m 0) low up
+either-is m b low up e = chosen-sum (eqb m 0) b low up e
+
+pub bit-most : (m b : ℕ) → b ≡ cond {A = ℕ} (eqb m 0) 0 1 → b ≤ 1
+bit-most m b e = by (eqb m 0) e
+  where
+    by : (z : Bool) → b ≡ cond {A = ℕ} z 0 1 → b ≤ 1
+    by true k = omega arith
+    by false k = omega arith
+
+pub times-fits : (w b : ℕ) → b ≤ 1 → w < 4294967296 → Fits w32 (w * b)
+times-fits w b h k = let m = mul-le-mul {n₁ = w} {m₁ = b} {n₂ = w} {m₂ = 1} (omega arith) h in record { fits = omega arith }
+
+pub either-fits : (m b low up : ℕ) → b ≡ cond {A = ℕ} (eqb m 0) 0 1 → low < 4294967296 → up < 4294967296 → Fits w32 (low * (1 - b) + up * b)
+either-fits m b low up e h k = subst (λ (n : ℕ). Fits w32 n) (sym (either-is m b low up e)) (by (eqb m 0))
+  where
+    by : (z : Bool) → Fits w32 (cond z low up)
+    by true = record { fits = h }
+    by false = record { fits = k }
+
+pub ruleset choosing = (needs, bit-zero, bit-one, either-is)
+
+-- ---- four pixels
+
+pub fours-put : (l o p q r v₁ v₂ v₃ v₄ : List ℕ) (at : ℕ) → o ≡ putAt l at v₁ → p ≡ putAt o (at + 4) v₂ → q ≡ putAt p (at + 8) v₃ → r ≡ putAt q (at + 12) v₄
+    → r ≡ putAt (putAt (putAt (putAt l at v₁) (at + 4) v₂) (at + 8) v₃) (at + 12) v₄
+fours-put l o p q r v₁ v₂ v₃ v₄ at e f g h = cc

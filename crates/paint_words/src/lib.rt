@@ -69,3 +69,29 @@ pub fn same(low: u32, up: u32, other: u32) -> u32
 {
     if low == up { up } else { other }
 }
+
+// 0 under a mask's 0, and else 1.
+fn bit(m: u8) -> u32
+    ensures { λ r. ⌜ r ≡ cond (eqb m 0) 0 1 ⌝ }
+{
+    if m == 0 { 0 } else { 1 }
+}
+
+// The lower pixel under a mask's 0, and else the upper one: a sum of products, of which the compiler makes no branch.
+pub fn either(m: u8, low: u32, up: u32) -> u32
+    ensures { λ r. ⌜ r ≡ cond (eqb m 0) low up ⌝ }
+{
+    let b = bit(m);
+    low * (1 - b) + up * b
+}
+
+// Four pixels, one behind the other: where all were fetched before, the compiler puts them by one store.
+pub fn put_four(d: &mut [u8], at: usize, a: u32, b: u32, c: u32, e: u32)
+    requires { ⌜ at + 16 ≤ length (now d) ⌝ }
+    ensures { λ _. ⌜ now (d .exit) ≡ putAt (putAt (putAt (putAt (now (d .entry)) at (octetsOf a)) (at + 4) (octetsOf b)) (at + 8) (octetsOf c)) (at + 12) (octetsOf e) ⌝ }
+{
+    put_word(d, at, a);
+    put_word(d, at + 4, b);
+    put_word(d, at + 8, c);
+    put_word(d, at + 12, e);
+}

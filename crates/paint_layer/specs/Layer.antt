@@ -1,0 +1,35 @@
+-- One pair over a part of a row.
+--
+--   wordsFrom row a x    the pixels of a row that starts at pixel a
+--   maskAt d m x         the sample of a mask of row m at pixel x of its area
+--   agrees up un         what stood there, where `up` has the same four octets, and else the unseen pixel
+--   Span d r x y         the layer has a sample of three octets at each of the pixels x up to y, and another octet behind the last
+--   Dark r x y           it was not read, and has them in its area
+use Prim.Native.Nat.{ℕ, _+_, _-_, _*_, _/_, _≤_}
+use mathlib.Core.Path.{_≡_}
+use mathlib.Core.List.{List}
+use lib.ListN.{length, getD}
+use Rattle.line_fetch.specs.declared.Row.{Row}
+use Rattle.paint_words.specs.Words.{fourFrom}
+use Rattle.paint_agree.specs.Agree.{agreed}
+
+unfoldable pub wordsFrom : List ℕ → ℕ → ℕ → List ℕ
+wordsFrom row a x = fourFrom row ((x - a) * 4)
+
+unfoldable pub maskAt : List ℕ → Row → ℕ → ℕ
+maskAt d m x = getD d (m .at + (x - m .from) / m .ratio) 0
+
+unfoldable pub agrees : (ℕ → List ℕ) → List ℕ → ℕ → List ℕ → List ℕ
+agrees up un x old = agreed (up x) un old
+
+pub record Span (d : List ℕ) (r : Row) (x y : ℕ) : Type 0 where
+  pub three : r .read ≡ 3
+  pub single : r .ratio ≡ 1
+  pub from : r .from ≤ x
+  pub to : y ≤ r .to
+  pub more : r .at + (y - r .from) * 3 + 1 ≤ length d
+
+pub record Dark (r : Row) (x y : ℕ) : Type 0 where
+  pub unread : r .read ≡ 0
+  pub from : r .from ≤ x
+  pub to : y ≤ r .to

@@ -1,0 +1,2 @@
+pub mod Fours
+pub mod Laws
