@@ -4,29 +4,28 @@ use Prim.Native.Nat.{ℕ, zero, suc, _+_, _-_, _*_, _/_, _%_, _≤_, _<_}
 use native.Mathlib.Omega.{arith}
 use mathlib.Core.Path.{_≡_, refl, sym, ap, ap₂, subst, _∙_}
 use mathlib.Core.Logic.{_≢_, ⊎-elim}
-use mathlib.Core.Bool.{Bool, true, false, _&&_, cond}
+use mathlib.Core.Bool.{Bool, true, false, cond}
 use mathlib.Core.List.{List, [], _∷_}
-use lib.ListN.{length, getD, take, drop}
+use lib.ListN.{length, getD}
 use lib.Seq.{ext-getD}
 use lib.Dec.{eqb}
 use borrow.Author.Tests.{ne-eqb, lt-ltb, le-ltb}
 use borrow.Author.Needs.{needs}
 use Rattle.laws.proofs.Cases.{clash}
-use Rattle.laws.proofs.Says.{says-eq, says-and, says-lt, says-else}
+use Rattle.laws.proofs.Says.{says-lt, says-else}
 use Rattle.octets.specs.Octets.{putAt}
-use Rattle.octets.proofs.Laws.{put-length, put-getD, put-getD-after, drop-octet}
+use Rattle.octets.proofs.Laws.{put-length, put-getD, put-getD-after}
 use Rattle.sheet_rules.specs.declared.Colour.{Colour}
 use Rattle.pixel_rules.specs.declared.MainPos.{MainPos}
 use Rattle.pixel_rules.specs.declared.Sample.{Sample}
-use Rattle.pixel_rules.specs.declared.Sample.the-variants.{Known, Unknown}
+use Rattle.pixel_rules.specs.declared.Sample.the-variants.{Unknown}
 use Rattle.pixel_rules.specs.declared.Mask.{Mask}
 use Rattle.pixel_rules.specs.declared.Mask.the-variants.{Zero, One, Hidden}
 use Rattle.pixel_rules.specs.Place.{scale}
 use Rattle.pixel_rules.specs.Samples.{bitOf}
-use Rattle.pixel_rules.specs.Decide.{Stack, sameColour, agree, decide}
+use Rattle.pixel_rules.specs.Decide.{Stack, decide}
 use Rattle.picture_rules.specs.Line.{fourOf, pixels}
-use Rattle.picture_rules.specs.Demand.{fourAt}
-use Rattle.picture_rules.proofs.Fours.{length-pixels, pixels-four}
+use Rattle.picture_rules.proofs.Fours.{length-pixels}
 use Rattle.line_fetch.specs.declared.Row.{Row}
 use Rattle.line_fetch.specs.Rows.{rowSize, rowAt, rowMask, rowImage, ImageFits}
 use Rattle.line_fetch.proofs.Laws.{mask-before, mask-after, mask-unread, mask-read}
@@ -37,48 +36,13 @@ use Rattle.paint_words.specs.Words.{octetsOf, fourFrom}
 use Rattle.paint_coat.specs.Coat.{Coated, over}
 use Rattle.paint_coat.proofs.Coats.{four-same, coated-none, coated-chain, coated-as}
 use Rattle.paint_image.specs.Image.{shownFour, imageFrom, moved, Within, Plain}
-use Rattle.paint_agree.specs.Agree.{sameFour, agreed, settles}
+use Rattle.paint_agree.specs.Agree.{agreed, settles}
 use Rattle.paint_floor.specs.Floors.{PlainRows, Sure, Starts}
 use Rattle.paint_show.specs.Show.{floorFrom, shows, Paired, Least}
-use Rattle.paint_line.specs.Painted.{Told, Kept, decided}
-
--- ---- the four octets of a sample
-
-pub shown-is : (u : Colour) (un : List ℕ) (p : Sample) → un ≡ fourOf u Unknown → shownFour un p ≡ fourOf u p
-unfolding shownFour fourOf
-shown-is u un (Known c) e = refl
-shown-is u un Unknown e = e
-
-and-false : (b : Bool) → (b && false) ≡ false
-and-false true = refl
-and-false false = refl
-
-and-true : (b : Bool) → (b && true) ≡ b
-and-true true = refl
-and-true false = refl
-
-same-both : (c e : Colour) → sameColour c e ≡ true → c ≡ e
-unfolding sameColour
-same-both c e z =
-    let h = says-and (says-and (says-eq (c .c0) (e .c0)) (says-eq (c .c1) (e .c1))) (says-eq (c .c2) (e .c2)) .told z in
-    λ i. record { c0 = h .0 .0 i; c1 = h .0 .1 i; c2 = h .1 i }
-
--- what two pixels agree on is what their samples do
-agreed-four : (u : Colour) (p q : Sample) → agreed (fourOf u q) (fourOf u Unknown) (fourOf u p) ≡ fourOf u (agree p q)
-unfolding agreed sameFour fourOf agree sameColour
-agreed-four u (Known c) (Known e) =
-    ap (λ (b : Bool). cond b (fourOf u (Known e)) (fourOf u Unknown)) (and-true (sameColour c e)) ∙ by (sameColour c e) refl
-  where
-    by : (b : Bool) → sameColour c e ≡ b → cond b (fourOf u (Known e)) (fourOf u Unknown) ≡ fourOf u (cond b (Known c) Unknown)
-    by true z = ap (λ (o : Colour). fourOf u (Known o)) (sym (same-both c e z))
-    by false z = refl
-agreed-four u (Known c) Unknown = rw (and-false (eqb (c .c0) (u .c0) && eqb (c .c1) (u .c1) && eqb (c .c2) (u .c2))) refl
-agreed-four u Unknown (Known e) = rw (and-false (eqb (u .c0) (e .c0) && eqb (u .c1) (e .c1) && eqb (u .c2) (e .c2))) refl
-agreed-four u Unknown Unknown = by (sameFour (fourOf u Unknown) (fourOf u Unknown))
-  where
-    by : (b : Bool) → cond b (fourOf u Unknown) (fourOf u Unknown) ≡ fourOf u Unknown
-    by true = refl
-    by false = refl
+use Rattle.paint_layers.specs.Layers.{decided}
+use Rattle.paint_layers.proofs.Fours.{shown-is, agreed-four}
+use Rattle.paint_line.proofs.Octets.{octet-at, four-pixels}
+use Rattle.paint_line.specs.Painted.{Told, Kept}
 
 -- ---- a pair whose mask was read, or not
 
@@ -273,21 +237,7 @@ module _ (u : Colour) (s d ns : List ℕ) (pairs f a b : ℕ) (un : List ℕ) (e
         behind = λ i h. k .1 .behind i h ∙ c .behind i h;
       }
 
-pub ruleset parting = (needs, part-covered, floors-paired, floors-least, floors-told, part-painted)
-
 -- ---- the row
-
-four-taken : (v : List ℕ) (x : ℕ) → x * 4 + 4 ≤ length v → fourFrom v (x * 4) ≡ fourAt v x
-unfolding fourFrom
-four-taken v x h =
-    let a = drop-octet v (x * 4) (omega arith) in
-    let b = drop-octet v (x * 4 + 1) (omega arith) in
-    let c = drop-octet v (x * 4 + 2) (omega arith) in
-    let d = drop-octet v (x * 4 + 3) (omega arith) in
-    let p : x * 4 + 1 + 1 ≡ x * 4 + 2 = omega arith in
-    let q : x * 4 + 2 + 1 ≡ x * 4 + 3 = omega arith in
-    sym (ap (take 4) (a ∙ ap (λ (r : List ℕ). getD v (x * 4) 0 ∷ r) (b ∙ ap (λ (r : List ℕ). getD v (x * 4 + 1) 0 ∷ r)
-    (ap (λ (i : ℕ). drop i v) p ∙ c ∙ ap (λ (r : List ℕ). getD v (x * 4 + 2) 0 ∷ r) (ap (λ (i : ℕ). drop i v) q ∙ d)))))
 
 pub record Painting (u : Colour) (s d ns : List ℕ) (pairs width : ℕ) (l out : List ℕ) (x : ℕ) : Type 0 where
   pub upto : x ≤ width
@@ -302,23 +252,8 @@ module _ (u : Colour) (s d ns : List ℕ) (pairs width : ℕ) (l : List ℕ) whe
   painting-more out new x e c p q g =
       record { upto = q; long = g .long ∙ c .long; done = coated-chain (decided u s d ns pairs) l out new 0 x e (omega arith) (omega arith) (c .done) g }
 
-  octet-at : (v : List ℕ) (x k : ℕ) → k < 4 → getD v (x * 4 + k) 0 ≡ getD (fourFrom v (x * 4)) k 0
-  unfolding fourFrom
-  octet-at v x zero h = let z : x * 4 + 0 ≡ x * 4 = omega arith in ap (λ (i : ℕ). getD v i 0) z
-  octet-at v x (suc zero) h = refl
-  octet-at v x (suc (suc zero)) h = refl
-  octet-at v x (suc (suc (suc zero))) h = refl
-  octet-at v x (suc (suc (suc (suc k)))) h = absurd (omega arith)
-
   abbrev sample : MainPos → Sample
   sample x = decide (rowStack s d ns x) pairs
-
-  four-pixels : (x : ℕ) → x < width → fourFrom (pixels u sample width) (x * 4) ≡ fourOf u (sample (record { 0 = x }))
-  unfolding fourFrom
-  four-pixels x h =
-      let e = pixels-four u sample width x h in
-      let n = length-pixels u sample width in
-      four-taken (pixels u sample width) x (omega arith) ∙ e
 
   pub painting-end : (out : List ℕ) (x : ℕ) → Painting u s d ns pairs width l out x → width ≤ x → width * 4 ≤ length l → out ≡ putAt l 0 (pixels u sample width)
   unfolding decided
@@ -333,20 +268,11 @@ module _ (u : Colour) (s d ns : List ℕ) (pairs width : ℕ) (l : List ℕ) whe
       let q : i / 4 * 4 + i % 4 ≡ i = omega arith in
       let t : i % 4 < 4 = omega arith in
       ap (λ (j : ℕ). getD out j 0) (sym q) ∙ octet-at out (i / 4) (i % 4) t
-      ∙ ap (λ (v : List ℕ). getD v (i % 4) 0) (g .there (i / 4) (omega arith) (omega arith) ∙ sym (four-pixels (i / 4) (omega arith)))
+      ∙ ap (λ (v : List ℕ). getD v (i % 4) 0) (g .there (i / 4) (omega arith) (omega arith) ∙ sym (four-pixels u sample width (i / 4) (omega arith)))
       ∙ sym (octet-at (pixels u sample width) (i / 4) (i % 4) t) ∙ ap (λ (j : ℕ). getD (pixels u sample width) j 0) q
       ∙ sym (put-getD l 0 (pixels u sample width) i (omega arith) (omega arith)) ∙ ap (λ (j : ℕ). getD (putAt l 0 (pixels u sample width)) j 0) (let w : 0 + i ≡ i = omega arith in w))
       (λ (y : i < width * 4 → ⊥). g .behind i (omega arith) ∙ sym (put-getD-after l 0 (pixels u sample width) i (omega arith) (omega arith)))
       (says-else (says-lt i (width * 4))))
-
-pub ruleset painting = (needs, painting-begun, painting-more, painting-end)
-
-module _ (s d ns : List ℕ) (pairs j : ℕ) (g : RowsFit s d ns pairs) (h : j < pairs) where
-  pub first-room : (j + 1) * 2 * rowSize ≤ length ns
-  first-room = mask-room s d ns pairs j g h
-
-  pub first-image-room : ((j + 1) * 2 + 1) * rowSize ≤ length ns
-  first-image-room = image-room s d ns pairs j g h
 
 module _ (s d ns : List ℕ) (pairs : ℕ) (g : RowsFit s d ns pairs) where
   pair-room : (j : ℕ) → j ≤ pairs → (j * 2 + 1) * rowSize ≤ length ns
@@ -356,14 +282,6 @@ module _ (s d ns : List ℕ) (pairs : ℕ) (g : RowsFit s d ns pairs) where
   -- every layer's row is there
   pub row-there : (l : ℕ) → l ≤ pairs * 2 + 1 → l * rowSize ≤ length ns
   row-there l h = let r = pair-room pairs (omega arith) in omega arith
-
-pub part-some : (x w n r : ℕ) → 0 < n → Within (x + n) x w r → x < w → x < r
-part-some x w n r k g h =
-    ⊎-elim (λ (z : x < r). z) (λ (z : x < r → ⊥). let l = g .low in let p = g .behind x (omega arith) h in absurd (omega arith)) (says-else (says-lt x r))
-
-pub part-most : (x w n r : ℕ) → Within (x + n) x w r → r ≤ x + n
-part-most x w n r g =
-    ⊎-elim (λ (z : x + n < r). let p = g .before (x + n) (omega arith) z in absurd (omega arith)) (λ (z : x + n < r → ⊥). omega arith) (says-else (says-lt (x + n) r))
 
 pub unseen-word : (u : Colour) (w : ℕ) → octetsOf w ≡ u .c0 ∷ u .c1 ∷ u .c2 ∷ 0 ∷ [] → octetsOf w ≡ fourOf u Unknown
 unfolding fourOf

@@ -2,13 +2,11 @@
 --
 --   Told u s d ns sel a b j out   the pixels a up to b show what the floors and the pairs up to j make of them
 --   Kept a b l e       the octets of all other pixels are as they were
---   decided u s d ns n x   what pixel x shows after n pairs, whatever stood there
 use Prim.Native.Nat.{ℕ, _-_, _*_, _≤_, _<_}
 use mathlib.Core.Path.{_≡_}
 use mathlib.Core.List.{List}
 use lib.ListN.{length, getD}
 use Rattle.sheet_rules.specs.declared.Colour.{Colour}
-use Rattle.pixel_rules.specs.Decide.{decide}
 use Rattle.picture_rules.specs.Line.{fourOf}
 use Rattle.line_pixel.specs.Rows.{rowStack}
 use Rattle.paint_rules.specs.Floor.{stage}
@@ -21,6 +19,3 @@ pub record Kept (a b : ℕ) (l e : List ℕ) : Type 0 where
   pub long : length e ≡ length l
   pub before : (i : ℕ) → i < a * 4 → getD e i 0 ≡ getD l i 0
   pub behind : (i : ℕ) → b * 4 ≤ i → getD e i 0 ≡ getD l i 0
-
-unfoldable pub decided : Colour → List ℕ → List ℕ → List ℕ → ℕ → ℕ → List ℕ → List ℕ
-decided u s d ns n x old = fourOf u (decide (rowStack s d ns (record { 0 = x })) n)

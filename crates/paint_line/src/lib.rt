@@ -1,4 +1,5 @@
-// A row of pixels painted, part by part: the floors of a part's pixels, what they give, and what the pairs above them agree on.
+// A row of pixels painted, part by part: nothing is known of a part, or one layer shows all along, or it is painted piece by piece, by its layers or by its
+// pixels' floors: what these give, and what the pairs above them agree on.
 ghost use mathlib.Core.Path.{_≡_};
 ghost use Prim.Native.Nat.{_+_, _-_, _*_, _<_, _≤_};
 ghost use lib.ListN.{length};
@@ -10,8 +11,10 @@ ghost use Rattle.picture_rules.specs.Line.{fourOf, pixels};
 ghost use Rattle.line_pixel.specs.Rows.{rowStack, RowsFit};
 ghost use Rattle.paint_words.specs.Words.{octetsOf};
 ghost use Rattle.paint_coat.specs.Coat.{Coated};
-ghost use Rattle.paint_floor.specs.Floors.{PlainRows, Sure};
-ghost use Rattle.paint_line.specs.Painted.{Told, Kept, decided};
+ghost use Rattle.paint_floor.specs.Floors.{PlainRows, Sure, Starts};
+ghost use Rattle.paint_layers.specs.Layers.{decided};
+ghost use Rattle.paint_line.specs.Painted.{Told, Kept};
+use line_fetch::Row;
 use paint_gather::FLOORS;
 use paint_gather::TABLE;
 use sheet_rules::Colour;
@@ -99,7 +102,112 @@ fn show_part(
     agree_pairs(out, sel, row, s, d, rows, pairs, f, a, b, unseen, u);
 }
 
-// The pixels a up to b.
+// Layer by layer is faster where some mask was not read, for few pixels and for few pairs; by floors where many masks were.
+fn few_layers(
+    s: &[u8],
+    d: &[u8],
+    rows: &[usize],
+    pairs: usize,
+    f: usize,
+    a: usize,
+    b: usize,
+) -> bool
+    requires { ⌜ RowsFit (now s) (now d) (now rows) pairs × (f ≤ pairs) × (pairs ≤ 7) × (a ≤ b) ⌝ }
+{
+    if pairs - f <= 2 {
+        return true;
+    }
+    if b - a < 64 {
+        return true;
+    }
+    let mut j = f;
+    while j < pairs {
+        j += 1;
+        let m = line_fetch::row_at(rows, j * 2);
+        if (m.read == 0) & (m.from < m.to) {
+            return true;
+        }
+    }
+    false
+}
+
+// The pixels a up to b, as many as the scratch has room for at most; pair f shows its image layer over them.
+fn paint_piece(
+    out: &mut [u8],
+    sel: &mut [u8],
+    bits: &mut [u8],
+    row: &mut [u8],
+    t: &mut [usize],
+    lit: &mut [u8],
+    s: &[u8],
+    d: &[u8],
+    rows: &[usize],
+    pairs: usize,
+    f: usize,
+    a: usize,
+    b: usize,
+    unseen: Colour,
+    u: u32,
+)
+    requires { ⌜ RowsFit (now s) (now d) (now rows) pairs × PlainRows (now rows) pairs × Starts (now s) (now d) (now rows) pairs a b f × (f < pairs) × (pairs ≤ 7) × (a < b) × (b < 65536) × (b * 4 ≤ length (now out)) × (b - a ≤ length (now sel))
+        × (b - a + 24 ≤ length (now bits)) × (2048 ≤ length (now row)) × (octetsOf u ≡ fourOf unseen Unknown) × (192 ≤ length (now t)) × (16 ≤ length (now lit)) ⌝ }
+    ensures { λ _. ⌜ Coated (decided unseen (now (s .entry)) (now (d .entry)) (now (rows .entry)) pairs) (now (out .entry)) a b (now (out .exit)) ⌝ }
+{
+    if few_layers(s, d, rows, pairs, f, a, b) {
+        paint_layers::lay_layers(out, row, bits, s, d, rows, pairs, f, a, b, unseen, u);
+        return;
+    }
+    paint_floor::put_floors(sel, bits, s, d, rows, pairs, f, a, b);
+    show_part(out, sel, row, t, lit, s, d, rows, pairs, f, a, b, unseen, u);
+}
+
+// A part piece by piece.
+fn paint_pieces(
+    out: &mut [u8],
+    sel: &mut [u8],
+    bits: &mut [u8],
+    row: &mut [u8],
+    t: &mut [usize],
+    lit: &mut [u8],
+    s: &[u8],
+    d: &[u8],
+    rows: &[usize],
+    pairs: usize,
+    f: usize,
+    a: usize,
+    b: usize,
+    unseen: Colour,
+    u: u32,
+)
+    requires { ⌜ RowsFit (now s) (now d) (now rows) pairs × PlainRows (now rows) pairs × Starts (now s) (now d) (now rows) pairs a b f × (f < pairs) × (pairs ≤ 7) × (a ≤ b) × (b < 65536) × (b * 4 ≤ length (now out)) × (1536 ≤ length (now sel))
+        × (1560 ≤ length (now bits)) × (2048 ≤ length (now row)) × (octetsOf u ≡ fourOf unseen Unknown) × (192 ≤ length (now t)) × (16 ≤ length (now lit)) ⌝ }
+    ensures { λ _. ⌜ Coated (decided unseen (now (s .entry)) (now (d .entry)) (now (rows .entry)) pairs) (now (out .entry)) a b (now (out .exit)) ⌝ }
+{
+    let mut x = a;
+    while x < b {
+        let e = paint_image::within(x + PART, x, b);
+        paint_piece(
+            out,
+            sel,
+            bits,
+            row,
+            t,
+            lit,
+            s,
+            d,
+            rows,
+            pairs,
+            f,
+            x,
+            e,
+            unseen,
+            u,
+        );
+        x = e;
+    }
+}
+
+// The pixels a up to b: where one layer shows all along, or nothing can be known, no mask is looked at.
 fn paint_part(
     out: &mut [u8],
     sel: &mut [u8],
@@ -116,17 +224,36 @@ fn paint_part(
     unseen: Colour,
     u: u32,
 )
-    requires { ⌜ RowsFit (now s) (now d) (now rows) pairs × PlainRows (now rows) pairs × (pairs ≤ 7) × (a ≤ b) × (b < 65536) × (b * 4 ≤ length (now out)) × (b - a ≤ length (now sel))
-        × (b - a + 24 ≤ length (now bits)) × (2048 ≤ length (now row)) × (octetsOf u ≡ fourOf unseen Unknown) × (192 ≤ length (now t)) × (16 ≤ length (now lit)) ⌝ }
+    requires { ⌜ RowsFit (now s) (now d) (now rows) pairs × PlainRows (now rows) pairs × (pairs ≤ 7) × (a ≤ b) × (b < 65536) × (b * 4 ≤ length (now out)) × (1536 ≤ length (now sel))
+        × (1560 ≤ length (now bits)) × (2048 ≤ length (now row)) × (octetsOf u ≡ fourOf unseen Unknown) × (192 ≤ length (now t)) × (16 ≤ length (now lit)) ⌝ }
     ensures { λ _. ⌜ Coated (decided unseen (now (s .entry)) (now (d .entry)) (now (rows .entry)) pairs) (now (out .entry)) a b (now (out .exit)) ⌝ }
 {
     let f = paint_floor::first_pair(s, d, rows, pairs, a, b);
+    if paint_dark::all_dark(s, d, rows, pairs, f, a, b) {
+        paint_coat::lay_flat(out, a, b, u);
+        return;
+    }
     if f == pairs {
         paint_show::lay_floor(out, a, s, d, rows, pairs, f as u8, a, b, u);
         return;
     }
-    paint_floor::put_floors(sel, bits, s, d, rows, pairs, f, a, b);
-    show_part(out, sel, row, t, lit, s, d, rows, pairs, f, a, b, unseen, u);
+    paint_pieces(
+        out,
+        sel,
+        bits,
+        row,
+        t,
+        lit,
+        s,
+        d,
+        rows,
+        pairs,
+        f,
+        a,
+        b,
+        unseen,
+        u,
+    );
 }
 
 // A place that lies between two, or else the second.
@@ -143,31 +270,49 @@ fn cut(x: usize, a: usize, b: usize) -> usize
     x
 }
 
-// All layers that begin behind pixel a have begun at the end of the part, or else the part ends where the first of them ends: so there is one part in
-// which every layer reaches from end to end, and what lies beside it.
+// Neither layer was read, and both reach up to b: from where both have begun, nothing below them shows.
+fn veils(m: Row, r: Row, b: usize) -> bool {
+    (m.read == 0) & (r.read == 0) & (b <= m.to) & (b <= r.to)
+}
+
+// Where a part that begins at pixel a ends: before a pair of which nothing was read, which hides all below it; else where all layers above such a pair
+// that begin behind a have begun, or where the first of them ends. So there is one part in which every layer that shows reaches from end to end.
 fn part_end(s: &[u8], d: &[u8], rows: &[usize], pairs: usize, a: usize, b: usize) -> usize
     requires { ⌜ RowsFit (now s) (now d) (now rows) pairs × (pairs ≤ 7) × (a < b) ⌝ }
     ensures { λ e. ⌜ (a < e) × (e ≤ b) ⌝ }
 {
-    let mut l = 0;
+    let mut j = pairs;
     let mut left = a;
     let mut right = b;
-    while l < pairs * 2 + 1 {
-        l += 1;
-        let r = line_fetch::row_at(rows, l);
+    while 0 < j {
+        let m = line_fetch::row_at(rows, j * 2);
+        let r = line_fetch::row_at(rows, j * 2 + 1);
+        if veils(m, r, b) {
+            let c = paint_image::within(m.from, a, b);
+            return cut(paint_image::within(r.from, c, b), a, cut(left, a, right));
+        }
+        left = paint_image::within(m.from, left, b);
+        right = cut(m.to, a, right);
         left = paint_image::within(r.from, left, b);
         right = cut(r.to, a, right);
+        j -= 1;
     }
-    if a < left { left } else { right }
+    let r = line_fetch::row_at(rows, 1);
+    left = paint_image::within(r.from, left, b);
+    right = cut(r.to, a, right);
+    cut(left, a, right)
 }
 
-// So many pixels a part has at most.
-pub const PART: usize = 2048;
+// So many pixels a piece has at most.
+pub const PART: usize = 1536;
 
-// The octets of a mask's samples in a part: whole samples, of which two may lie in it in part.
+// The octets of a mask's samples in a piece: whole samples, of which two may lie in it in part.
 pub const BITS: usize = PART + 24;
 
-// What it works with is lent, since to clear it for every line would take as long as a cheap line: the floors of a part, a mask's samples there, a row of
+// The octets of a row of 512 pixels.
+pub const ROW: usize = 2048;
+
+// What it works with is lent, since to clear it for every line would take as long as a cheap line: the floors of a piece, a mask's samples there, a row of
 // 512 pixels, and the table of places with the floors that are in it.
 pub fn paint_line(
     out: &mut [u8],
@@ -184,15 +329,14 @@ pub fn paint_line(
     unseen: Colour,
 )
     requires { ⌜ RowsFit (now s) (now d) (now rows) pairs × PlainRows (now rows) pairs × (pairs ≤ 7) × (width * 4 ≤ length (now out)) × (width < 65536)
-        × (2048 ≤ length (now sel)) × (2072 ≤ length (now bits)) × (2048 ≤ length (now row)) × (192 ≤ length (now t)) × (16 ≤ length (now lit)) ⌝ }
+        × (1536 ≤ length (now sel)) × (1560 ≤ length (now bits)) × (2048 ≤ length (now row)) × (192 ≤ length (now t)) × (16 ≤ length (now lit)) ⌝ }
     ensures { λ _.
         ⌜ now (out .exit) ≡ putAt (now (out .entry)) 0 (pixels unseen (λ (x : MainPos). decide (rowStack (now (s .entry)) (now (d .entry)) (now (rows .entry)) x) pairs) width) ⌝ }
 {
     let u = paint_words::word_of(unseen.c0, unseen.c1, unseen.c2, 0);
     let mut x = 0;
     while x < width {
-        let most = paint_image::within(x + PART, x, width);
-        let e = part_end(s, d, rows, pairs, x, most);
+        let e = part_end(s, d, rows, pairs, x, width);
         paint_part(
             out,
             sel,
@@ -235,7 +379,7 @@ pub fn draw_line(
     }
     let mut sel: [u8; PART] = [0; PART];
     let mut bits: [u8; BITS] = [0; BITS];
-    let mut row: [u8; PART] = [0; PART];
+    let mut row: [u8; ROW] = [0; ROW];
     let mut t: [usize; TABLE] = [0; TABLE];
     let mut lit: [u8; FLOORS] = [0; FLOORS];
     paint_line(

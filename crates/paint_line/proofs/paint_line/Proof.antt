@@ -1,10 +1,9 @@
-use Rattle.paint_line.proofs.Laws.{part-some, part-most, unseen-word}
-use Rattle.paint_line.proofs.Laws.{Painting, painting-begun, painting-more, painting-end}
 use Prim.Native.Nat.{_-_}
 use native.Mathlib.Omega.{arith}
 use mathlib.Core.Path.{_≡_, refl}
 use lib.ListN.{length}
-use Rattle.paint_line.proofs.Laws.{painting}
+use borrow.Author.Needs.{needs}
+use Rattle.paint_line.proofs.Laws.{Painting, painting-begun, painting-more, painting-end, unseen-word}
 use Rattle.paint_line.proofs.paint_line.Statement.{statement}
 use Rattle.paint_line.proofs.paint_line.Tie as tie
 
@@ -15,28 +14,22 @@ abbrev μ-loop : tie.MeasureT-loop
 μ-loop out₀ sel₀ bits₀ row₀ t₀ lit₀ s d rows pairs width unseen u x₀ out sel bits row t lit x = width - x
 
 word-of-requires : tie.Need-word-of-requires Inv-loop μ-loop
-word-of-requires c κs = search painting
+word-of-requires c κs = search needs
 
 loop-holds : tie.Need-loop-holds Inv-loop μ-loop
 loop-holds c = (painting-begun _ _ _ _ _ _ _, refl, refl, refl, refl, refl)
 
-add-within : tie.Need-add-within Inv-loop μ-loop
-add-within c = search painting
-
-within-requires : tie.Need-within-requires Inv-loop μ-loop
-within-requires c κs = search painting
-
 part-end-requires : tie.Need-part-end-requires Inv-loop μ-loop
-part-end-requires c κs = (c .before .before .before .before .before .before .before .before .before .before .before .before .before .pre .0, c .before .before .before .before .before .before .before .before .before .before .before .before .before .pre .2, part-some _ _ _ _ (omega arith) (c .within .ensures) (c .before .loop-test .taken))
+part-end-requires c κs = (c .before .before .before .before .before .before .before .before .before .before .before .before .pre .0, c .before .before .before .before .before .before .before .before .before .before .before .before .pre .2, c .loop-test .taken)
 
 paint-part-requires : tie.Need-paint-part-requires Inv-loop μ-loop
-paint-part-requires c κs = (c .before .before .before .before .before .before .before .before .before .before .before .before .before .before .before .before .before .before .before .before .pre .0, c .before .before .before .before .before .before .before .before .before .before .before .before .before .before .before .before .before .before .before .before .pre .1, c .before .before .before .before .before .before .before .before .before .before .before .before .before .before .before .before .before .before .before .before .pre .2, let h = c .before .before .before .before .before .before .part-end .ensures .0 in omega arith, let h = c .before .before .before .before .before .before .part-end .ensures .1 in let k = c .before .before .before .before .before .before .before .within .ensures .high in let j = c .before .before .before .before .before .before .before .before .before .before .before .before .before .before .before .before .before .before .before .before .pre .4 in omega arith, let h = c .before .before .before .before .before .before .part-end .ensures .1 in let k = c .before .before .before .before .before .before .before .within .ensures .high in let j = c .before .before .before .before .before .before .before .before .before .before .before .before .before .before .before .before .before .before .before .before .pre .3 in let l = c .before .before .before .before .before .before .before .before .before .loop .inv .0 .long in omega arith, let h = c .before .before .before .before .before .before .part-end .ensures .1 in let k = part-most _ _ _ _ (c .before .before .before .before .before .before .before .within .ensures) in let l = c .before .before .before .before .before .before .before .before .before .loop .inv .1 in let m = c .before .before .before .before .before .before .before .before .before .before .before .before .before .before .before .before .before .before .before .before .pre .5 in omega arith, let h = c .before .before .before .before .before .before .part-end .ensures .1 in let k = part-most _ _ _ _ (c .before .before .before .before .before .before .before .within .ensures) in let l = c .before .before .before .before .before .before .before .before .before .loop .inv .2 in let m = c .before .before .before .before .before .before .before .before .before .before .before .before .before .before .before .before .before .before .before .before .pre .6 in omega arith, let l = c .before .before .before .before .before .before .before .before .before .loop .inv .3 in let m = c .before .before .before .before .before .before .before .before .before .before .before .before .before .before .before .before .before .before .before .before .pre .7 in omega arith, unseen-word _ _ (c .before .before .before .before .before .before .before .before .before .before .word-of .ensures), let l = c .before .before .before .before .before .before .before .before .before .loop .inv .4 in let m = c .before .before .before .before .before .before .before .before .before .before .before .before .before .before .before .before .before .before .before .before .pre .8 in omega arith, let l = c .before .before .before .before .before .before .before .before .before .loop .inv .5 in let m = c .before .before .before .before .before .before .before .before .before .before .before .before .before .before .before .before .before .before .before .before .pre .9 in omega arith)
+paint-part-requires c κs = (c .before .before .before .before .before .before .before .before .before .before .before .before .before .before .before .before .before .before .before .pre .0, c .before .before .before .before .before .before .before .before .before .before .before .before .before .before .before .before .before .before .before .pre .1, c .before .before .before .before .before .before .before .before .before .before .before .before .before .before .before .before .before .before .before .pre .2, let h = c .before .before .before .before .before .before .part-end .ensures .0 in omega arith, let h = c .before .before .before .before .before .before .part-end .ensures .1 in let k = c .before .before .before .before .before .before .before .before .before .before .before .before .before .before .before .before .before .before .before .pre .4 in omega arith, let h = c .before .before .before .before .before .before .part-end .ensures .1 in let k = c .before .before .before .before .before .before .before .before .before .before .before .before .before .before .before .before .before .before .before .pre .3 in let l = c .before .before .before .before .before .before .before .before .loop .inv .0 .long in omega arith, let k = c .before .before .before .before .before .before .before .before .before .before .before .before .before .before .before .before .before .before .before .pre .5 in let l = c .before .before .before .before .before .before .before .before .loop .inv .1 in omega arith, let k = c .before .before .before .before .before .before .before .before .before .before .before .before .before .before .before .before .before .before .before .pre .6 in let l = c .before .before .before .before .before .before .before .before .loop .inv .2 in omega arith, let k = c .before .before .before .before .before .before .before .before .before .before .before .before .before .before .before .before .before .before .before .pre .7 in let l = c .before .before .before .before .before .before .before .before .loop .inv .3 in omega arith, unseen-word _ _ (c .before .before .before .before .before .before .before .before .before .word-of .ensures), let k = c .before .before .before .before .before .before .before .before .before .before .before .before .before .before .before .before .before .before .before .pre .8 in let l = c .before .before .before .before .before .before .before .before .loop .inv .4 in omega arith, let k = c .before .before .before .before .before .before .before .before .before .before .before .before .before .before .before .before .before .before .before .pre .9 in let l = c .before .before .before .before .before .before .before .before .loop .inv .5 in omega arith)
 
 loop-less : tie.Need-loop-less Inv-loop μ-loop
-loop-less c = search painting
+loop-less c = let h = c .before .before .before .before .before .before .before .before .before .before .before .before .before .before .before .before .before .before .before .part-end .ensures .0 in let k = c .before .before .before .before .before .before .before .before .before .before .before .before .before .before .before .before .before .before .before .before .loop-test .taken in omega arith
 
 loop-again : tie.Need-loop-again Inv-loop μ-loop
-loop-again c = (painting-more _ _ _ _ _ _ _ _ _ _ _ (c .before .before .before .before .before .before .before .before .before .before .before .before .before .before .before .before .before .before .before .before .before .before .loop .inv .0) (c .before .before .before .before .before .before .before .before .before .before .before .before .before .before .before .before .before .before .before .part-end .ensures .0) (let h = c .before .before .before .before .before .before .before .before .before .before .before .before .before .before .before .before .before .before .before .part-end .ensures .1 in let k = c .before .before .before .before .before .before .before .before .before .before .before .before .before .before .before .before .before .before .before .before .within .ensures .high in omega arith) (c .before .before .before .before .before .before .before .before .before .before .before .before .paint-part .ensures), let l = c .before .before .before .before .before .before .before .before .before .before .before .before .before .before .before .before .before .before .before .before .before .before .loop .inv .1 in omega arith, let l = c .before .before .before .before .before .before .before .before .before .before .before .before .before .before .before .before .before .before .before .before .before .before .loop .inv .2 in omega arith, let l = c .before .before .before .before .before .before .before .before .before .before .before .before .before .before .before .before .before .before .before .before .before .before .loop .inv .3 in omega arith, let l = c .before .before .before .before .before .before .before .before .before .before .before .before .before .before .before .before .before .before .before .before .before .before .loop .inv .4 in omega arith, let l = c .before .before .before .before .before .before .before .before .before .before .before .before .before .before .before .before .before .before .before .before .before .before .loop .inv .5 in omega arith)
+loop-again c = (painting-more _ _ _ _ _ _ _ _ _ _ _ (c .before .before .before .before .before .before .before .before .before .before .before .before .before .before .before .before .before .before .before .before .before .loop .inv .0) (c .before .before .before .before .before .before .before .before .before .before .before .before .before .before .before .before .before .before .before .part-end .ensures .0) (c .before .before .before .before .before .before .before .before .before .before .before .before .before .before .before .before .before .before .before .part-end .ensures .1) (c .before .before .before .before .before .before .before .before .before .before .before .before .paint-part .ensures), let l = c .before .before .before .before .before .before .before .before .before .before .before .before .before .before .before .before .before .before .before .before .before .loop .inv .1 in omega arith, let l = c .before .before .before .before .before .before .before .before .before .before .before .before .before .before .before .before .before .before .before .before .before .loop .inv .2 in omega arith, let l = c .before .before .before .before .before .before .before .before .before .before .before .before .before .before .before .before .before .before .before .before .before .loop .inv .3 in omega arith, let l = c .before .before .before .before .before .before .before .before .before .before .before .before .before .before .before .before .before .before .before .before .before .loop .inv .4 in omega arith, let l = c .before .before .before .before .before .before .before .before .before .before .before .before .before .before .before .before .before .before .before .before .before .loop .inv .5 in omega arith)
 
 same-length : tie.Need-same-length Inv-loop μ-loop
 same-length c = let l = c .before .loop .inv .0 .long in omega arith
@@ -67,8 +60,6 @@ paint-line-spec =
     μ-loop
     word-of-requires
     loop-holds
-    add-within
-    within-requires
     part-end-requires
     paint-part-requires
     loop-less
