@@ -1,16 +1,16 @@
 -- One law for each way out of the functions that look at blocks of a mask: its premises are what is known there.
 -- Assumes nothing.
-use Prim.Native.Nat.{ℕ, _+_, _*_, _<_}
+use Prim.Native.Nat.{ℕ, _+_, _*_, _/_, _%_, _<_}
 use native.Mathlib.Omega.{arith}
-use mathlib.Core.Path.{_≡_, refl, sym, ap, _∙_}
+use mathlib.Core.Path.{_≡_, refl, sym, ap, subst, _∙_}
 use mathlib.Core.Logic.{⊎-elim}
-use mathlib.Core.Bool.{Bool, true, _&&_, _||_, cond}
+use mathlib.Core.Bool.{true, _&&_, cond}
 use mathlib.Core.List.{List, [], _∷_}
 use lib.ListN.{getD}
 use lib.Dec.{eqb}
 use borrow.Author.Tests.{eq-eqb, ne-eqb}
 use borrow.Author.Needs.{needs}
-use Rattle.laws.proofs.Says.{says-eq, says-lt, says-and, says-or, says-true, says-else}
+use Rattle.laws.proofs.Says.{says-eq, says-lt, says-and, says-else}
 use Rattle.paint_words.specs.Words.{octetsOf, fourFrom}
 use Rattle.paint_blocks.specs.Blocks.{Alike, Eight}
 
@@ -69,15 +69,28 @@ pub block-ones : (a b : ℕ) (s : List ℕ) (i : ℕ) → Eight s i a → Eight 
 unfolding octetsOf
 block-ones a b s i p q z = block-alike 1 16843009 72340172838076673 a b s i refl (omega arith) refl p q z
 
--- the first octet is one of those that are alike
-first-alike : (v : ℕ) (s : List ℕ) (i : ℕ) → Alike v s i (i + 16) → Alike (getD s i 0) s i (i + 16)
-first-alike v s i g = record { there = λ k a b. g .there k a b ∙ sym (g .there i (omega arith) (omega arith)) }
+-- a product has four times the octet, and so has each half of eight
+octets-of-product : (v : ℕ) → v < 256 → octetsOf (v * 16843009) ≡ v ∷ v ∷ v ∷ v ∷ []
+unfolding octetsOf
+octets-of-product v h =
+    let a : v * 16843009 % 256 ≡ v = omega arith in
+    let m : v * 16843009 / 256 ≡ v * 65793 = omega arith in
+    let b : v * 65793 % 256 ≡ v = omega arith in
+    let n : v * 16843009 / 65536 ≡ v * 257 = omega arith in
+    let c : v * 257 % 256 ≡ v = omega arith in
+    let d : v * 16843009 / 16777216 ≡ v = omega arith in
+    cc
 
-pub block-same : (a b : Bool) (s : List ℕ) (i : ℕ) → (a ≡ true → Alike 0 s i (i + 16)) → (b ≡ true → Alike 1 s i (i + 16)) → a || b ≡ true → Alike (getD s i 0) s i (i + 16)
-block-same a b s i p q z =
-    ⊎-elim (λ (h : a ≡ true). first-alike 0 s i (p h)) (λ (h : b ≡ true). first-alike 1 s i (q h)) (says-or (says-true a) (says-true b) .told z)
+pub block-same : (p q a b : ℕ) (s : List ℕ) (i : ℕ) → (p ≡ getD s i 0) × (p < 256) → (q ≡ p) × (q < 4294967296) → Eight s i a → Eight s (i + 8) b
+    → eqb a (q * 72340172838076673) && eqb b (q * 72340172838076673) ≡ true → Alike (getD s i 0) s i (i + 16)
+block-same p q a b s i h k f g z =
+    let small = h .1 in
+    let same = k .0 in
+    let n : q * 72340172838076673 ≡ p * 16843009 + p * 16843009 * 4294967296 = omega arith in
+    subst (λ (v : ℕ). Alike v s i (i + 16)) (h .0)
+    (block-alike p (p * 16843009) (q * 72340172838076673) a b s i (octets-of-product p small) (omega arith) n f g z)
 
-pub ruleset alikes = (needs, block-zeros, block-ones, block-same)
+pub ruleset alikes = (needs, block-zeros)
 
 -- ---- a place chosen
 

@@ -41,12 +41,13 @@ pub fn ones(m: &[u8], x: usize) -> bool
     (eight(m, x) == EIGHT_ONES) & (eight(m, x + 8) == EIGHT_ONES)
 }
 
-// The one or the other.
+// All are what the first is: eight times an octet is one product, and two comparisons are fewer than for 0 and for 1.
 pub fn uniform(m: &[u8], x: usize) -> bool
     requires { ⌜ x + 16 ≤ length (now m) ⌝ }
     ensures { λ r. ⌜ (r ≡ true → Alike (getD (now (m .entry)) x 0) (now (m .entry)) x (x + 16)) ⌝ }
 {
-    zeros(m, x) | ones(m, x)
+    let v = wider(paint_words::wide(m[x])) * EIGHT_ONES;
+    (eight(m, x) == v) & (eight(m, x + 8) == v)
 }
 
 // From x on, where sixteen are mixed, up to the next that are not: behind the first they are looked for in steps of four, since where masks change all

@@ -3,17 +3,19 @@
 use Prim.Native.Nat.{ℕ, _+_, _-_, _*_, _/_, _≤_, _<_}
 use native.Mathlib.Omega.{arith}
 use mathlib.Core.Path.{_≡_, refl, sym, ap, ap₂, subst, _∙_}
+use mathlib.Core.Logic.{⊎-elim}
 use mathlib.Core.Bool.{Bool, true, false, cond}
 use mathlib.Core.List.{List}
 use lib.ListN.{length, getD}
 use lib.Dec.{eqb}
 use borrow.Author.Needs.{needs}
 use borrow.Author.Tests.{eq-eqb, ne-eqb}
+use Rattle.laws.proofs.Says.{says-lt, says-else}
 use Rattle.octets.specs.Octets.{putAt}
 use Rattle.paint_words.specs.Words.{octetsOf, fourFrom, seenFrom}
 use Rattle.paint_blocks.specs.Blocks.{Alike}
 use Rattle.paint_coat.specs.Coat.{Coated, over, flat, fourIn, samplesBy, chosenBy}
-use Rattle.paint_coat.proofs.Coats.{coated-none, coated-chain, coated-put, coated-as}
+use Rattle.paint_coat.proofs.Coats.{four-same, coated-none, coated-chain, coated-put, coated-as}
 use Rattle.paint_coat.proofs.Laws.{Coating, coat-begun, coat-more, coat-end}
 use Rattle.paint_choice.specs.Choice.{bitsFrom}
 use Rattle.paint_two.specs.Two.{Stepped}
@@ -90,6 +92,19 @@ module _ (s : List ℕ) (t i : ℕ) where
       coated-chain (over up) l g h t (t + 12) (t + 16) (omega arith) (omega arith)
       (coated-chain (over up) l f g t (t + 8) (t + 12) (omega arith) (omega arith)
       (coated-chain (over up) l e f t (t + 4) (t + 8) (omega arith) (omega arith) k₁ j₂) j₃) j₄
+
+-- what lies before a coat is coated behind it
+pub coated-before : (f : ℕ → List ℕ → List ℕ) (l e g : List ℕ) (a i b : ℕ) → a ≤ i → i ≤ b → Coated f l i b e → Coated f e a i g → Coated f l a b g
+coated-before f l e g a i b p q c k =
+    record {
+      long = k .long ∙ c .long;
+      there = λ x r s. ⊎-elim
+          (λ (z : x < i). k .there x r z ∙ ap (f x) (four-same l e (x * 4) (λ j u v. c .before j (omega arith))))
+          (λ (z : x < i → ⊥). four-same e g (x * 4) (λ j u v. k .behind j (omega arith)) ∙ c .there x (omega arith) s)
+          (says-else (says-lt x i));
+      before = λ j h. k .before j h ∙ c .before j (omega arith);
+      behind = λ j h. k .behind j (omega arith) ∙ c .behind j h;
+    }
 
 -- ---- pixel by pixel
 

@@ -29,6 +29,15 @@ fn lay_block(out: &mut [u8], t: usize, d: &[u8], i: usize)
     lay_four(out, t + 12, d, i + 36);
 }
 
+// The first four last: a store that two branches end with would be made one by the compiler, and the four then no longer by one store.
+fn flat_block(out: &mut [u8], t: usize, w: u32)
+    requires { ⌜ (t + 16) * 4 ≤ length (now out) ⌝ }
+    ensures { λ _. ⌜ Coated (over (flat (octetsOf w))) (now (out .entry)) t (t + 16) (now (out .exit)) ⌝ }
+{
+    paint_coat::lay_flat(out, t + 4, t + 16, w);
+    paint_coat::lay_flat(out, t, t + 4, w);
+}
+
 // ---- pixel by pixel, from the p-th up to the q-th of those from a on
 
 fn mix_images(out: &mut [u8], a: usize, m: &[u8], d: &[u8], i: usize, j: usize, p: usize, q: usize)
@@ -122,7 +131,7 @@ fn step_below(
         return x + BLOCK;
     }
     if paint_blocks::ones(m, x) {
-        paint_coat::lay_flat(out, a + x, a + x + BLOCK, w);
+        flat_block(out, a + x, w);
         return x + BLOCK;
     }
     let e = paint_blocks::mixed_end(m, x, n);
@@ -148,7 +157,7 @@ fn step_above(
         return n;
     }
     if paint_blocks::zeros(m, x) {
-        paint_coat::lay_flat(out, a + x, a + x + BLOCK, w);
+        flat_block(out, a + x, w);
         return x + BLOCK;
     }
     if paint_blocks::ones(m, x) {

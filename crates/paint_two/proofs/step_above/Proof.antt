@@ -18,17 +18,11 @@ returns c = step-rest _ _ _ _ _ _ (c .before .before .before .before .before .be
 zeros-requires : tie.Need-zeros-requires
 zeros-requires c κs = search needs
 
-add-lay-flat : tie.Need-add-lay-flat
-add-lay-flat c = search needs
+add-flat-block : tie.Need-add-flat-block
+add-flat-block c = search needs
 
-add-lay-flat-2 : tie.Need-add-lay-flat-2
-add-lay-flat-2 c = search needs
-
-add-lay-flat-3 : tie.Need-add-lay-flat-3
-add-lay-flat-3 c = search needs
-
-lay-flat-requires : tie.Need-lay-flat-requires
-lay-flat-requires c κs = search needs
+flat-block-requires : tie.Need-flat-block-requires
+flat-block-requires c κs = search needs
 
 add-result : tie.Need-add-result
 add-result c = search needs
@@ -37,7 +31,7 @@ same-length-2 : tie.Need-same-length-2
 same-length-2 c = search needs
 
 returns-2 : tie.Need-returns-2
-returns-2 c = step-zeros _ _ _ _ _ _ _ _ (c .before .before .before .before .before .before .if1 .left) (c .before .before .before .before .before .zeros .ensures (c .before .before .before .before .if2 .taken)) (c .before .before .lay-flat .ensures)
+returns-2 c = step-zeros _ _ _ _ _ _ _ _ (c .before .before .before .before .before .before .if1 .left) (c .before .before .before .before .before .zeros .ensures (c .before .before .before .before .if2 .taken)) (c .before .before .flat-block .ensures)
 
 ones-requires : tie.Need-ones-requires
 ones-requires c κs = search needs
@@ -84,10 +78,8 @@ step-above-spec =
     same-length
     returns
     zeros-requires
-    add-lay-flat
-    add-lay-flat-2
-    add-lay-flat-3
-    lay-flat-requires
+    add-flat-block
+    flat-block-requires
     add-result
     same-length-2
     returns-2

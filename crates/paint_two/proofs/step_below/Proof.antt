@@ -42,17 +42,11 @@ returns-2 c = step-zeros _ _ _ _ _ _ _ _ (c .before .before .before .before .bef
 ones-requires : tie.Need-ones-requires
 ones-requires c κs = search needs
 
-add-lay-flat : tie.Need-add-lay-flat
-add-lay-flat c = search needs
+add-flat-block : tie.Need-add-flat-block
+add-flat-block c = search needs
 
-add-lay-flat-2 : tie.Need-add-lay-flat-2
-add-lay-flat-2 c = search needs
-
-add-lay-flat-3 : tie.Need-add-lay-flat-3
-add-lay-flat-3 c = search needs
-
-lay-flat-requires : tie.Need-lay-flat-requires
-lay-flat-requires c κs = search needs
+flat-block-requires : tie.Need-flat-block-requires
+flat-block-requires c κs = search needs
 
 add-result-2 : tie.Need-add-result-2
 add-result-2 c = search needs
@@ -61,7 +55,7 @@ same-length-3 : tie.Need-same-length-3
 same-length-3 c = search needs
 
 returns-3 : tie.Need-returns-3
-returns-3 c = step-ones _ _ _ _ _ _ _ _ (c .before .before .before .before .before .before .before .before .if1 .left) (c .before .before .before .before .before .ones .ensures (c .before .before .before .before .if3 .taken)) (c .before .before .lay-flat .ensures)
+returns-3 c = step-ones _ _ _ _ _ _ _ _ (c .before .before .before .before .before .before .before .before .if1 .left) (c .before .before .before .before .before .ones .ensures (c .before .before .before .before .if3 .taken)) (c .before .before .flat-block .ensures)
 
 mixed-end-requires : tie.Need-mixed-end-requires
 mixed-end-requires c κs = search needs
@@ -92,10 +86,8 @@ step-below-spec =
     same-length-2
     returns-2
     ones-requires
-    add-lay-flat
-    add-lay-flat-2
-    add-lay-flat-3
-    lay-flat-requires
+    add-flat-block
+    flat-block-requires
     add-result-2
     same-length-3
     returns-3
