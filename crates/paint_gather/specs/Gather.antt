@@ -2,16 +2,15 @@
 --
 --   entry t j c            the table's number for its pixel j and floor c
 --   placeIn t step i c     where floor c's sample is at pixel i of the part: after each twelve pixels all places go on by a step
---   gathered               the sample of each pixel's floor, floors and table starting at pixel a
---   fourAt                 the same of four pixels from y on, the floors from p on and the table's pixels from j on
---   FourReach              these four places lie in the samples
+--   gathered each          the sample of each pixel's floor, of so many octets, floors and table starting at pixel a
+--   nextAt each            the same of the pixels from y on, the floors from p on and the table's pixels from j on, with no step between them
+--   Reach n                n places of these lie in the samples
 --   Reaches                the places of the pixels p up to q of the part do
 --   Running                the pixels x up to y are gathered, and fewer than twelve are left
 use Prim.Native.Nat.{ℕ, _+_, _-_, _*_, _/_, _%_, _≤_, _<_}
 use mathlib.Core.List.{List}
 use lib.ListN.{length, getD}
-use Rattle.paint_words.specs.Words.{seenFrom}
-use Rattle.paint_coat.specs.Coat.{Coated, over}
+use Rattle.paint_coat.specs.Coat.{Coated, over, fourIn}
 
 unfoldable pub entry : List ℕ → ℕ → ℕ → ℕ
 entry t j c = getD t (j * 16 + c) 0
@@ -20,19 +19,19 @@ unfoldable pub placeIn : List ℕ → ℕ → ℕ → ℕ → ℕ
 unfolding entry
 placeIn t step i c = entry t (i % 12) c + i / 12 * step
 
-unfoldable pub gathered : List ℕ → List ℕ → List ℕ → ℕ → ℕ → ℕ → List ℕ
+unfoldable pub gathered : ℕ → List ℕ → List ℕ → List ℕ → ℕ → ℕ → ℕ → List ℕ
 unfolding placeIn
-gathered sel t d step a x = seenFrom d (placeIn t step (x - a) (getD sel (x - a) 0))
+gathered each sel t d step a x = fourIn each d (placeIn t step (x - a) (getD sel (x - a) 0))
 
-unfoldable pub fourAt : List ℕ → ℕ → List ℕ → ℕ → List ℕ → ℕ → ℕ → List ℕ
-fourAt sel p t j r y x = seenFrom r (entry t (j + (x - y)) (getD sel (p + (x - y)) 0))
+unfoldable pub nextAt : ℕ → List ℕ → ℕ → List ℕ → ℕ → List ℕ → ℕ → ℕ → List ℕ
+nextAt each sel p t j r y x = fourIn each r (entry t (j + (x - y)) (getD sel (p + (x - y)) 0))
 
-pub record FourReach (sel : List ℕ) (p : ℕ) (t : List ℕ) (j : ℕ) (r : List ℕ) : Type 0 where
-  pub long : p + 4 ≤ length sel
+pub record Reach (n : ℕ) (sel : List ℕ) (p : ℕ) (t : List ℕ) (j : ℕ) (r : List ℕ) : Type 0 where
+  pub long : p + n ≤ length sel
   pub table : 192 ≤ length t
-  pub low : j + 4 ≤ 12
-  pub few : (m : ℕ) → m < 4 → getD sel (p + m) 0 < 16
-  pub there : (m : ℕ) → m < 4 → entry t (j + m) (getD sel (p + m) 0) + 4 ≤ length r
+  pub low : j + n ≤ 12
+  pub few : (m : ℕ) → m < n → getD sel (p + m) 0 < 16
+  pub there : (m : ℕ) → m < n → entry t (j + m) (getD sel (p + m) 0) + 4 ≤ length r
 
 pub record Reaches (sel t d : List ℕ) (step p q : ℕ) : Type 0 where
   pub long : q ≤ length sel
@@ -40,7 +39,7 @@ pub record Reaches (sel t d : List ℕ) (step p q : ℕ) : Type 0 where
   pub few : (i : ℕ) → p ≤ i → i < q → getD sel i 0 < 16
   pub there : (i : ℕ) → p ≤ i → i < q → placeIn t step i (getD sel i 0) + 4 ≤ length d
 
-pub record Running (sel t d : List ℕ) (step a x e : ℕ) (l : List ℕ) (y : ℕ) (n : List ℕ) : Type 0 where
+pub record Running (each : ℕ) (sel t d : List ℕ) (step a x e : ℕ) (l : List ℕ) (y : ℕ) (n : List ℕ) : Type 0 where
   pub from : x ≤ y
   pub upto : y ≤ e
-  pub done : Coated (over (gathered sel t d step a)) l x y n
+  pub done : Coated (over (gathered each sel t d step a)) l x y n

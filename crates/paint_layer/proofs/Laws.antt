@@ -1,21 +1,20 @@
 -- The loops over pixels: one law for each way out, whatever is shown above and below.
 -- Assumes nothing.
-use Prim.Native.Nat.{ℕ, _+_, _-_, _*_, _/_, _≤_, _<_}
+use Prim.Native.Nat.{ℕ, _+_, _-_, _*_, _/_, _%_, _≤_, _<_}
 use native.Mathlib.Omega.{arith}
-use mathlib.Core.Path.{_≡_, refl, ap, ap₂, subst, _∙_}
+use mathlib.Core.Path.{_≡_, refl, sym, ap, ap₂, subst, _∙_}
 use mathlib.Core.Bool.{Bool, true, false, cond}
 use mathlib.Core.List.{List}
 use lib.ListN.{length, getD}
 use lib.Dec.{eqb}
 use borrow.Author.Needs.{needs}
+use Rattle.laws.proofs.Says.{Says, says-eq, says-and}
 use Rattle.octets.specs.Octets.{putAt}
 use Rattle.paint_words.specs.Words.{octetsOf, fourFrom, seenFrom}
 use Rattle.paint_coat.specs.Coat.{Coated, over, kept, flat, fourIn, samplesBy, chosenBy}
 use Rattle.paint_coat.proofs.Coats.{coated-none, coated-chain, coated-put}
 use Rattle.paint_choice.specs.Choice.{bitsFrom}
-use Rattle.paint_agree.proofs.Laws.{agreed-word}
-use Rattle.paint_agree.specs.Agree.{agreed}
-use Rattle.paint_layer.specs.Layer.{wordsFrom, agrees}
+use Rattle.paint_layer.specs.Layer.{wordsFrom, sameFour, agreed, agrees}
 
 -- ---- n pixels from a on
 
@@ -62,6 +61,42 @@ chosen-put low up m a x old l u v p q e =
     ap octetsOf e ∙ cond-octets (eqb (getD m x 0) 0) l u
     ∙ ap₂ (λ (i j : List ℕ). cond (eqb (getD m x 0) 0) i j) p q
     ∙ ap (λ (i : ℕ). cond (eqb (getD m i 0) 0) (low (a + x) old) (up (a + x) old)) z
+
+-- two numbers agree exactly if their octets do
+word-back : (w : ℕ) → w % 256 + w / 256 % 256 * 256 + w / 65536 % 256 * 65536 + w / 16777216 * 16777216 ≡ w
+word-back w = omega arith
+
+-- two numbers are equal exactly if their octets are
+same-says : (low up : ℕ) → Says (sameFour (octetsOf low) (octetsOf up)) (low ≡ up)
+unfolding sameFour octetsOf
+same-says low up =
+    let k = says-and
+    (says-and
+    (says-and (says-eq (low % 256) (up % 256)) (says-eq (low / 256 % 256) (up / 256 % 256)))
+    (says-eq (low / 65536 % 256) (up / 65536 % 256)))
+    (says-eq (low / 16777216) (up / 16777216)) in
+    record {
+      told = λ e.
+          let f = k .told e in
+          let a = f .0 .0 .0 in
+          let b = f .0 .0 .1 in
+          let c = f .0 .1 in
+          let d = f .1 in
+          let l = word-back low in
+          let u = word-back up in
+          cc;
+      shown = λ e. k .shown (((ap (λ (w : ℕ). w % 256) e, ap (λ (w : ℕ). w / 256 % 256) e), ap (λ (w : ℕ). w / 65536 % 256) e), ap (λ (w : ℕ). w / 16777216) e);
+    }
+
+same-tests : {P : Type 0} (a b : Bool) → Says a P → Says b P → a ≡ b
+same-tests true b p q = sym (q .shown (p .told refl))
+same-tests false true p q = p .shown (q .told refl)
+same-tests false false p q = refl
+
+agreed-word : (low up u : ℕ) → octetsOf (cond (eqb low up) up u) ≡ agreed (octetsOf up) (octetsOf u) (octetsOf low)
+unfolding agreed
+agreed-word low up u =
+    cond-octets (eqb low up) up u ∙ ap (λ (z : Bool). cond z (octetsOf up) (octetsOf u)) (same-tests (eqb low up) (sameFour (octetsOf low) (octetsOf up)) (says-eq low up) (same-says low up))
 
 pub agreed-put : (up : ℕ → List ℕ) (x : ℕ) (old : List ℕ) (l w u v : ℕ) → octetsOf l ≡ old → octetsOf w ≡ up x → v ≡ cond (eqb l w) w u
     → octetsOf v ≡ agrees up (octetsOf u) x old

@@ -19,13 +19,11 @@ use Rattle.line_fetch.specs.Rows.{ImageFits}
 use Rattle.line_fetch.proofs.Laws.{image-before, image-after, image-unread}
 use Rattle.paint_words.specs.Words.{octetsOf, seenFrom}
 use Rattle.paint_coat.specs.Coat.{Coated, over, kept, flat, fourIn, samplesBy, chosenBy}
-use Rattle.paint_coat.proofs.Coats.{coated-as}
+use Rattle.paint_coat.proofs.Coats.{coated-none, coated-chain, coated-as}
 use Rattle.paint_image.specs.Image.{imageFrom, areaFrom, shownFour, moved, Beside}
 use Rattle.paint_image.proofs.Laws.{area-is}
 use Rattle.paint_choice.specs.Choice.{bitsFrom, MaskPart, SpreadAt}
-use Rattle.paint_agree.specs.Agree.{agreed}
-use Rattle.paint_agree.proofs.Laws.{Settling, settle-begun, settle-more, settle-end}
-use Rattle.paint_layer.specs.Layer.{wordsFrom, maskAt, agrees, Span, Dark}
+use Rattle.paint_layer.specs.Layer.{wordsFrom, maskAt, agreed, agrees, Span, Dark}
 
 -- ---- the tests
 
@@ -190,7 +188,27 @@ spread-room d m x y room at b s = let n = s .long in let f = s .fits in let a = 
 
 pub ruleset masking = (needs, whole-room, spread-room)
 
--- ---- part by part
+-- ---- part by part, a row of their own being lent for it
+
+pub record Settling (f : ℕ → List ℕ → List ℕ) (l : List ℕ) (x0 x1 : ℕ) (row₀ out row : List ℕ) (x : ℕ) : Type 0 where
+  pub from : x0 ≤ x
+  pub upto : x ≤ x1
+  pub long : length out ≡ length l
+  pub work : length row ≡ length row₀
+  pub done : Coated f l x0 x out
+
+module _ (f : ℕ → List ℕ → List ℕ) (l : List ℕ) (x0 x1 : ℕ) (row₀ : List ℕ) where
+  pub settle-begun : x0 ≤ x1 → Settling f l x0 x1 row₀ l row₀ x0
+  settle-begun h = record { from = omega arith; upto = h; long = refl; work = refl; done = coated-none f l x0 x0 (omega arith) }
+
+  pub settle-more : (out row new row′ : List ℕ) (x e : ℕ) → Settling f l x0 x1 row₀ out row x → x ≤ e → e ≤ x1 → Coated f out x e new → length row′ ≡ length row
+      → Settling f l x0 x1 row₀ new row′ e
+  settle-more out row new row′ x e c h k g w =
+      let a = c .from in
+      record { from = omega arith; upto = k; long = g .long ∙ c .long; work = w ∙ c .work; done = coated-chain f l out new x0 x e a h (c .done) g }
+
+  pub settle-end : (out row : List ℕ) (x : ℕ) → Settling f l x0 x1 row₀ out row x → x1 ≤ x → Coated f l x0 x1 out
+  settle-end out row x c h = let u = c .upto in let z : x ≡ x1 = omega arith in subst (λ (i : ℕ). Coated f l x0 i out) z (c .done)
 
 module _ (m : List ℕ) (f : ℕ → List ℕ) (l : List ℕ) (x y : ℕ) (row₀ out row : List ℕ) (p : ℕ) where
   pub picked-part : (e : ℕ) (row′ row″ new : List ℕ) → Settling (chosenBy (bitsFrom m x 0) kept (over f)) l x y row₀ out row p → (p < e) × (e ≤ y) × (e ≤ p + 512)

@@ -12,7 +12,7 @@ use Rattle.pixel_rules.specs.declared.Sample.the-variants.{Known, Unknown}
 use Rattle.pixel_rules.specs.Decide.{sameColour, agree}
 use Rattle.picture_rules.specs.Line.{fourOf}
 use Rattle.paint_image.specs.Image.{shownFour}
-use Rattle.paint_agree.specs.Agree.{sameFour, agreed}
+use Rattle.paint_layer.specs.Layer.{sameFour, agreed}
 
 pub shown-is : (u : Colour) (un : List ℕ) (p : Sample) → un ≡ fourOf u Unknown → shownFour un p ≡ fourOf u p
 unfolding shownFour fourOf

@@ -29,9 +29,8 @@ use Rattle.paint_coat.specs.Coat.{Coated, over, kept, chosenBy}
 use Rattle.paint_coat.proofs.Coats.{coated-none, coated-chain, coated-as}
 use Rattle.paint_image.specs.Image.{imageFrom, moved, Within, Plain, Between, Beside}
 use Rattle.paint_choice.specs.Choice.{MaskPart}
-use Rattle.paint_agree.specs.Agree.{agreed}
 use Rattle.paint_floor.specs.Floors.{PlainRows, Starts}
-use Rattle.paint_layer.specs.Layer.{maskAt, agrees}
+use Rattle.paint_layer.specs.Layer.{maskAt, agreed, agrees}
 use Rattle.paint_layers.specs.Layers.{stepFour, stepping, decided, Lowest}
 use Rattle.paint_layers.proofs.Fours.{shown-is, agreed-four}
 

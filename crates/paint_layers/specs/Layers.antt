@@ -16,7 +16,7 @@ use Rattle.line_fetch.specs.Rows.{rowMask}
 use Rattle.line_pixel.specs.Rows.{rowStack}
 use Rattle.paint_coat.specs.Coat.{Coated}
 use Rattle.paint_image.specs.Image.{imageFrom}
-use Rattle.paint_agree.specs.Agree.{agreed}
+use Rattle.paint_layer.specs.Layer.{agreed}
 
 unfoldable pub stepFour : List ℕ → Mask → List ℕ → List ℕ → List ℕ
 stepFour un Zero up old = old

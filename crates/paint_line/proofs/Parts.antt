@@ -12,13 +12,8 @@ use Rattle.picture_rules.specs.Line.{fourOf}
 use Rattle.paint_coat.specs.Coat.{Coated, over, flat}
 use Rattle.paint_coat.proofs.Coats.{coated-none, coated-chain, coated-as}
 use Rattle.paint_image.specs.Image.{Within}
-use Rattle.paint_floor.specs.Floors.{Starts}
 use Rattle.paint_dark.specs.Dark.{Lost}
 use Rattle.paint_layers.specs.Layers.{decided}
-
--- the pair that shows its image layer over a part shows it over a piece of it
-pub starts-piece : (s d ns : List ℕ) (pairs a b f x e : ℕ) → Starts s d ns pairs a b f → a ≤ x → e ≤ b → Starts s d ns pairs x e f
-starts-piece s d ns pairs a b f x e g h k = record { most = g .most; shows = λ y p q. g .shows y (omega arith) (omega arith) }
 
 module _ (u : Colour) (s d ns : List ℕ) (pairs a b : ℕ) where
   pub part-dark : (un l e : List ℕ) → un ≡ fourOf u Unknown → Lost s d ns pairs a b → Coated (over (flat un)) l a b e → Coated (decided u s d ns pairs) l a b e

@@ -1,6 +1,7 @@
 // A row of pixels painted, part by part: nothing is known of a part, or one layer shows all along, or it is painted piece by piece, by its layers or by its
-// pixels' floors: what these give, and what the pairs above them agree on.
+// pixels' floors.
 ghost use mathlib.Core.Path.{_≡_};
+ghost use mathlib.Core.Bool.{false};
 ghost use Prim.Native.Nat.{_+_, _-_, _*_, _<_, _≤_};
 ghost use lib.ListN.{length};
 ghost use Rattle.octets.specs.Octets.{putAt};
@@ -13,70 +14,13 @@ ghost use Rattle.paint_words.specs.Words.{octetsOf};
 ghost use Rattle.paint_coat.specs.Coat.{Coated};
 ghost use Rattle.paint_floor.specs.Floors.{PlainRows, Sure, Starts};
 ghost use Rattle.paint_layers.specs.Layers.{decided};
-ghost use Rattle.paint_line.specs.Painted.{Told, Kept};
+ghost use Rattle.paint_line.specs.Painted.{MasksTold};
 use line_fetch::Row;
 use paint_gather::FLOORS;
 use paint_gather::TABLE;
 use sheet_rules::Colour;
 
-// Pair j + 1, if its mask was not read: what lies below and its image layer agree, or nothing is known.
-fn agree_pair(
-    out: &mut [u8],
-    sel: &[u8],
-    row: &mut [u8],
-    s: &[u8],
-    d: &[u8],
-    rows: &[usize],
-    pairs: usize,
-    f: usize,
-    j: usize,
-    a: usize,
-    b: usize,
-    unseen: Colour,
-    u: u32,
-)
-    requires { ⌜ RowsFit (now s) (now d) (now rows) pairs × PlainRows (now rows) pairs × Sure (now s) (now d) (now rows) f a (b - a) pairs (now sel) × (j < pairs) × (pairs ≤ 7) × (a ≤ b)
-        × (b < 65536) × (b * 4 ≤ length (now out)) × (2048 ≤ length (now row)) × (octetsOf u ≡ fourOf unseen Unknown) × Told unseen (now s) (now d) (now rows) (now sel) a b j (now out) ⌝ }
-    ensures { λ _. ⌜ Told unseen (now (s .entry)) (now (d .entry)) (now (rows .entry)) (now (sel .entry)) a b (j + 1) (now (out .exit)) × Kept a b (now (out .entry)) (now (out .exit)) ⌝ }
-{
-    let p = j + 1;
-    let m = line_fetch::row_at(rows, p * 2);
-    if m.read != 0 {
-        return;
-    }
-    let r = line_fetch::row_at(rows, p * 2 + 1);
-    let x = paint_image::within(m.from, a, b);
-    let y = paint_image::within(m.to, x, b);
-    paint_agree::agree_image(out, sel, p as u8, row, s, d, r, a, x, y, u);
-}
-
-// All pairs above the lowest floor.
-fn agree_pairs(
-    out: &mut [u8],
-    sel: &[u8],
-    row: &mut [u8],
-    s: &[u8],
-    d: &[u8],
-    rows: &[usize],
-    pairs: usize,
-    f: usize,
-    a: usize,
-    b: usize,
-    unseen: Colour,
-    u: u32,
-)
-    requires { ⌜ RowsFit (now s) (now d) (now rows) pairs × PlainRows (now rows) pairs × Sure (now s) (now d) (now rows) f a (b - a) pairs (now sel) × (f ≤ pairs) × (pairs ≤ 7) × (a ≤ b)
-        × (b < 65536) × (b * 4 ≤ length (now out)) × (2048 ≤ length (now row)) × (octetsOf u ≡ fourOf unseen Unknown) × Told unseen (now s) (now d) (now rows) (now sel) a b f (now out) ⌝ }
-    ensures { λ _. ⌜ Told unseen (now (s .entry)) (now (d .entry)) (now (rows .entry)) (now (sel .entry)) a b pairs (now (out .exit)) × Kept a b (now (out .entry)) (now (out .exit)) ⌝ }
-{
-    let mut j = f;
-    while j < pairs {
-        agree_pair(out, sel, row, s, d, rows, pairs, f, j, a, b, unseen, u);
-        j += 1;
-    }
-}
-
-// The pixels a up to b, whose floors are known: what they give, and what the pairs above them agree on.
+// The pixels a up to b, whose floors are known, and the masks above them too: what the floors give.
 fn show_part(
     out: &mut [u8],
     sel: &[u8],
@@ -93,16 +37,32 @@ fn show_part(
     unseen: Colour,
     u: u32,
 )
-    requires { ⌜ RowsFit (now s) (now d) (now rows) pairs × PlainRows (now rows) pairs × Sure (now s) (now d) (now rows) f a (b - a) pairs (now sel) × (f ≤ pairs) × (pairs ≤ 7) × (a ≤ b)
-        × (b < 65536) × (b * 4 ≤ length (now out)) × (2048 ≤ length (now row)) × (octetsOf u ≡ fourOf unseen Unknown) × (192 ≤ length (now t)) × (16 ≤ length (now lit)) ⌝ }
+    requires { ⌜ RowsFit (now s) (now d) (now rows) pairs × PlainRows (now rows) pairs × Sure (now s) (now d) (now rows) f a (b - a) pairs (now sel) × MasksTold (now rows) f pairs
+        × (f ≤ pairs) × (pairs ≤ 7) × (a ≤ b) × (b < 65536) × (b * 4 ≤ length (now out)) × (2048 ≤ length (now row)) × (octetsOf u ≡ fourOf unseen Unknown) × (192 ≤ length (now t)) × (16 ≤ length (now lit)) ⌝ }
     ensures { λ _. ⌜ Coated (decided unseen (now (s .entry)) (now (d .entry)) (now (rows .entry)) pairs) (now (out .entry)) a b (now (out .exit)) ⌝ }
 {
-    let step = paint_table::make_table(t, lit, s, d, rows, pairs, f, a, b);
-    paint_show::show_floors(out, sel, row, t, lit, s, d, rows, pairs, f, step, a, b, u);
-    agree_pairs(out, sel, row, s, d, rows, pairs, f, a, b, unseen, u);
+    let each = paint_table::sample_size(s, d, rows, pairs, f);
+    let step = paint_table::make_table(t, lit, s, d, rows, pairs, f, each, a, b);
+    paint_show::show_floors(
+        out,
+        sel,
+        row,
+        t,
+        lit,
+        s,
+        d,
+        rows,
+        pairs,
+        f,
+        step,
+        each,
+        a,
+        b,
+        u,
+    );
 }
 
-// Layer by layer is faster where some mask was not read, for few pixels and for few pairs; by floors where many masks were.
+// Layer by layer where some mask was not read, and, since it is faster, for few pixels and for few pairs; by floors where all masks were read, and many.
 fn few_layers(
     s: &[u8],
     d: &[u8],
@@ -113,6 +73,7 @@ fn few_layers(
     b: usize,
 ) -> bool
     requires { ⌜ RowsFit (now s) (now d) (now rows) pairs × (f ≤ pairs) × (pairs ≤ 7) × (a ≤ b) ⌝ }
+    ensures { λ z. ⌜ (z ≡ false → MasksTold (now (rows .entry)) f pairs) ⌝ }
 {
     if pairs - f <= 2 {
         return true;
@@ -154,7 +115,7 @@ fn paint_piece(
     ensures { λ _. ⌜ Coated (decided unseen (now (s .entry)) (now (d .entry)) (now (rows .entry)) pairs) (now (out .entry)) a b (now (out .exit)) ⌝ }
 {
     if few_layers(s, d, rows, pairs, f, a, b) {
-        paint_layers::lay_layers(out, row, bits, s, d, rows, pairs, f, a, b, unseen, u);
+        paint_lit::lay_lit(out, sel, row, bits, s, d, rows, pairs, f, a, b, unseen, u);
         return;
     }
     paint_floor::put_floors(sel, bits, s, d, rows, pairs, f, a, b);

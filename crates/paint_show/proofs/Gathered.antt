@@ -6,6 +6,8 @@ use mathlib.Core.Path.{_≡_, refl, sym, ap, _∙_}
 use mathlib.Core.Logic.{_≢_, ⊎-elim}
 use mathlib.Core.List.{List}
 use lib.ListN.{length, getD}
+use mir.Val.{Fits}
+use mir.Syntax.{w64}
 use borrow.Author.Tests.{ne-eqb}
 use borrow.Author.Needs.{needs}
 use Rattle.laws.proofs.Says.{says-eq, says-else}
@@ -32,21 +34,21 @@ skip-none z c h q = absurd (omega arith)
 
 pub ruleset skips = (needs, skip-lit, skip-none)
 
-module _ (d ns t lit : List ℕ) (pairs f a b step : ℕ) (g : Tabled d ns t lit pairs f a b step) (sel : List ℕ) (x e : ℕ) (ax : a ≤ x) (eb : e ≤ b) (few : pairs ≤ 7)
+module _ (each : ℕ) (d ns t lit : List ℕ) (pairs f a b step : ℕ) (g : Tabled each d ns t lit pairs f a b step) (sel : List ℕ) (x e : ℕ) (ax : a ≤ x) (eb : e ≤ b) (few : pairs ≤ 7)
     (pk : Paired sel (x - a) (e - a) pairs) (lk : Least sel (x - a) (e - a) f) where
   pub table-reach : e - a ≤ length sel → Reaches sel t d step (x - a) (e - a)
-  table-reach n = tabled-reach d ns t lit pairs f a b step g sel (x - a) (e - a) (omega arith) n few (lk .least) (pk .few)
+  table-reach n = tabled-reach each d ns t lit pairs f a b step g sel (x - a) (e - a) (omega arith) n few (lk .least) (pk .few)
 
   pub table-step : step ≤ 36
-  table-step = tabled-step d ns t lit pairs f a b step g few
+  table-step = tabled-step each d ns t lit pairs f a b step g
 
-  module _ (un s l o n : List ℕ) (k : Coated (over (gathered sel t d step a)) l x e o) (v : ℕ) (vd : v ≢ dark) (w : Coated (pickingOther un s d ns sel a v dark) o x e n) where
+  module _ (un s l o n : List ℕ) (k : Coated (over (gathered each sel t d step a)) l x e o) (v : ℕ) (vd : v ≢ dark) (w : Coated (pickingOther un s d ns sel a v dark) o x e n) where
     lit-shown : (y : ℕ) → x ≤ y → y < e → getD sel (y - a) 0 ≢ dark → getD lit (getD sel (y - a) 0) 0 ≡ 1 → fourFrom o (y * 4) ≡ floorFrom un s d ns (getD sel (y - a) 0) y
     unfolding over gathered
     lit-shown y p q z h =
         let i : a + (y - a) ≡ y = omega arith in
         k .there y p q
-        ∙ sym (tabled-shown d ns t lit pairs f a b step g un s (getD sel (y - a) 0) (y - a) (lk .least (y - a) (omega arith) (omega arith) z) (pk .few (y - a) (omega arith) (omega arith) z) h (omega arith))
+        ∙ sym (tabled-shown each d ns t lit pairs f a b step g un s (getD sel (y - a) 0) (y - a) (lk .least (y - a) (omega arith) (omega arith) z) (pk .few (y - a) (omega arith) (omega arith) z) h (omega arith))
         ∙ ap (imageFrom un s d (rowAt ns (getD sel (y - a) 0 * 2 + 1))) i
         ∙ image-floor un s d ns (getD sel (y - a) 0) y z
 
@@ -73,3 +75,11 @@ module _ (d ns t lit : List ℕ) (pairs f a b step : ℕ) (g : Tabled d ns t lit
 
 pub least-part : (sel : List ℕ) (a b i e f : ℕ) → Least sel 0 (b - a) f → e ≤ b - a → Least sel (a + i - a) (a + e - a) f
 least-part sel a b i e f k h = record { least = λ j p q. k .least j (omega arith) (omega arith) }
+
+-- ---- whether all floors are gathered
+
+pub lit-room : (step n c pairs : ℕ) → (step ≢ 0 → 16 ≤ n) → step ≢ 0 → c ≤ pairs → pairs ≤ 7 → c < n
+lit-room step n c pairs h z k few = let m = h z in omega arith
+
+pub twelve-fits : (step each : ℕ) → (step ≢ 0 → each ≤ 3) → step ≢ 0 → Fits w64 (each * 12)
+twelve-fits step each h z = let m = h z in record { fits = omega arith }

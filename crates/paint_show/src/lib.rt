@@ -76,26 +76,37 @@ fn any_64(s: &[u8], v: u8, i: usize) -> bool
     any
 }
 
-// Some octet from p up to q is v.
-fn present(s: &[u8], v: u8, p: usize, q: usize) -> bool
+// Some octet from p up to q is v: one by one.
+fn present_few(s: &[u8], v: u8, p: usize, q: usize) -> bool
     requires { ⌜ (p ≤ q) × (q ≤ length (now s)) ⌝ }
     ensures { λ r. ⌜ (r ≡ false → Absent v (now (s .entry)) p q) ⌝ }
 {
     let mut i = p;
     while i < q {
-        if 64 <= q - i {
-            if any_64(s, v, i) {
-                return true;
-            }
-            i += 64;
-        } else {
-            if s[i] == v {
-                return true;
-            }
-            i += 1;
+        if s[i] == v {
+            return true;
         }
+        i += 1;
     }
     false
+}
+
+// 64 at a time, the last of which may have been looked at before.
+fn present(s: &[u8], v: u8, p: usize, q: usize) -> bool
+    requires { ⌜ (p ≤ q) × (q ≤ length (now s)) ⌝ }
+    ensures { λ r. ⌜ (r ≡ false → Absent v (now (s .entry)) p q) ⌝ }
+{
+    if q - p < 64 {
+        return present_few(s, v, p, q);
+    }
+    let mut i = p;
+    while 64 <= q - i {
+        if any_64(s, v, i) {
+            return true;
+        }
+        i += 64;
+    }
+    any_64(s, v, q - 64)
 }
 
 // Where the floor is c, and not v, which is shown already, what it gives: the row is there to lay it in first.
@@ -233,6 +244,7 @@ fn mix_gathered(
     pairs: usize,
     f: usize,
     step: usize,
+    each: usize,
     a: usize,
     b: usize,
     x: usize,
@@ -241,10 +253,10 @@ fn mix_gathered(
 )
     requires { ⌜ RowsFit (now s) (now d) (now rows) pairs × PlainRows (now rows) pairs × Paired (now sel) (x - a) (e - a) pairs × Least (now sel) (x - a) (e - a) f × (f ≤ pairs) × (pairs ≤ 7)
         × (e ≤ b) × (e < 65536) × (a ≤ x) × (x ≤ e) × (e * 4 ≤ length (now out)) × (e - a ≤ length (now sel)) × ((e - x) * 4 ≤ length (now row))
-        × Tabled (now d) (now rows) (now t) (now lit) pairs f a b step ⌝ }
+        × Tabled each (now d) (now rows) (now t) (now lit) pairs f a b step ⌝ }
     ensures { λ _. ⌜ Coated (shows (octetsOf u) (now (s .entry)) (now (d .entry)) (now (rows .entry)) (now (sel .entry)) a) (now (out .entry)) x e (now (out .exit)) ⌝ }
 {
-    paint_gather::gather(out, a, sel, t, d, x, e, step);
+    paint_gather::gather(out, a, sel, t, d, x, e, step, each);
     pick_floor(out, sel, row, s, d, rows, pairs, NONE, DARK, a, x, e, u);
     pick_unlit(out, sel, row, lit, s, d, rows, pairs, f, a, x, e, u);
 }
@@ -262,6 +274,7 @@ fn show_mixed(
     pairs: usize,
     f: usize,
     step: usize,
+    each: usize,
     a: usize,
     b: usize,
     x: usize,
@@ -270,7 +283,7 @@ fn show_mixed(
 )
     requires { ⌜ RowsFit (now s) (now d) (now rows) pairs × PlainRows (now rows) pairs × Paired (now sel) (x - a) (e - a) pairs × Least (now sel) (x - a) (e - a) f × (f ≤ pairs) × (pairs ≤ 7)
         × (e ≤ b) × (e < 65536) × (a ≤ x) × (x < e) × (e * 4 ≤ length (now out)) × (e - a ≤ length (now sel)) × ((e - x) * 4 ≤ length (now row))
-        × (step ≢ 0 → Tabled (now d) (now rows) (now t) (now lit) pairs f a b step) ⌝ }
+        × (step ≢ 0 → Tabled each (now d) (now rows) (now t) (now lit) pairs f a b step) ⌝ }
     ensures { λ _. ⌜ Coated (shows (octetsOf u) (now (s .entry)) (now (d .entry)) (now (rows .entry)) (now (sel .entry)) a) (now (out .entry)) x e (now (out .exit)) ⌝ }
 {
     if step == 0 {
@@ -289,6 +302,7 @@ fn show_mixed(
         pairs,
         f,
         step,
+        each,
         a,
         b,
         x,
@@ -354,10 +368,13 @@ fn ahead(i: usize, n: usize, to: usize) -> usize
 }
 
 // Where a run begins that is worth a call of its own: looked for in steps, since one step is as good as another where floors change all the time.
-fn mixed_end(sel: &[u8], i: usize, n: usize) -> usize
+fn mixed_end(sel: &[u8], i: usize, n: usize, whole: bool) -> usize
     requires { ⌜ (i < n) × (n ≤ length (now sel)) ⌝ }
     ensures { λ r. ⌜ (i < r) × (r ≤ n) × (r ≤ i + 512) ⌝ }
 {
+    if whole {
+        return ahead(i, 504, n);
+    }
     let most = ahead(i, 512, n);
     let mut e = ahead(i, 64, most);
     while e < most {
@@ -368,6 +385,35 @@ fn mixed_end(sel: &[u8], i: usize, n: usize) -> usize
         e = ahead(e, 64, most);
     }
     e
+}
+
+// A run is laid if it has eight pixels; where pixels are gathered as fast as they are laid, if it goes on to the end.
+fn run_wanted(i: usize, n: usize, whole: bool) -> usize
+    requires { ⌜ i < n ⌝ }
+    ensures { λ r. ⌜ (i < r) × (r ≤ n) ⌝ }
+{
+    if whole { n } else { ahead(i, 8, n) }
+}
+
+// Every floor is in the table with its own places, and a sample has one pixel: then pixels are gathered about as fast as they are laid, and faster than it
+// is found out where runs end.
+fn all_gathered(lit: &[u8], pairs: usize, f: usize, step: usize, each: usize) -> bool
+    requires { ⌜ (pairs ≤ 7) × (step ≢ 0 → each ≤ 3) × (step ≢ 0 → 16 ≤ length (now lit)) ⌝ }
+{
+    if step == 0 {
+        return false;
+    }
+    if step != each * 12 {
+        return false;
+    }
+    let mut c = f;
+    while c <= pairs {
+        if lit[c] != 1 {
+            return false;
+        }
+        c += 1;
+    }
+    true
 }
 
 // The floors of the pixels a up to b shown, the floors starting at a.
@@ -383,23 +429,25 @@ pub fn show_floors(
     pairs: usize,
     f: usize,
     step: usize,
+    each: usize,
     a: usize,
     b: usize,
     u: u32,
 )
     requires { ⌜ RowsFit (now s) (now d) (now rows) pairs × PlainRows (now rows) pairs × Paired (now sel) 0 (b - a) pairs × Least (now sel) 0 (b - a) f × (f ≤ pairs) × (pairs ≤ 7) × (b < 65536) × (a ≤ b)
         × (b * 4 ≤ length (now out)) × (b - a ≤ length (now sel)) × (2048 ≤ length (now row))
-        × (step ≢ 0 → Tabled (now d) (now rows) (now t) (now lit) pairs f a b step) ⌝ }
+        × (step ≢ 0 → Tabled each (now d) (now rows) (now t) (now lit) pairs f a b step) ⌝ }
     ensures { λ _. ⌜ Coated (shows (octetsOf u) (now (s .entry)) (now (d .entry)) (now (rows .entry)) (now (sel .entry)) a) (now (out .entry)) a b (now (out .exit)) ⌝ }
 {
     let n = b - a;
+    let whole = all_gathered(lit, pairs, f, step, each);
     let mut i = 0;
     while i < n {
         let v = sel[i];
-        let near = ahead(i, 8, n);
+        let near = run_wanted(i, n, whole);
         let q = run_on(sel, v, i, n);
         if q < near {
-            let e = mixed_end(sel, i, n);
+            let e = mixed_end(sel, i, n, whole);
             show_mixed(
                 out,
                 sel,
@@ -412,6 +460,7 @@ pub fn show_floors(
                 pairs,
                 f,
                 step,
+                each,
                 a,
                 b,
                 a + i,

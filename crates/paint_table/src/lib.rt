@@ -13,12 +13,13 @@ use paint_floor::DARK;
 use paint_gather::FLOORS;
 use paint_gather::PIXELS;
 
-// The layer has a sample of three octets at each pixel from a up to b, k pixels each, and another octet behind the last.
-fn ready(s: &[u8], d: &[u8], r: Row, k: usize, a: usize, b: usize) -> bool
-    requires { ⌜ ImageFits (now s) (now d) r × (a < b) × (b < 65536) ⌝ }
-    ensures { λ z. ⌜ (z ≡ true → Ready (now (d .entry)) r k a b) ⌝ }
+// The layer has a sample of so many octets at each pixel from a up to b, k pixels each, and four octets are there from the last one's place on: a
+// coloured one is fetched with the octet behind it.
+fn ready(s: &[u8], d: &[u8], r: Row, each: usize, k: usize, a: usize, b: usize) -> bool
+    requires { ⌜ ImageFits (now s) (now d) r × (a < b) × (b < 65536) × (1 ≤ each) ⌝ }
+    ensures { λ z. ⌜ (z ≡ true → Ready each (now (d .entry)) r k a b) ⌝ }
 {
-    if r.read != 3 {
+    if r.read != each {
         return false;
     }
     if r.ratio != k {
@@ -31,18 +32,27 @@ fn ready(s: &[u8], d: &[u8], r: Row, k: usize, a: usize, b: usize) -> bool
         return false;
     }
     let i = paint_image::sample_of(r, b - 1);
-    r.at + i * 3 + 3 < d.len()
+    3 < d.len() - (r.at + i * each)
 }
 
 // The places of the row's samples, for floor c.
-fn put_places(t: &mut [usize], d: &[u8], c: usize, r: Row, k: usize, a: usize, b: usize)
-    requires { ⌜ Ready (now d) r k a b × (a + 12 ≤ b) × (b < 65536) × (c < 16) × (192 ≤ length (now t)) ⌝ }
-    ensures { λ _. ⌜ Placed (now (t .entry)) c r a (now (t .exit)) ⌝ }
+fn put_places(
+    t: &mut [usize],
+    d: &[u8],
+    c: usize,
+    r: Row,
+    each: usize,
+    k: usize,
+    a: usize,
+    b: usize,
+)
+    requires { ⌜ Ready each (now d) r k a b × (a + 12 ≤ b) × (b < 65536) × (c < 16) × (192 ≤ length (now t)) ⌝ }
+    ensures { λ _. ⌜ Placed each (now (t .entry)) c r a (now (t .exit)) ⌝ }
 {
     let mut j = 0;
     while j < PIXELS {
         let i = paint_image::sample_of(r, a + j);
-        t[j * FLOORS + c] = r.at + i * 3;
+        t[j * FLOORS + c] = r.at + i * each;
         j += 1;
     }
 }
@@ -54,17 +64,18 @@ fn first_ready(
     rows: &[usize],
     pairs: usize,
     f: usize,
+    each: usize,
     a: usize,
     b: usize,
 ) -> usize
-    requires { ⌜ RowsFit (now s) (now d) (now rows) pairs × (pairs ≤ 7) × (f ≤ pairs + 1) × (a < b) × (b < 65536) ⌝ }
-    ensures { λ c. ⌜ FirstReady (now (d .entry)) (now (rows .entry)) pairs f a b c ⌝ }
+    requires { ⌜ RowsFit (now s) (now d) (now rows) pairs × (pairs ≤ 7) × (f ≤ pairs + 1) × (a < b) × (b < 65536) × (1 ≤ each) ⌝ }
+    ensures { λ c. ⌜ FirstReady each (now (d .entry)) (now (rows .entry)) pairs f a b c ⌝ }
 {
     let mut c = f;
     while c <= pairs {
         let r = line_fetch::row_at(rows, c * 2 + 1);
         if 12 % r.ratio == 0 {
-            if ready(s, d, r, r.ratio, a, b) {
+            if ready(s, d, r, each, r.ratio, a, b) {
                 return c;
             }
         }
@@ -82,21 +93,22 @@ fn put_column(
     rows: &[usize],
     pairs: usize,
     first: Row,
+    each: usize,
     c: usize,
     a: usize,
     b: usize,
 )
-    requires { ⌜ RowsFit (now s) (now d) (now rows) pairs × (pairs ≤ 7) × (c ≤ pairs) × Ready (now d) first (first .ratio) a b × (a + 12 ≤ b) × (b < 65536) × (192 ≤ length (now t))
-        × (16 ≤ length (now lit)) ⌝ }
-    ensures { λ _. ⌜ Column (now (d .entry)) (now (rows .entry)) first c a b (now (t .entry)) (now (lit .entry)) (now (t .exit)) (now (lit .exit)) ⌝ }
+    requires { ⌜ RowsFit (now s) (now d) (now rows) pairs × (pairs ≤ 7) × (c ≤ pairs) × Ready each (now d) first (first .ratio) a b × (a + 12 ≤ b) × (b < 65536) × (192 ≤ length (now t))
+        × (16 ≤ length (now lit)) × (1 ≤ each) ⌝ }
+    ensures { λ _. ⌜ Column each (now (d .entry)) (now (rows .entry)) first c a b (now (t .entry)) (now (lit .entry)) (now (t .exit)) (now (lit .exit)) ⌝ }
 {
     let r = line_fetch::row_at(rows, c * 2 + 1);
-    if ready(s, d, r, first.ratio, a, b) {
-        put_places(t, d, c, r, first.ratio, a, b);
+    if ready(s, d, r, each, first.ratio, a, b) {
+        put_places(t, d, c, r, each, first.ratio, a, b);
         lit[c] = 1;
         return;
     }
-    put_places(t, d, c, first, first.ratio, a, b);
+    put_places(t, d, c, first, each, first.ratio, a, b);
     lit[c] = 0;
 }
 
@@ -110,15 +122,16 @@ fn put_table(
     pairs: usize,
     f: usize,
     first: Row,
+    each: usize,
     a: usize,
     b: usize,
 )
-    requires { ⌜ RowsFit (now s) (now d) (now rows) pairs × (pairs ≤ 7) × (f ≤ pairs) × Ready (now d) first (first .ratio) a b × (12 % first .ratio ≡ 0) × (a + 12 ≤ b) × (b < 65536)
-        × (192 ≤ length (now t)) × (16 ≤ length (now lit)) ⌝ }
-    ensures { λ _. ⌜ Tabled (now (d .entry)) (now (rows .entry)) (now (t .exit)) (now (lit .exit)) pairs f a b (12 / first .ratio * 3) ⌝ }
+    requires { ⌜ RowsFit (now s) (now d) (now rows) pairs × (pairs ≤ 7) × (f ≤ pairs) × Ready each (now d) first (first .ratio) a b × (12 % first .ratio ≡ 0) × (a + 12 ≤ b) × (b < 65536)
+        × (192 ≤ length (now t)) × (16 ≤ length (now lit)) × (1 ≤ each) × (each ≤ 3) ⌝ }
+    ensures { λ _. ⌜ Tabled each (now (d .entry)) (now (rows .entry)) (now (t .exit)) (now (lit .exit)) pairs f a b (12 / first .ratio * each) ⌝ }
 {
-    put_places(t, d, DARK as usize, first, first.ratio, a, b);
-    put_columns(t, lit, s, d, rows, pairs, f, first, a, b);
+    put_places(t, d, DARK as usize, first, each, first.ratio, a, b);
+    put_columns(t, lit, s, d, rows, pairs, f, first, each, a, b);
 }
 
 fn put_columns(
@@ -130,18 +143,35 @@ fn put_columns(
     pairs: usize,
     f: usize,
     first: Row,
+    each: usize,
     a: usize,
     b: usize,
 )
-    requires { ⌜ RowsFit (now s) (now d) (now rows) pairs × (pairs ≤ 7) × (f ≤ pairs) × Ready (now d) first (first .ratio) a b × (12 % first .ratio ≡ 0) × (a + 12 ≤ b) × (b < 65536)
-        × (192 ≤ length (now t)) × (16 ≤ length (now lit)) × Lined (now t) dark first a ⌝ }
-    ensures { λ _. ⌜ Tabled (now (d .entry)) (now (rows .entry)) (now (t .exit)) (now (lit .exit)) pairs f a b (12 / first .ratio * 3) ⌝ }
+    requires { ⌜ RowsFit (now s) (now d) (now rows) pairs × (pairs ≤ 7) × (f ≤ pairs) × Ready each (now d) first (first .ratio) a b × (12 % first .ratio ≡ 0) × (a + 12 ≤ b) × (b < 65536)
+        × (192 ≤ length (now t)) × (16 ≤ length (now lit)) × Lined each (now t) dark first a × (1 ≤ each) × (each ≤ 3) ⌝ }
+    ensures { λ _. ⌜ Tabled each (now (d .entry)) (now (rows .entry)) (now (t .exit)) (now (lit .exit)) pairs f a b (12 / first .ratio * each) ⌝ }
 {
     let mut c = f;
     while c <= pairs {
-        put_column(t, lit, s, d, rows, pairs, first, c, a, b);
+        put_column(t, lit, s, d, rows, pairs, first, each, c, a, b);
         c += 1;
     }
+}
+
+// How many octets the samples have that the table is made of: three, unless no layer from floor f on has so many.
+pub fn sample_size(s: &[u8], d: &[u8], rows: &[usize], pairs: usize, f: usize) -> usize
+    requires { ⌜ RowsFit (now s) (now d) (now rows) pairs × (pairs ≤ 7) ⌝ }
+    ensures { λ each. ⌜ (1 ≤ each) × (each ≤ 3) ⌝ }
+{
+    let mut c = f;
+    while c <= pairs {
+        let r = line_fetch::row_at(rows, c * 2 + 1);
+        if r.read == 3 {
+            return 3;
+        }
+        c += 1;
+    }
+    1
 }
 
 // The table, if two floors at least are ready; it answers how far all places go on after twelve pixels, or 0: no table.
@@ -153,24 +183,25 @@ pub fn make_table(
     rows: &[usize],
     pairs: usize,
     f: usize,
+    each: usize,
     a: usize,
     b: usize,
 ) -> usize
-    requires { ⌜ RowsFit (now s) (now d) (now rows) pairs × (pairs ≤ 7) × (f ≤ pairs) × (a ≤ b) × (b < 65536) × (192 ≤ length (now t)) × (16 ≤ length (now lit)) ⌝ }
-    ensures { λ step. ⌜ (step ≢ 0 → Tabled (now (d .entry)) (now (rows .entry)) (now (t .exit)) (now (lit .exit)) pairs f a b step) ⌝ }
+    requires { ⌜ RowsFit (now s) (now d) (now rows) pairs × (pairs ≤ 7) × (f ≤ pairs) × (a ≤ b) × (b < 65536) × (192 ≤ length (now t)) × (16 ≤ length (now lit)) × (1 ≤ each) × (each ≤ 3) ⌝ }
+    ensures { λ step. ⌜ (step ≢ 0 → Tabled each (now (d .entry)) (now (rows .entry)) (now (t .exit)) (now (lit .exit)) pairs f a b step) ⌝ }
 {
     if b - a < PIXELS {
         return 0;
     }
-    let g = first_ready(s, d, rows, pairs, f, a, b);
+    let g = first_ready(s, d, rows, pairs, f, each, a, b);
     if pairs <= g {
         return 0;
     }
-    let h = first_ready(s, d, rows, pairs, g + 1, a, b);
+    let h = first_ready(s, d, rows, pairs, g + 1, each, a, b);
     if pairs < h {
         return 0;
     }
     let first = line_fetch::row_at(rows, g * 2 + 1);
-    put_table(t, lit, s, d, rows, pairs, f, first, a, b);
-    12 / first.ratio * 3
+    put_table(t, lit, s, d, rows, pairs, f, first, each, a, b);
+    12 / first.ratio * each
 }

@@ -7,10 +7,10 @@ use Rattle.paint_gather.proofs.gather_few.Statement.{statement}
 use Rattle.paint_gather.proofs.gather_few.Tie as tie
 
 abbrev Inv-loop : tie.InvT-loop
-Inv-loop out₀ a sel t d x e step y₀ out y = Coating (over (gathered sel t d step a)) out₀ x e out y
+Inv-loop out₀ a sel t d x e step each y₀ out y = Coating (over (gathered each sel t d step a)) out₀ x e out y
 
 abbrev μ-loop : tie.MeasureT-loop
-μ-loop out₀ a sel t d x e step y₀ out y = e - y
+μ-loop out₀ a sel t d x e step each y₀ out y = e - y
 
 loop-holds : tie.Need-loop-holds Inv-loop μ-loop
 loop-holds c = search fews
@@ -40,7 +40,7 @@ loop-less : tie.Need-loop-less Inv-loop μ-loop
 loop-less c = search fews
 
 loop-again : tie.Need-loop-again Inv-loop μ-loop
-loop-again c = coat-more _ _ _ _ _ _ _ _ (c .before .before .put-word .ensures) (few-is _ _ _ _ _ _ _ _ (c .before .before .before .before .sample-at .ensures)) (c .before .before .before .before .before .before .loop-test .taken) (c .before .before .before .before .before .before .before .loop .inv)
+loop-again c = coat-more _ _ _ _ _ _ _ _ (c .before .before .put-word .ensures) (few-is _ _ _ _ _ _ _ _ _ (c .before .before .before .before .sample-at .ensures)) (c .before .before .before .before .before .before .loop-test .taken) (c .before .before .before .before .before .before .before .loop .inv)
 
 same-length : tie.Need-same-length Inv-loop μ-loop
 same-length c = search fews

@@ -14,7 +14,7 @@ same-length : tie.Need-same-length
 same-length c = search needs
 
 returns : tie.Need-returns
-returns c = rest-chain _ _ _ _ _ _ _ _ _ _ _ (c .before .before .before .before .before .before .gather-run .ensures) (c .before .before .gather-few .ensures)
+returns c = rest-chain _ _ _ _ _ _ _ _ _ _ _ _ (c .before .before .before .before .before .before .gather-run .ensures) (c .before .before .gather-few .ensures)
 
 pub gather-rest-spec : {M : Type 1} → statement M
 gather-rest-spec = tie.close (tie.spec gather-run-requires gather-few-requires same-length returns)

@@ -3,20 +3,20 @@ use borrow.Author.Needs.{needs}
 use Rattle.paint_gather.proofs.sample.Statement.{statement}
 use Rattle.paint_gather.proofs.sample.Tie as tie
 
-mul-seen-wide : tie.Need-mul-seen-wide
-mul-seen-wide c = search needs
+mul-sample-word : tie.Need-mul-sample-word
+mul-sample-word c = search needs
 
-add-seen-wide : tie.Need-add-seen-wide
-add-seen-wide c = search needs
+add-sample-word : tie.Need-add-sample-word
+add-sample-word c = search needs
 
-mul-seen-wide-2 : tie.Need-mul-seen-wide-2
-mul-seen-wide-2 c = search needs
+mul-sample-word-2 : tie.Need-mul-sample-word-2
+mul-sample-word-2 c = search needs
 
-shared-slice-read-seen-wide : tie.Need-shared-slice-read-seen-wide
-shared-slice-read-seen-wide c = search needs
+shared-slice-read-sample-word : tie.Need-shared-slice-read-sample-word
+shared-slice-read-sample-word c = search needs
 
-seen-wide-requires : tie.Need-seen-wide-requires
-seen-wide-requires c κs = search sampling
+sample-word-requires : tie.Need-sample-word-requires
+sample-word-requires c κs = search sampling
 
 returns : tie.Need-returns
 returns c = search sampling
@@ -25,9 +25,9 @@ pub sample-spec : {M : Type 1} → statement M
 sample-spec =
     tie.close
     (tie.spec
-    mul-seen-wide
-    add-seen-wide
-    mul-seen-wide-2
-    shared-slice-read-seen-wide
-    seen-wide-requires
+    mul-sample-word
+    add-sample-word
+    mul-sample-word-2
+    shared-slice-read-sample-word
+    sample-word-requires
     returns)

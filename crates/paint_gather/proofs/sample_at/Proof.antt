@@ -15,14 +15,14 @@ mul-p-2 c = search needs
 shared-slice-read-p : tie.Need-shared-slice-read-p
 shared-slice-read-p c = search needs
 
-mul-seen-wide : tie.Need-mul-seen-wide
-mul-seen-wide c = search sampling
+mul-sample-word : tie.Need-mul-sample-word
+mul-sample-word c = search sampling
 
-add-seen-wide : tie.Need-add-seen-wide
-add-seen-wide c = search sampling
+add-sample-word : tie.Need-add-sample-word
+add-sample-word c = search sampling
 
-seen-wide-requires : tie.Need-seen-wide-requires
-seen-wide-requires c κs = search sampling
+sample-word-requires : tie.Need-sample-word-requires
+sample-word-requires c κs = search sampling
 
 returns : tie.Need-returns
 returns c = search sampling
@@ -35,7 +35,7 @@ sample-at-spec =
     add-p
     mul-p-2
     shared-slice-read-p
-    mul-seen-wide
-    add-seen-wide
-    seen-wide-requires
+    mul-sample-word
+    add-sample-word
+    sample-word-requires
     returns)

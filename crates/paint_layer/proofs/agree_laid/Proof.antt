@@ -4,7 +4,7 @@ use Prim.Native.Nat.{_-_}
 use Rattle.paint_words.specs.Words.{octetsOf}
 use Rattle.paint_image.specs.Image.{imageFrom}
 use Rattle.paint_layer.specs.Layer.{agrees}
-use Rattle.paint_agree.proofs.Laws.{Settling}
+use Rattle.paint_layer.proofs.Parts.{Settling}
 use Rattle.paint_layer.proofs.Parts.{parting}
 use Rattle.paint_layer.proofs.agree_laid.Statement.{statement}
 use Rattle.paint_layer.proofs.agree_laid.Tie as tie

@@ -5,7 +5,7 @@ use Rattle.paint_words.specs.Words.{octetsOf}
 use Rattle.paint_image.specs.Image.{imageFrom}
 use Rattle.paint_coat.specs.Coat.{chosenBy, kept, over}
 use Rattle.paint_choice.specs.Choice.{bitsFrom}
-use Rattle.paint_agree.proofs.Laws.{Settling}
+use Rattle.paint_layer.proofs.Parts.{Settling}
 use Rattle.paint_layer.proofs.Parts.{parting}
 use Rattle.paint_layer.proofs.pick_laid.Statement.{statement}
 use Rattle.paint_layer.proofs.pick_laid.Tie as tie

@@ -2,7 +2,8 @@ use Prim.Native.Nat.{_-_}
 use native.Mathlib.Omega.{arith}
 use mathlib.Core.Path.{_≡_, refl}
 use lib.ListN.{length}
-use Rattle.paint_line.proofs.Parts.{starts-piece, Piecing, piecing-begun, piecing-more, piecing-end, part-some, part-most}
+use Rattle.paint_lit.proofs.Laws.{starts-piece}
+use Rattle.paint_line.proofs.Parts.{Piecing, piecing-begun, piecing-more, piecing-end, part-some, part-most}
 use Rattle.paint_line.proofs.paint_pieces.Statement.{statement}
 use Rattle.paint_line.proofs.paint_pieces.Tie as tie
 

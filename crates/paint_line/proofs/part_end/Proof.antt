@@ -1,7 +1,7 @@
 use Prim.Native.Nat.{_≤_, _<_}
 use native.Mathlib.Omega.{arith}
 use borrow.Author.Needs.{needs}
-use Rattle.paint_line.proofs.Laws.{row-there}
+use Rattle.paint_lit.proofs.Laws.{row-there}
 use Rattle.paint_line.proofs.part_end.Statement.{statement}
 use Rattle.paint_line.proofs.part_end.Tie as tie
 

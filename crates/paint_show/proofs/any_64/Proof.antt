@@ -1,6 +1,6 @@
-use Rattle.paint_show.proofs.Laws.{Looked}
+use Rattle.paint_show.proofs.Octets.{Looked}
 use Prim.Native.Nat.{_-_}
-use Rattle.paint_show.proofs.Laws.{looking}
+use Rattle.paint_show.proofs.Octets.{looking}
 use Rattle.paint_show.proofs.any_64.Statement.{statement}
 use Rattle.paint_show.proofs.any_64.Tie as tie
 

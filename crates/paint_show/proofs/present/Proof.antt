@@ -1,6 +1,5 @@
-use Rattle.paint_show.proofs.Laws.{Passing}
 use Prim.Native.Nat.{_-_}
-use Rattle.paint_show.proofs.Laws.{passing}
+use Rattle.paint_show.proofs.Octets.{Passing, passing}
 use Rattle.paint_show.proofs.present.Statement.{statement}
 use Rattle.paint_show.proofs.present.Tie as tie
 
@@ -10,17 +9,26 @@ Inv-loop s v p q i₀ i = Passing v s p q i
 abbrev μ-loop : tie.MeasureT-loop
 μ-loop s v p q i₀ i = q - i
 
+sub-if1 : tie.Need-sub-if1 Inv-loop μ-loop
+sub-if1 c = search passing
+
+present-few-requires : tie.Need-present-few-requires Inv-loop μ-loop
+present-few-requires c κs = search passing
+
+returns : tie.Need-returns Inv-loop μ-loop
+returns c = search passing
+
 loop-holds : tie.Need-loop-holds Inv-loop μ-loop
 loop-holds c = search passing
 
-sub-if1 : tie.Need-sub-if1 Inv-loop μ-loop
-sub-if1 c = search passing
+sub-loop : tie.Need-sub-loop Inv-loop μ-loop
+sub-loop c = search passing
 
 any-64-requires : tie.Need-any-64-requires Inv-loop μ-loop
 any-64-requires c κs = search passing
 
-returns : tie.Need-returns Inv-loop μ-loop
-returns c = search passing
+returns-2 : tie.Need-returns-2 Inv-loop μ-loop
+returns-2 c = search passing
 
 add-i : tie.Need-add-i Inv-loop μ-loop
 add-i c = search passing
@@ -31,20 +39,11 @@ loop-less c = search passing
 loop-again : tie.Need-loop-again Inv-loop μ-loop
 loop-again c = search passing
 
-shared-slice-read-if3 : tie.Need-shared-slice-read-if3 Inv-loop μ-loop
-shared-slice-read-if3 c = search passing
+sub-any-64 : tie.Need-sub-any-64 Inv-loop μ-loop
+sub-any-64 c = search passing
 
-returns-2 : tie.Need-returns-2 Inv-loop μ-loop
-returns-2 c = search passing
-
-add-i-2 : tie.Need-add-i-2 Inv-loop μ-loop
-add-i-2 c = search passing
-
-loop-less-2 : tie.Need-loop-less-2 Inv-loop μ-loop
-loop-less-2 c = search passing
-
-loop-again-2 : tie.Need-loop-again-2 Inv-loop μ-loop
-loop-again-2 c = search passing
+any-64-requires-2 : tie.Need-any-64-requires-2 Inv-loop μ-loop
+any-64-requires-2 c κs = search passing
 
 returns-3 : tie.Need-returns-3 Inv-loop μ-loop
 returns-3 c = search passing
@@ -55,16 +54,16 @@ present-spec =
     (tie.spec
     Inv-loop
     μ-loop
-    loop-holds
     sub-if1
-    any-64-requires
+    present-few-requires
     returns
+    loop-holds
+    sub-loop
+    any-64-requires
+    returns-2
     add-i
     loop-less
     loop-again
-    shared-slice-read-if3
-    returns-2
-    add-i-2
-    loop-less-2
-    loop-again-2
+    sub-any-64
+    any-64-requires-2
     returns-3)

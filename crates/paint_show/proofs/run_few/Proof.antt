@@ -1,6 +1,6 @@
 use Rattle.paint_show.specs.Show.{Runs}
 use Prim.Native.Nat.{_-_}
-use Rattle.paint_show.proofs.Laws.{running}
+use Rattle.paint_show.proofs.Octets.{running}
 use Rattle.paint_show.proofs.run_few.Statement.{statement}
 use Rattle.paint_show.proofs.run_few.Tie as tie
 

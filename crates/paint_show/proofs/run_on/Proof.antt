@@ -1,8 +1,8 @@
-use Rattle.paint_show.proofs.Laws.{run-rest}
+use Rattle.paint_show.proofs.Octets.{run-rest}
 use native.Mathlib.Omega.{arith}
 use Rattle.paint_show.specs.Show.{Runs}
 use Prim.Native.Nat.{_-_}
-use Rattle.paint_show.proofs.Laws.{running}
+use Rattle.paint_show.proofs.Octets.{running}
 use Rattle.paint_show.proofs.run_on.Statement.{statement}
 use Rattle.paint_show.proofs.run_on.Tie as tie
 

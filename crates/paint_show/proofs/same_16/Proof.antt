@@ -1,4 +1,4 @@
-use Rattle.paint_show.proofs.Laws.{alikes}
+use Rattle.paint_show.proofs.Octets.{alikes}
 use borrow.Author.Needs.{needs}
 use Rattle.paint_show.proofs.same_16.Statement.{statement}
 use Rattle.paint_show.proofs.same_16.Tie as tie

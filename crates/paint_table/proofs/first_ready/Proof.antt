@@ -4,10 +4,10 @@ use Rattle.paint_table.proofs.first_ready.Statement.{statement}
 use Rattle.paint_table.proofs.first_ready.Tie as tie
 
 abbrev Inv-loop : tie.InvT-loop
-Inv-loop s d rows pairs f a b c₀ c = (f ≤ c) × (c ≤ pairs + 1)
+Inv-loop s d rows pairs f each a b c₀ c = (f ≤ c) × (c ≤ pairs + 1)
 
 abbrev μ-loop : tie.MeasureT-loop
-μ-loop s d rows pairs f a b c₀ c = pairs + 1 - c
+μ-loop s d rows pairs f each a b c₀ c = pairs + 1 - c
 
 loop-holds : tie.Need-loop-holds Inv-loop μ-loop
 loop-holds c = search firsts

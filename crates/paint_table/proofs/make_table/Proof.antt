@@ -36,10 +36,10 @@ row-at-requires : tie.Need-row-at-requires
 row-at-requires c κs = (omega arith, row-room _ _ _ _ _ (c .before .before .before .before .before .before .before .before .before .before .pre .0) (omega arith))
 
 put-table-requires : tie.Need-put-table-requires
-put-table-requires c κs = (c .before .before .before .before .before .before .before .before .before .before .before .before .before .pre .0, c .before .before .before .before .before .before .before .before .before .before .before .before .before .pre .1, c .before .before .before .before .before .before .before .before .before .before .before .before .before .pre .2, chosen-ready _ _ _ _ _ _ _ (c .before .before .before .before .before .before .first-ready .ensures) (omega arith) _ (c .before .before .row-at .ensures), chosen-divides _ _ _ _ _ _ _ (c .before .before .before .before .before .before .first-ready .ensures) (omega arith) _ (c .before .before .row-at .ensures), omega arith, c .before .before .before .before .before .before .before .before .before .before .before .before .before .pre .4, c .before .before .before .before .before .before .before .before .before .before .before .before .before .pre .5, c .before .before .before .before .before .before .before .before .before .before .before .before .before .pre .6)
+put-table-requires c κs = (c .before .before .before .before .before .before .before .before .before .before .before .before .before .pre .0, c .before .before .before .before .before .before .before .before .before .before .before .before .before .pre .1, c .before .before .before .before .before .before .before .before .before .before .before .before .before .pre .2, chosen-ready _ _ _ _ _ _ _ _ (c .before .before .before .before .before .before .first-ready .ensures) (omega arith) _ (c .before .before .row-at .ensures), chosen-divides _ _ _ _ _ _ _ _ (c .before .before .before .before .before .before .first-ready .ensures) (omega arith) _ (c .before .before .row-at .ensures), omega arith, c .before .before .before .before .before .before .before .before .before .before .before .before .before .pre .4, c .before .before .before .before .before .before .before .before .before .before .before .before .before .pre .5, c .before .before .before .before .before .before .before .before .before .before .before .before .before .pre .6, c .before .before .before .before .before .before .before .before .before .before .before .before .before .pre .7, c .before .before .before .before .before .before .before .before .before .before .before .before .before .pre .8)
 
 div-result : tie.Need-div-result
-div-result c = chosen-some _ _ _ _ _ _ _ (c .before .before .before .before .before .before .before .before .before .before .before .before .first-ready .ensures) (omega arith) _ (c .before .before .before .before .before .before .before .before .row-at .ensures)
+div-result c = chosen-some _ _ _ _ _ _ _ _ (c .before .before .before .before .before .before .before .before .before .before .before .before .first-ready .ensures) (omega arith) _ (c .before .before .before .before .before .before .before .before .row-at .ensures)
 
 mul-result : tie.Need-mul-result
 mul-result c = search making

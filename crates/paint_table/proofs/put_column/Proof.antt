@@ -30,7 +30,7 @@ same-length-2 : tie.Need-same-length-2
 same-length-2 c = search needs
 
 returns : tie.Need-returns
-returns c = column-own _ _ _ _ _ _ _ _ _ (c .before .before .before .before .before .before .before .before .before .before .before .before .pre .7) (let h = c .before .before .before .before .before .before .before .before .before .before .before .before .pre .1 in let k = c .before .before .before .before .before .before .before .before .before .before .before .before .pre .2 in omega arith) _ _ (c .before .before .before .before .before .before .row-at .ensures) (c .before .before .before .before .before .ready .ensures) (c .before .before .before .before .if1 .taken) (c .before .before .put-places .ensures)
+returns c = column-own _ _ _ _ _ _ _ _ _ _ (c .before .before .before .before .before .before .before .before .before .before .before .before .pre .7) (let h = c .before .before .before .before .before .before .before .before .before .before .before .before .pre .1 in let k = c .before .before .before .before .before .before .before .before .before .before .before .before .pre .2 in omega arith) _ _ (c .before .before .before .before .before .before .row-at .ensures) (c .before .before .before .before .before .ready .ensures) (c .before .before .before .before .if1 .taken) (c .before .before .put-places .ensures)
 
 put-places-requires-2 : tie.Need-put-places-requires-2
 put-places-requires-2 c κs = search needs
@@ -45,7 +45,7 @@ same-length-4 : tie.Need-same-length-4
 same-length-4 c = search needs
 
 returns-2 : tie.Need-returns-2
-returns-2 c = column-first _ _ _ _ _ _ _ _ _ (c .before .before .before .before .before .before .before .before .before .before .before .before .pre .7) (let h = c .before .before .before .before .before .before .before .before .before .before .before .before .pre .1 in let k = c .before .before .before .before .before .before .before .before .before .before .before .before .pre .2 in omega arith) (c .before .before .before .before .before .before .before .before .before .before .before .before .pre .3) (c .before .before .put-places2 .ensures)
+returns-2 c = column-first _ _ _ _ _ _ _ _ _ _ (c .before .before .before .before .before .before .before .before .before .before .before .before .pre .7) (let h = c .before .before .before .before .before .before .before .before .before .before .before .before .pre .1 in let k = c .before .before .before .before .before .before .before .before .before .before .before .before .pre .2 in omega arith) (c .before .before .before .before .before .before .before .before .before .before .before .before .pre .3) (c .before .before .put-places2 .ensures)
 
 pub put-column-spec : {M : Type 1} → statement M
 put-column-spec =

@@ -4,10 +4,10 @@ use Rattle.paint_table.proofs.put_columns.Statement.{statement}
 use Rattle.paint_table.proofs.put_columns.Tie as tie
 
 abbrev Inv-loop : tie.InvT-loop
-Inv-loop t₀ lit₀ s d rows pairs f first a b c₀ t lit c = Tabling d rows first pairs f a b t₀ lit₀ t lit c
+Inv-loop t₀ lit₀ s d rows pairs f first each a b c₀ t lit c = Tabling each d rows first pairs f a b t₀ lit₀ t lit c
 
 abbrev μ-loop : tie.MeasureT-loop
-μ-loop t₀ lit₀ s d rows pairs f first a b c₀ t lit c = pairs + 1 - c
+μ-loop t₀ lit₀ s d rows pairs f first each a b c₀ t lit c = pairs + 1 - c
 
 loop-holds : tie.Need-loop-holds Inv-loop μ-loop
 loop-holds c = search tablings

@@ -4,10 +4,10 @@ use Rattle.paint_table.proofs.put_places.Statement.{statement}
 use Rattle.paint_table.proofs.put_places.Tie as tie
 
 abbrev Inv-loop : tie.InvT-loop
-Inv-loop t₀ d c r k a b j₀ t j = Placing t₀ c r a t j
+Inv-loop t₀ d c r each k a b j₀ t j = Placing each t₀ c r a t j
 
 abbrev μ-loop : tie.MeasureT-loop
-μ-loop t₀ d c r k a b j₀ t j = 12 - j
+μ-loop t₀ d c r each k a b j₀ t j = 12 - j
 
 loop-holds : tie.Need-loop-holds Inv-loop μ-loop
 loop-holds c = search placings

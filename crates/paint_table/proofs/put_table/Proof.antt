@@ -10,7 +10,7 @@ put-places-requires : tie.Need-put-places-requires
 put-places-requires c κs = search needs
 
 put-columns-requires : tie.Need-put-columns-requires
-put-columns-requires c κs = (c .before .before .before .before .before .before .before .before .before .before .before .pre .0, c .before .before .before .before .before .before .before .before .before .before .before .pre .1, c .before .before .before .before .before .before .before .before .before .before .before .pre .2, c .before .before .before .before .before .before .before .before .before .before .before .pre .3, c .before .before .before .before .before .before .before .before .before .before .before .pre .4, c .before .before .before .before .before .before .before .before .before .before .before .pre .5, c .before .before .before .before .before .before .before .before .before .before .before .pre .6, let h = c .before .before .before .before .put-places .ensures .long in let k = c .before .before .before .before .before .before .before .before .before .before .before .pre .7 in omega arith, c .before .before .before .before .before .before .before .before .before .before .before .pre .8, c .before .before .before .before .put-places .ensures .here)
+put-columns-requires c κs = (c .before .before .before .before .before .before .before .before .before .before .before .pre .0, c .before .before .before .before .before .before .before .before .before .before .before .pre .1, c .before .before .before .before .before .before .before .before .before .before .before .pre .2, c .before .before .before .before .before .before .before .before .before .before .before .pre .3, c .before .before .before .before .before .before .before .before .before .before .before .pre .4, c .before .before .before .before .before .before .before .before .before .before .before .pre .5, c .before .before .before .before .before .before .before .before .before .before .before .pre .6, let h = c .before .before .before .before .put-places .ensures .long in let k = c .before .before .before .before .before .before .before .before .before .before .before .pre .7 in omega arith, c .before .before .before .before .before .before .before .before .before .before .before .pre .8, c .before .before .before .before .put-places .ensures .here, c .before .before .before .before .before .before .before .before .before .before .before .pre .9, c .before .before .before .before .before .before .before .before .before .before .before .pre .10)
 
 same-length : tie.Need-same-length
 same-length c = search needs

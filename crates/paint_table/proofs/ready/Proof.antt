@@ -27,8 +27,8 @@ mul-result c = search readying
 add-result : tie.Need-add-result
 add-result c = search readying
 
-add-result-2 : tie.Need-add-result-2
-add-result-2 c = search readying
+sub-result : tie.Need-sub-result
+sub-result c = search readying
 
 returns-5 : tie.Need-returns-5
 returns-5 c = search readying
@@ -45,5 +45,5 @@ ready-spec =
     sample-of-requires
     mul-result
     add-result
-    add-result-2
+    sub-result
     returns-5)
