@@ -236,6 +236,22 @@ fn veils(m: Row, r: Row, b: usize) -> bool {
     (m.read == 0) & (r.read == 0) & (b <= m.to) & (b <= r.to)
 }
 
+// Pixels of a margin that is not worth two parts.
+const NARROW: usize = 64;
+
+// Of the two places where all below a pair is hidden and where the layers above it have begun, the nearer one; but the farther one of a narrow margin,
+// since a part has its own cost.
+fn margin_end(hid: usize, left: usize, right: usize, a: usize, b: usize) -> usize
+    requires { ⌜ (a ≤ hid) × (hid ≤ b) × (a < b) × (a < right) × (right ≤ b) ⌝ }
+    ensures { λ e. ⌜ (a < e) × (e ≤ b) ⌝ }
+{
+    let far = paint_image::within(left, hid, b);
+    if far - a <= NARROW {
+        return cut(far, a, right);
+    }
+    cut(hid, a, cut(left, a, right))
+}
+
 // Where a part that begins at pixel a ends: before a pair of which nothing was read, which hides all below it; else where all layers above such a pair
 // that begin behind a have begun, or where the first of them ends. So there is one part in which every layer that shows reaches from end to end.
 fn part_end(s: &[u8], d: &[u8], rows: &[usize], pairs: usize, a: usize, b: usize) -> usize
@@ -250,7 +266,8 @@ fn part_end(s: &[u8], d: &[u8], rows: &[usize], pairs: usize, a: usize, b: usize
         let r = line_fetch::row_at(rows, j * 2 + 1);
         if veils(m, r, b) {
             let c = paint_image::within(m.from, a, b);
-            return cut(paint_image::within(r.from, c, b), a, cut(left, a, right));
+            let hid = paint_image::within(r.from, c, b);
+            return margin_end(hid, left, right, a, b);
         }
         left = paint_image::within(m.from, left, b);
         right = cut(m.to, a, right);
