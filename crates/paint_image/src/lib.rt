@@ -130,12 +130,6 @@ pub fn lay_image(out: &mut [u8], t: usize, s: &[u8], d: &[u8], r: Row, a: usize,
     requires { ⌜ ImageFits (now s) (now d) r × Plain r × (b < 65536) × (a ≤ b) × ((t + (b - a)) * 4 ≤ length (now out)) ⌝ }
     ensures { λ _. ⌜ Coated (over (moved t a (imageFrom (octetsOf u) (now (s .entry)) (now (d .entry)) r))) (now (out .entry)) t (t + (b - a)) (now (out .exit)) ⌝ }
 {
-    if r.from <= a {
-        if b <= r.to {
-            lay_inside(out, t, s, d, r, a, b, u);
-            return;
-        }
-    }
     let f = within(r.from, a, b);
     let g = within(r.to, f, b);
     lay_base(out, t, s, d, r, a, f, u);

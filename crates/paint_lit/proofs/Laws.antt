@@ -73,7 +73,21 @@ module _ (sel : List ℕ) (i n : ℕ) where
   dark-more e true c h g k = let f = c .from in record { from = omega arith; upto = omega arith; dark = alike-join dark sel i e (e + 64) (c .dark) (g refl) }
   dark-more e false c h g k = absurd (false≢true (sym k))
 
+  pub dark-unknown : (told : Bool) → i ≤ n → DarkUpTo sel i n i × (i < i → told ≡ true)
+  dark-unknown told h = (dark-begun h, λ k. absurd (omega arith))
+
 pub ruleset darkening = (needs, dark-begun, dark-more)
+
+-- ---- floors that are there, or not
+
+module _ (s d ns : List ℕ) (f a n j : ℕ) (sel : List ℕ) where
+  pub sure-not : false ≡ true → Sure s d ns f a n j sel
+  sure-not e = absurd (false≢true e)
+
+  pub sure-there : Sure s d ns f a n j sel → true ≡ true → Sure s d ns f a n j sel
+  sure-there g e = g
+
+pub ruleset surely = (needs, sure-not, sure-there)
 
 -- ---- a part
 

@@ -66,7 +66,23 @@ fn lit_end(sel: &[u8], i: usize, n: usize) -> usize
     n
 }
 
-// The floors of the pixels a up to b are there: what is dark is filled, and all else painted.
+// The same two of floors that may not be there: then nothing is known to be dark.
+fn dark_told(sel: &[u8], i: usize, n: usize, told: bool) -> usize
+    requires { ⌜ (i ≤ n) × (n ≤ length (now sel)) ⌝ }
+    ensures { λ e. ⌜ DarkUpTo (now (sel .entry)) i n e × (i < e → told ≡ true) ⌝ }
+{
+    if told { dark_end(sel, i, n) } else { i }
+}
+
+fn lit_told(sel: &[u8], i: usize, n: usize, told: bool) -> usize
+    requires { ⌜ (i < n) × (n ≤ length (now sel)) ⌝ }
+    ensures { λ e. ⌜ (i < e) × (e ≤ n) ⌝ }
+{
+    if told { lit_end(sel, i, n) } else { n }
+}
+
+// The pixels a up to b: what is dark is filled, if the floors tell it, and all else painted. Layers are painted at one place in the code, so that the
+// compiler takes them in here.
 fn lay_between(
     out: &mut [u8],
     sel: &[u8],
@@ -79,22 +95,23 @@ fn lay_between(
     f: usize,
     a: usize,
     b: usize,
+    told: bool,
     unseen: Colour,
     u: u32,
 )
-    requires { ⌜ RowsFit (now s) (now d) (now rows) pairs × PlainRows (now rows) pairs × Starts (now s) (now d) (now rows) pairs a b f × Sure (now s) (now d) (now rows) f a (b - a) pairs (now sel)
-        × (f < pairs) × (pairs ≤ 7) × (a ≤ b) × (b < 65536) × (b * 4 ≤ length (now out)) × (b - a + 24 ≤ length (now bits)) × (2048 ≤ length (now row)) × (octetsOf u ≡ fourOf unseen Unknown) ⌝ }
+    requires { ⌜ RowsFit (now s) (now d) (now rows) pairs × PlainRows (now rows) pairs × Starts (now s) (now d) (now rows) pairs a b f × (told ≡ true → Sure (now s) (now d) (now rows) f a (b - a) pairs (now sel))
+        × (b - a ≤ length (now sel)) × (f < pairs) × (pairs ≤ 7) × (a ≤ b) × (b < 65536) × (b * 4 ≤ length (now out)) × (b - a + 24 ≤ length (now bits)) × (2048 ≤ length (now row)) × (octetsOf u ≡ fourOf unseen Unknown) ⌝ }
     ensures { λ _. ⌜ Coated (decided unseen (now (s .entry)) (now (d .entry)) (now (rows .entry)) pairs) (now (out .entry)) a b (now (out .exit)) ⌝ }
 {
     let n = b - a;
     let mut i = 0;
     while i < n {
-        let e = dark_end(sel, i, n);
+        let e = dark_told(sel, i, n, told);
         if STRETCH <= e - i {
             paint_coat::lay_flat(out, a + i, a + e, u);
             i = e;
         } else {
-            let q = lit_end(sel, i, n);
+            let q = lit_told(sel, i, n, told);
             paint_layers::lay_layers(
                 out,
                 row,
@@ -166,6 +183,32 @@ fn dark_ahead(
     false
 }
 
+// The floors of the pixels a up to b, if they are worth it.
+fn put_dark(
+    sel: &mut [u8],
+    bits: &mut [u8],
+    s: &[u8],
+    d: &[u8],
+    rows: &[usize],
+    pairs: usize,
+    f: usize,
+    a: usize,
+    b: usize,
+) -> bool
+    requires { ⌜ RowsFit (now s) (now d) (now rows) pairs × PlainRows (now rows) pairs × Starts (now s) (now d) (now rows) pairs a b f × (f < pairs) × (pairs ≤ 7) × (a < b) × (b < 65536)
+        × (b - a ≤ length (now sel)) × (b - a + 24 ≤ length (now bits)) ⌝ }
+    ensures { λ z. ⌜ (z ≡ true → Sure (now (s .entry)) (now (d .entry)) (now (rows .entry)) f a (b - a) pairs (now (sel .exit))) ⌝ }
+{
+    if b - a < 2 * TRIED {
+        return false;
+    }
+    if dark_ahead(sel, bits, s, d, rows, pairs, f, a) {
+        paint_floor::put_floors(sel, bits, s, d, rows, pairs, f, a, b);
+        return true;
+    }
+    false
+}
+
 // The pixels a up to b, pair f showing its image layer over them; `sel` is for work.
 pub fn lay_lit(
     out: &mut [u8],
@@ -186,14 +229,21 @@ pub fn lay_lit(
         × (b - a ≤ length (now sel)) × (b - a + 24 ≤ length (now bits)) × (2048 ≤ length (now row)) × (octetsOf u ≡ fourOf unseen Unknown) ⌝ }
     ensures { λ _. ⌜ Coated (decided unseen (now (s .entry)) (now (d .entry)) (now (rows .entry)) pairs) (now (out .entry)) a b (now (out .exit)) ⌝ }
 {
-    if b - a < 2 * TRIED {
-        paint_layers::lay_layers(out, row, bits, s, d, rows, pairs, f, a, b, unseen, u);
-        return;
-    }
-    if dark_ahead(sel, bits, s, d, rows, pairs, f, a) {
-        paint_floor::put_floors(sel, bits, s, d, rows, pairs, f, a, b);
-        lay_between(out, sel, row, bits, s, d, rows, pairs, f, a, b, unseen, u);
-        return;
-    }
-    paint_layers::lay_layers(out, row, bits, s, d, rows, pairs, f, a, b, unseen, u);
+    let told = put_dark(sel, bits, s, d, rows, pairs, f, a, b);
+    lay_between(
+        out,
+        sel,
+        row,
+        bits,
+        s,
+        d,
+        rows,
+        pairs,
+        f,
+        a,
+        b,
+        told,
+        unseen,
+        u,
+    );
 }

@@ -5,15 +5,6 @@ use borrow.Author.Needs.{needs}
 use Rattle.paint_image.proofs.lay_image.Statement.{statement}
 use Rattle.paint_image.proofs.lay_image.Tie as tie
 
-lay-inside-requires : tie.Need-lay-inside-requires
-lay-inside-requires c κs = search needs
-
-same-length : tie.Need-same-length
-same-length c = search needs
-
-returns : tie.Need-returns
-returns c = search needs
-
 within-requires : tie.Need-within-requires
 within-requires c κs = search needs
 
@@ -29,8 +20,8 @@ sub-lay-inside c = search needs
 add-lay-inside : tie.Need-add-lay-inside
 add-lay-inside c = search needs
 
-lay-inside-requires-2 : tie.Need-lay-inside-requires-2
-lay-inside-requires-2 c κs = search imaging
+lay-inside-requires : tie.Need-lay-inside-requires
+lay-inside-requires c κs = search imaging
 
 sub-lay-base : tie.Need-sub-lay-base
 sub-lay-base c = search needs
@@ -39,29 +30,26 @@ add-lay-base : tie.Need-add-lay-base
 add-lay-base c = search needs
 
 lay-base-requires-2 : tie.Need-lay-base-requires-2
-lay-base-requires-2 c κs = (c .before .before .before .before .before .before .before .before .before .before .before .before .before .before .before .before .pre .0, beside-behind _ _ _ _ _ (c .before .before .before .before .before .before .before .before .before .before .within .ensures) (c .before .before .before .before .before .before .before .before .before .within2 .ensures), c .before .before .before .before .before .before .before .before .before .within2 .ensures .high, let m = c .before .before .before .before .before .before .before .lay-base .ensures .long in let n = c .before .before .before .lay-inside2 .ensures .long in let j = c .before .before .before .before .before .before .before .before .before .before .within .ensures .low in let k = c .before .before .before .before .before .before .before .before .before .within2 .ensures .low in let o = c .before .before .before .before .before .before .before .before .before .within2 .ensures .high in omega arith)
+lay-base-requires-2 c κs = (c .before .before .before .before .before .before .before .before .before .before .before .before .before .before .pre .0, beside-behind _ _ _ _ _ (c .before .before .before .before .before .before .before .before .before .before .within .ensures) (c .before .before .before .before .before .before .before .before .before .within2 .ensures), c .before .before .before .before .before .before .before .before .before .within2 .ensures .high, let m = c .before .before .before .before .before .before .before .lay-base .ensures .long in let n = c .before .before .before .lay-inside .ensures .long in let j = c .before .before .before .before .before .before .before .before .before .before .within .ensures .low in let k = c .before .before .before .before .before .before .before .before .before .within2 .ensures .low in let o = c .before .before .before .before .before .before .before .before .before .within2 .ensures .high in omega arith)
 
-same-length-2 : tie.Need-same-length-2
-same-length-2 c = search needs
+same-length : tie.Need-same-length
+same-length c = search needs
 
-returns-2 : tie.Need-returns-2
-returns-2 c = search imaging
+returns : tie.Need-returns
+returns c = search imaging
 
 pub lay-image-spec : {M : Type 1} → statement M
 lay-image-spec =
     tie.close
     (tie.spec
-    lay-inside-requires
-    same-length
-    returns
     within-requires
     within-requires-2
     lay-base-requires
     sub-lay-inside
     add-lay-inside
-    lay-inside-requires-2
+    lay-inside-requires
     sub-lay-base
     add-lay-base
     lay-base-requires-2
-    same-length-2
-    returns-2)
+    same-length
+    returns)
