@@ -1,5 +1,5 @@
 -- Sheets that are accepted, so that the rules are no empty ones: the paper's example, and two stripes of different layers, coders,
--- resolutions and heights.
+-- resolutions and heights; and a record of which no two octets are alike, by which each field has its place.
 -- Assumes nothing.
 use Prim.Native.Nat.{ℕ}
 use mathlib.Core.Path.{_≡_, refl}
@@ -7,9 +7,9 @@ use mathlib.Core.List.{List, [], _∷_}
 use Rattle.sheet_rules.specs.declared.Record.{Record}
 use Rattle.sheet_rules.proofs.Make.{made}
 use Rattle.sheet_rules.specs.declared.Verdict.the-variants.{Good, Refused}
-use Rattle.sheet_rules.specs.Record.{marked, recordAt, records}
+use Rattle.sheet_rules.specs.Record.{marked, recordAt, encode, records}
 use Rattle.sheet_rules.specs.Judge.{keeps, after, after1, after2, after3, stepOf, endOf, onStep, walk, judge, judgeOf}
-use Rattle.octets.specs.Octets.{be16At, be32At}
+use Rattle.octets.specs.Octets.{be16At, be32At, octets16, octets32}
 
 -- 01, "A listing": a four by two page, only its mask coded
 pub example : List ℕ
@@ -92,3 +92,39 @@ grey-two = refl
 pub grey-uncoded : judge (marked 1 (layer 0 1 0 0 0 0 0 400 0 0) ∷ layer 0 2 4 0 0 8 8 400 9 9 ∷ layer 0 3 0 0 0 0 0 400 0 0 ∷ []) 0 ≡ Refused 0
 unfolding judge walk onStep stepOf keeps after after1 after2 after3 endOf layer
 grey-uncoded = refl
+
+-- ---- where each field stands
+
+-- 28 octets, each another: so no two fields, and no two octets of one, can stand for each other
+pub octets-apart : List ℕ
+octets-apart =
+    0x01 ∷ 0x02 ∷ 0x03 ∷ 0x04 ∷ 0x05 ∷ 0x06 ∷ 0x07 ∷ 0x08 ∷ 0x09 ∷ 0x0A ∷ 0x0B ∷ 0x0C ∷ 0x0D ∷ 0x0E
+    ∷ 0x0F ∷ 0x10 ∷ 0x11 ∷ 0x12 ∷ 0x13 ∷ 0x14 ∷ 0x15 ∷ 0x16 ∷ 0x17 ∷ 0x18 ∷ 0x19 ∷ 0x1A ∷ 0x1B ∷ 0x1C ∷ []
+
+pub record-apart : Record
+record-apart =
+    record {
+      stripe = 0x0102;
+      layer = 0x03;
+      coder = 0x04;
+      x = 0x0506;
+      y = 0x0708;
+      width = 0x090A;
+      height = 0x0B0C;
+      res = 0x0D0E;
+      base0 = 0x0F;
+      base1 = 0x10;
+      base2 = 0x11;
+      octet17 = 0x12;
+      start = 0x13141516;
+      len = 0x1718191A;
+      octets26 = 0x1B1C;
+    }
+
+pub layout-read : recordAt octets-apart 0 ≡ record-apart
+unfolding recordAt be16At be32At octets-apart record-apart
+layout-read = refl
+
+pub layout-put : encode record-apart ≡ octets-apart
+unfolding encode octets16 octets32 octets-apart record-apart
+layout-put = refl
