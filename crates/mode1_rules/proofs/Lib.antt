@@ -7,3 +7,4 @@ pub mod Named
 pub mod Parts
 pub mod Accepted
 pub mod Coded
+pub mod Apart

@@ -7,4 +7,5 @@ pub mod Theorems
 pub mod Into
 pub mod Samples
 pub mod Many
+pub mod Apart
 pub mod Examples
