@@ -1,6 +1,7 @@
 -- Reading a Mode 1 stripe from the first octet of its body on (01, "The page, Mode 1" and "Numbers that a call returns").
 --
---   stripeTable      its fields, in their order: an offset is one field of eight octets
+--   stripeTable      its fields, in their order: an offset is one field of eight octets; typeIn: the type among the numbers read
+--   fieldsFrom       what its numbers say, in the same order
 --   walked           an image layer where the type names one
 --   layersOf         the coded layers, and the records
 --   stripeRead       the stripe: its height and its records
@@ -30,6 +31,10 @@ use Rattle.mode1_rules.specs.Grammar.{recordsOf}
 
 -- ---- the fields
 
+-- the type is the first number
+abbrev pub typeIn : List ℕ → ℕ
+typeIn vs = getD vs 0 0
+
 abbrev pub maskLengthOk : ℕ → ℕ → Bool
 maskLengthOk t n = cond (hasMask t) (not (eqb n 0)) (eqb n 0)
 
@@ -38,16 +43,16 @@ stripeTable hd left =
     val (one ∷ []) (is (typeOk hd)) BadType
     ∷ val (one ∷ one ∷ one ∷ []) any BadStripe
     ∷ val (one ∷ one ∷ one ∷ []) any BadStripe
-    ∷ val (four ∷ four ∷ []) (λ (before vs : List ℕ). offsetOk (hasBack (getD before 0 0)) (getD vs 0 0) (getD vs 1 0)) BadStripe
-    ∷ val (four ∷ four ∷ []) (λ (before vs : List ℕ). offsetOk (hasFore (getD before 0 0)) (getD vs 0 0) (getD vs 1 0)) BadStripe
+    ∷ val (four ∷ four ∷ []) (λ (before vs : List ℕ). offsetOk (hasBack (typeIn before)) (getD vs 0 0) (getD vs 1 0)) BadStripe
+    ∷ val (four ∷ four ∷ []) (λ (before vs : List ℕ). offsetOk (hasFore (typeIn before)) (getD vs 0 0) (getD vs 1 0)) BadStripe
     ∷ val (four ∷ []) (is (within 1 left)) BadStripe
-    ∷ val (four ∷ []) (λ (before vs : List ℕ). maskLengthOk (getD before 0 0) (getD vs 0 0)) BadStripe
+    ∷ val (four ∷ []) (λ (before vs : List ℕ). maskLengthOk (typeIn before) (getD vs 0 0)) BadStripe
     ∷ []
 
 abbrev pub fieldsFrom : List ℕ → Fields
 fieldsFrom vs =
     record {
-      kind = getD vs 0 0;
+      kind = typeIn vs;
       back = record { c0 = getD vs 1 0; c1 = getD vs 2 0; c2 = getD vs 3 0 };
       fore = record { c0 = getD vs 4 0; c1 = getD vs 5 0; c2 = getD vs 6 0 };
       backX = getD vs 7 0;

@@ -1,7 +1,7 @@
 -- Reading the start of page (01, "The page, Mode 1" and "Numbers that a call returns"), field by field.
 --
 --   versionTaken, modeTaken   an octet that names a version or a mode that is taken; versionFrom, modeFrom: which
---   startTable         the start of page segment and the termination
+--   startTable         the start of page segment and the termination; lengthIn, versionIn, modeIn: the first numbers read
 --   headFrom           what its numbers say: length, version, mode, the two coders, resolution, width
 --   startRead s at     the start of page at a place
 use Prim.Native.Nat.{ℕ}
@@ -32,6 +32,15 @@ versionFrom v = Base
 abbrev pub modeFrom : ℕ → Mode
 modeFrom m = One
 
+abbrev pub lengthIn : List ℕ → ℕ
+lengthIn vs = getD vs 0 0
+
+abbrev pub versionIn : List ℕ → ℕ
+versionIn vs = getD vs 1 0
+
+abbrev pub modeIn : List ℕ → ℕ
+modeIn vs = getD vs 2 0
+
 -- the ident is judged before the length that depends on it, a length below 6 at once
 unfoldable pub startTable : List Field
 startTable =
@@ -39,11 +48,11 @@ startTable =
     ∷ mark (0xFF ∷ 0xED ∷ []) BadMark
     ∷ val (two ∷ []) (is (leb 6)) BadLength
     ∷ mark (0x4D ∷ 0x52 ∷ 0x43 ∷ 0x00 ∷ []) BadMark
-    ∷ again 6 (λ (vs : List ℕ). eqb (getD vs 0 0) 16) BadLength
+    ∷ again 6 (λ (vs : List ℕ). eqb (lengthIn vs) 16) BadLength
     ∷ val (one ∷ []) (is versionTaken) BadVersion
     ∷ val (one ∷ []) (is modeTaken) BadMode
-    ∷ val (one ∷ []) (λ (before vs : List ℕ). maskCoder (modeFrom (getD before 2 0)) (getD vs 0 0)) BadCoder
-    ∷ val (one ∷ []) (λ (before vs : List ℕ). imageCoder (modeFrom (getD before 2 0)) (getD vs 0 0)) BadCoder
+    ∷ val (one ∷ []) (λ (before vs : List ℕ). maskCoder (modeFrom (modeIn before)) (getD vs 0 0)) BadCoder
+    ∷ val (one ∷ []) (λ (before vs : List ℕ). imageCoder (modeFrom (modeIn before)) (getD vs 0 0)) BadCoder
     ∷ val (two ∷ []) (is listed) BadRes
     ∷ val (four ∷ []) (is (within 1 32768)) BadWidth
     ∷ mark (0xFF ∷ 0xD9 ∷ []) BadMark
@@ -52,7 +61,7 @@ startTable =
 abbrev pub headFrom : List ℕ → Head
 headFrom vs =
     record {
-      rules = record { version = versionFrom (getD vs 1 0); mode = modeFrom (getD vs 2 0) };
+      rules = record { version = versionFrom (versionIn vs); mode = modeFrom (modeIn vs) };
       mask = getD vs 3 0;
       image = getD vs 4 0;
       main = getD vs 5 0;

@@ -23,7 +23,7 @@ use Rattle.mode1_rules.specs.Grammar.{fieldsOf, TypeOf, Image, there, absent, S
 use Rattle.mode1_rules.proofs.Parts.{backIn, maskIn, foreIn, stripe-each, stripe-length, image-place, back-octets, mask-octets, fore-octets}
 use Rattle.write_rules.specs.Layer.{layerOctets}
 use Rattle.write_rules.specs.Cut.{Opened}
-use Rattle.write_rules.specs.Mode1.{typeBy, colourBy, fieldsBy, rest1, TrimStripe}
+use Rattle.write_rules.specs.Mode1.{typeBy, colourBy, fieldsBy, rest1, Trimmed}
 use Rattle.segment_rules.specs.Rules.{mostLayers}
 use Rattle.write_rules.proofs.Passed.{sizeIn}
 use Rattle.write_rules.proofs.Mode1.{head-first, head-other}
@@ -163,7 +163,7 @@ fields-same f g e1 e2 e3 e4 e5 e6 e7 e8 e9 = let all : whole f ≡ whole g = cc 
           maskLength = f .maskLength;
         }
 
-module _ {hd : Head} {k left at : ℕ} {l : List ℕ} {height : ℕ} {rs : List Record} (z : Stripe hd k left at l height rs) (t : TrimStripe z) where
+module _ {hd : Head} {k left at : ℕ} {l : List ℕ} {height : ℕ} {rs : List Record} (z : Stripe hd k left at l height rs) (t : Trimmed (z .fields)) where
   fields-again : fieldsBy (backIn z) (maskIn z) (foreIn z) ≡ z .fields
   unfolding maskRecord
   fields-again =

@@ -25,7 +25,7 @@ use Rattle.mode1_rules.specs.Kinds.{stripeBody, hasBack, hasMask, hasFore, mask
 use Rattle.mode1_rules.specs.Grammar.{fieldsOf, Widths, GoodFields, Image, recordsOf, Stripe}
 use Rattle.mode1_rules.proofs.Tables.{length-fields}
 use Rattle.write_rules.specs.Layer.{layerOctets}
-use Rattle.write_rules.specs.Mode1.{head1, typeBy, fieldsBy, layerIn, rest1, TrimStripe}
+use Rattle.write_rules.specs.Mode1.{head1, typeBy, fieldsBy, layerIn, rest1, Trimmed}
 use Rattle.write_rules.specs.Form.{bare}
 use Rattle.write_rules.proofs.Passed.{coder-nonzero}
 use Rattle.write_rules.proofs.Cut.{Upward, top, up, Lot, second-of}
@@ -206,7 +206,7 @@ module _ (d : List ℕ) (hd : Head) (k left at : ℕ) (a b c : Record) (t : Thre
         records = sym made;
       }
 
-  trim : TrimStripe lands
+  trim : Trimmed (lands .fields)
   unfolding lands
   trim =
       let l = t .layers in
@@ -217,7 +217,7 @@ module _ (d : List ℕ) (hd : Head) (k left at : ℕ) (a b c : Record) (t : Thre
 
 pub record Landed1 (d : List ℕ) (hd : Head) (k left at : ℕ) (q : List Record) : Type 0 where
   pub stripe : Stripe hd k left at (rest1 d q) (heights q) (moved1 d at q)
-  pub trim : TrimStripe stripe
+  pub trim : Trimmed (stripe .fields)
 
 module _ (d : List ℕ) (hd : Head) (rs : List Record) (y : Ready d hd rs) (k left at : ℕ) where
   pub stripe-lands1 : (q : List Record) → ((r : Record) → Among r q → Among r rs) → IsThree hd k left q → Landed1 d hd k left at q

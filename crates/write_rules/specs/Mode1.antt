@@ -6,7 +6,7 @@
 --   layerIn q l        the record of layer l of a stripe
 --   begins             a stripe's segment up to its body
 --   rest1 d q          what stands from its body on, where its records are q, with its coded layers out of the buffer d; stripe1: the whole
---   TrimStripe z       in the page's stripe z an absent layer's offsets are 0
+--   Trimmed f          in a stripe's fields an absent layer's offsets are 0
 use Prim.Native.Nat.{ℕ, _+_, _-_}
 use mathlib.Core.Path.{_≡_}
 use mathlib.Core.Bool.{Bool, false}
@@ -17,11 +17,10 @@ use Rattle.sheet_rules.specs.declared.Colour.{Colour}
 use Rattle.sheet_rules.specs.declared.Record.{Record}
 use Rattle.sheet_rules.specs.Record.{nth}
 use Rattle.sheet_rules.specs.Judge.{coded}
-use Rattle.start_rules.specs.declared.Head.{Head}
 use Rattle.mode1_rules.specs.Kinds.{stripeBody, hasBack, hasFore}
 use Rattle.mode1_rules.specs.declared.Fields.{Fields}
 use Rattle.segment_rules.specs.Segment.{beginOf}
-use Rattle.mode1_rules.specs.Grammar.{fieldsOf, Stripe}
+use Rattle.mode1_rules.specs.Grammar.{fieldsOf}
 use Rattle.write_rules.specs.Layer.{layerOctets}
 
 abbrev pub head1 : Record → ℕ
@@ -67,6 +66,6 @@ stripe1 d q = begins ++ rest1 d q
 
 -- ---- the writer's form, of a page's stripe
 
-pub record TrimStripe {hd : Head} {k left at : ℕ} {l : List ℕ} {height : ℕ} {rs : List Record} (z : Stripe hd k left at l height rs) : Type 0 where
-  pub back : hasBack (z .fields .kind) ≡ false → (z .fields .backX ≡ 0) × (z .fields .backY ≡ 0)
-  pub fore : hasFore (z .fields .kind) ≡ false → (z .fields .foreX ≡ 0) × (z .fields .foreY ≡ 0)
+pub record Trimmed (f : Fields) : Type 0 where
+  pub back : hasBack (f .kind) ≡ false → (f .backX ≡ 0) × (f .backY ≡ 0)
+  pub fore : hasFore (f .kind) ≡ false → (f .foreX ≡ 0) × (f .foreY ≡ 0)

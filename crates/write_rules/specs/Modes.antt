@@ -10,7 +10,7 @@ use Rattle.segment_rules.specs.declared.Mode.the-variants.{One}
 use Rattle.sheet_rules.specs.declared.Record.{Record}
 use Rattle.start_rules.specs.declared.Head.{Head}
 use Rattle.page_rules.specs.Grammar.{StripeIn}
-use Rattle.write_rules.specs.Mode1.{head1, stripe1, TrimStripe}
+use Rattle.write_rules.specs.Mode1.{head1, stripe1, Trimmed}
 
 abbrev pub headIn : Mode → Record → ℕ
 headIn One r = head1 r
@@ -20,4 +20,4 @@ unfolding stripe1
 stripeBy One d q = stripe1 d q
 
 abbrev pub TrimIn : (m : Mode) (hd : Head) (k left at : ℕ) (l : List ℕ) (height : ℕ) (rs : List Record) → StripeIn m hd k left at l height rs → Type 0
-TrimIn One hd k left at l height rs z = TrimStripe z
+TrimIn One hd k left at l height rs z = Trimmed (z .fields)
