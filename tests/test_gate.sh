@@ -21,7 +21,7 @@ fresh() {
     "rt: two ran as nobody, and wrote what its file 'stdout' has (3 s)" '4 passed, 0 failed' >stub/ci
   echo 0 >stub/ci.status; echo 0 >stub/fmt.status
   echo 'file: src/lib.rt' | file crates/one/must-fail/a.edit
-  file target/must-fail/one/a/.log <<<'x.antt:1:1: error: a fact fails'
+  file target/must-fail/one/a/.log <<<'x.antt:1:1: error: `f`: the two types differ only where one has `1` and the other `2`'
   echo 'print("2 passed, 0 failed")' >tests/test_p.py
   echo 'echo "1 passed, 0 failed"' >tests/test_s.sh
   printf '#include <stdio.h>\nint main(void) { puts("3 passed, 0 failed"); return 0; }\n' >tests/test_c.c
@@ -75,6 +75,8 @@ fresh; printf 'note\nx.antt:1:1: error: the module has no `Need-returns-3`\n' >t
 fresh; printf 'x.antt:1:1: error: `f-spec`: expected type `tie.Need-returns`, but this has type `tie.Need-add`\n' >target/must-fail/one/a/.log; gate 'an edit that asks one need more' 1 '10 passed, 1 failed'; said 'one/a is refused only because'
 fresh; printf 'x.antt:1:1: error: `f`: `*` is not in scope\n' >target/must-fail/one/a/.log; gate 'an edit with a name that is not known' 1 '10 passed, 1 failed'; said 'one/a is refused only because'
 fresh; printf 'y.antt:1:1: error: has no `Need-b`\n' >>target/must-fail/one/a/.log; gate 'the same as a second error' 0 '10 passed, 0 failed'
+fresh; printf 'x.antt:1:1: error: `f`: `search` stopped 5 lemmas deep, with lemmas still to try\n' >target/must-fail/one/a/.log; gate 'an edit whose log has no plain fact' 1 '10 passed, 1 failed'; said 'one/a is refused, and its log has no plain fact'
+fresh; printf 'x.antt:1:1: error: `f`: `omega`: All of that holds, and the goal fails, at `n` = 3\n' >target/must-fail/one/a/.log; gate 'an edit that fails at a number' 0 '10 passed, 0 failed'
 fresh; rm target/must-fail/one/a/.log; gate 'an edit that was not tried' 1 '10 passed, 1 failed'
 fresh; echo 'spirerook :' >>crates.txt; echo 'int three(void); int three(void) { return 3; }' | cc -c -x c -o o.o - && ar rc stub/archive o.o
 printf '#include <stdio.h>\nint three(void);\nint main(void) { printf("%%d passed, 0 failed\\n", three()); return 0; }\n' >tests/test_c.c; gate 'the archive' 0 '10 passed, 0 failed'

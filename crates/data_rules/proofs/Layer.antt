@@ -3,6 +3,7 @@
 use Prim.Native.Nat.{ℕ, zero, suc, _+_, _-_, _≤_, _<_}
 use native.Mathlib.Omega.{arith}
 use mathlib.Core.Path.{_≡_, sym, ap, subst, _∙_}
+use mathlib.Core.Bool.{Bool, cond}
 use mathlib.Core.Logic.{inl, inr, ⊎-elim}
 use mathlib.Core.List.{List}
 use lib.ListN.{length}
@@ -72,11 +73,11 @@ module _ (rs : List Record) (z : Sheet rs) where
 module _ (l : ℕ) where
   pub source-low : l ≤ 3 → sourceOf l ≡ Page
   unfolding sourceOf
-  source-low h = simp (le-leb l 3 h)
+  source-low h = ap (λ (b : Bool). cond b Page Pencil) (le-leb l 3 h)
 
   pub source-high : 3 < l → sourceOf l ≡ Pencil
   unfolding sourceOf
-  source-high h = simp (lt-leb l 3 h)
+  source-high h = ap (λ (b : Bool). cond b Page Pencil) (lt-leb l 3 h)
 
 module _ (page pencil : List ℕ) (l : ℕ) where
   pub octets-low : l ≤ 3 → octetsIn page pencil (sourceOf l) ≡ page

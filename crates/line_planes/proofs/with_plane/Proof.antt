@@ -1,5 +1,6 @@
 use borrow.Author.Needs.{needs}
-use Rattle.line_planes.proofs.Laws.{gathering}
+use native.Mathlib.Omega.{arith}
+use Rattle.line_planes.proofs.Laws.{plane-kept, plane-passed}
 use Rattle.line_planes.proofs.with_plane.Statement.{statement}
 use Rattle.line_planes.proofs.with_plane.Tie as tie
 
@@ -16,10 +17,10 @@ element-write-n-2 : tie.Need-element-write-n-2
 element-write-n-2 c = search needs
 
 returns : tie.Need-returns
-returns c = search gathering
+returns c = plane-kept _ _ (let h = c .if1 in omega arith)
 
 returns-2 : tie.Need-returns-2
-returns-2 c = search gathering
+returns-2 c = plane-passed _ _ (let h = c .if1 in omega arith)
 
 pub with-plane-spec : {M : Type 1} → statement M
 with-plane-spec =

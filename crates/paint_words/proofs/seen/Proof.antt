@@ -22,7 +22,7 @@ word-of-requires : tie.Need-word-of-requires
 word-of-requires c κs = search needs
 
 returns : tie.Need-returns
-returns c = search making
+returns c = search making depth 9
 
 pub seen-spec : {M : Type 1} → statement M
 seen-spec =
