@@ -83,12 +83,14 @@ module _ (v : Scene) (w : Content) (ok : Possible v w) (l : ℕ) (i j : SamplePo
   -- three octets, whichever, where octet 17 of the layer's record is not 1
   pub colour-free : recordOf v l .octet17 ≢ 1 → (c0 c1 c2 : ℕ) → c0 < 256 → c1 < 256 → c2 < 256 → Freed v w l i j (record { c0 = c0; c1 = c1; c2 = c2 })
   colour-free g c0 c1 c2 h0 h1 h2 =
-      held-free (record { c0 = c0; c1 = c1; c2 = c2 }) (colour-holds (recordOf v l) (record { c0 = c0; c1 = c1; c2 = c2 }) (ne-eqb (recordOf v l .octet17) 1 g) .1 (h0, h1, h2))
+      let c : Colour = record { c0 = c0; c1 = c1; c2 = c2 } in
+      held-free c (colour-holds (recordOf v l) c (ne-eqb (recordOf v l .octet17) 1 g) .1 (h0, h1, h2))
 
   -- any lightness and no colour where it is 1
   pub shade-free : recordOf v l .octet17 ≡ 1 → (n : ℕ) → n < 256 → Freed v w l i j (record { c0 = n; c1 = 128; c2 = 96 })
   shade-free g n h =
-      held-free (record { c0 = n; c1 = 128; c2 = 96 }) (grey-holds (recordOf v l) (record { c0 = n; c1 = 128; c2 = 96 }) (eq-eqb (recordOf v l .octet17) 1 g) .1 (n, h, refl))
+      let c : Colour = record { c0 = n; c1 = 128; c2 = 96 } in
+      held-free c (grey-holds (recordOf v l) c (eq-eqb (recordOf v l .octet17) 1 g) .1 (n, h, refl))
 
   -- both values of a mask
   pub bit-free : (b : Bool) → FreedBit v w l i j b
@@ -103,13 +105,16 @@ module _ (v : Scene) (w : Content) (ok : Possible v w) (l : ℕ) (i j : SamplePo
 
 -- ---- at a place of an unread layer's area: the content at its sample, whose place is written out in numbers
 
-module _ (v : Scene) (w : Content) (l : ℕ) (x y : MainPos) (h : Coded (recordOf v l)) (o : inside (mainOf v) (recordOf v l) x y ≡ true) (e : planeStart (v .planes) l ≡ Unread) where
+module _ (v : Scene) (w : Content) (l : ℕ) (x y : MainPos) (h : Coded (recordOf v l)) (o : inside (mainOf v) (recordOf v l) x y ≡ true)
+    (e : planeStart (v .planes) l ≡ Unread) where
   pub image-open : imageUnder v w l x y
-      ≡ w .colour l (record { 0 = (x .0 - recordOf v l .x) / (mainOf v / recordOf v l .res) }) (record { 0 = (y .0 - recordOf v l .y) / (mainOf v / recordOf v l .res) })
+      ≡ w .colour l (record { 0 = (x .0 - recordOf v l .x) / (mainOf v / recordOf v l .res) })
+      (record { 0 = (y .0 - recordOf v l .y) / (mainOf v / recordOf v l .res) })
   unfolding scale
   image-open = rw (image-unread v l x y h o e) refl
 
   pub mask-open : maskUnder v w l x y
-      ≡ w .bit l (record { 0 = (x .0 - recordOf v l .x) / (mainOf v / recordOf v l .res) }) (record { 0 = (y .0 - recordOf v l .y) / (mainOf v / recordOf v l .res) })
+      ≡ w .bit l (record { 0 = (x .0 - recordOf v l .x) / (mainOf v / recordOf v l .res) })
+      (record { 0 = (y .0 - recordOf v l .y) / (mainOf v / recordOf v l .res) })
   unfolding scale
   mask-open = rw (mask-unread v l x y h o e) refl
