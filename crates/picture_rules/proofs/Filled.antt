@@ -12,10 +12,10 @@
 use Prim.Native.Nat.{ℕ, zero, suc, _+_, _*_, _/_, _%_, _≤_, _<_}
 use native.Mathlib.Nat.{add-zero, add-assoc, mul-add-div-right, mul-add-mod-self-right, div-eq-of-lt, mod-eq-of-lt}
 use native.Mathlib.Omega.{arith}
-use mathlib.Core.Path.{_≡_, refl, ap, ap₂, subst, _∙_}
+use mathlib.Core.Path.{_≡_, refl, sym, ap, ap₂, subst, _∙_}
 use mathlib.Core.Logic.{⊎-elim}
 use mathlib.Core.Bool.{Bool, true, false, cond}
-use mathlib.Core.List.{List, [], _∷_, _++_, List·Memᴰ, List·Memᴰ·head, List·Memᴰ·tail}
+use mathlib.Core.List.{List, [], _∷_, _++_, List·Memᴰ, List·Memᴰ·head, List·Memᴰ·tail, Memᴰ·cast}
 use lib.ListN.{length, getD, length-append, List·getD-append}
 use lib.Seq.{getD-append-add}
 use lib.Dec.{eqb, lit<}
@@ -48,6 +48,7 @@ use Rattle.picture_rules.specs.Demand.{Reread, AllRead}
 use Rattle.picture_rules.proofs.Ruled.{says-plane, planes-answers}
 use Rattle.picture_rules.proofs.Starts.{start-entry}
 use Rattle.picture_rules.proofs.Within.{start-read}
+use Rattle.picture_rules.proofs.More.{reread-more}
 
 -- ---- the octets of a content
 
@@ -294,14 +295,10 @@ module _ (v : Scene) (w : Content) where
     filled-all l a b c = (entryOf v w l, layer-among l a b c, refl)
 
     pub filled-again : Reread v (filled v w)
-    filled-again p m =
+    filled-again =
+        reread-more v (filled v w) (stacked (planeOf v w) (v .extent .layers + 1)) refl
+        (λ p m.
         let e = start-entry v (wholeList (v .planes)) fine p m in
         let r = start-read v (wholeList (v .planes)) fine (p .layer) (p .start) e in
-        let k = r .room in (
-          entryOf v w (p .layer),
-          layer-among (p .layer) (r .least) (r .most) (r .coded),
-          refl,
-          λ i h.
-              ap (λ (q : Start). getD (filledSamples v w) (startElse q (behind v w (p .layer)) + i) 0) e
-              ∙ List·getD-append (v .samples) (stacked (planeOf v w) (v .extent .layers + 1)) 0 (p .start + i) (omega arith),
-        )
+        let same : entryOf v w (p .layer) ≡ p = λ i. record { layer = p .layer; start = startElse (e i) (behind v w (p .layer)) } in
+        (Memᴰ·cast (sym same) (layer-among (p .layer) (r .least) (r .most) (r .coded)), r .room))

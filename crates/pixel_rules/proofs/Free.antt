@@ -6,7 +6,7 @@
 --   Freed v w .. c    a possible content that has the colour c at one sample and is else as w; FreedBit: that has the bit b
 -- Assumes nothing.
 use Prim.Native.Nat.{ℕ, _-_, _/_, _<_}
-use mathlib.Core.Path.{_≡_, refl, sym, ap, subst}
+use mathlib.Core.Path.{_≡_, refl, sym, ap, ap₂, subst}
 use mathlib.Core.Logic.{_≢_}
 use mathlib.Core.Bool.{Bool, true, _&&_, cond}
 use lib.Dec.{eqb}
@@ -103,18 +103,16 @@ module _ (v : Scene) (w : Content) (ok : Possible v w) (l : ℕ) (i j : SamplePo
         colours = λ m p q. refl;
       }
 
--- ---- at a place of an unread layer's area: the content at its sample, whose place is written out in numbers
+-- ---- at a place of an unread layer's area: the content at the place's sample (i, j), which is told in numbers
 
 module _ (v : Scene) (w : Content) (l : ℕ) (x y : MainPos) (h : Coded (recordOf v l)) (o : inside (mainOf v) (recordOf v l) x y ≡ true)
     (e : planeStart (v .planes) l ≡ Unread) where
-  pub image-open : imageUnder v w l x y
-      ≡ w .colour l (record { 0 = (x .0 - recordOf v l .x) / (mainOf v / recordOf v l .res) })
-      (record { 0 = (y .0 - recordOf v l .y) / (mainOf v / recordOf v l .res) })
-  unfolding scale
-  image-open = rw (image-unread v l x y h o e) refl
+  module _ (i j : SamplePos) (along : i .0 ≡ (x .0 - recordOf v l .x) / (mainOf v / recordOf v l .res))
+      (down : j .0 ≡ (y .0 - recordOf v l .y) / (mainOf v / recordOf v l .res)) where
+    pub image-open : imageUnder v w l x y ≡ w .colour l i j
+    unfolding scale
+    image-open = rw (image-unread v l x y h o e) (sym (ap₂ (λ (p q : SamplePos). w .colour l p q) (λ t. record { 0 = along t }) (λ t. record { 0 = down t })))
 
-  pub mask-open : maskUnder v w l x y
-      ≡ w .bit l (record { 0 = (x .0 - recordOf v l .x) / (mainOf v / recordOf v l .res) })
-      (record { 0 = (y .0 - recordOf v l .y) / (mainOf v / recordOf v l .res) })
-  unfolding scale
-  mask-open = rw (mask-unread v l x y h o e) refl
+    pub mask-open : maskUnder v w l x y ≡ w .bit l i j
+    unfolding scale
+    mask-open = rw (mask-unread v l x y h o e) (sym (ap₂ (λ (p q : SamplePos). w .bit l p q) (λ t. record { 0 = along t }) (λ t. record { 0 = down t })))
