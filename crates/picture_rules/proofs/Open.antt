@@ -36,13 +36,13 @@ use Rattle.pixel_rules.specs.Samples.{Scene, recordOf, mainOf, widthOf, pairsOf
 use Rattle.pixel_rules.specs.Decide.{pairStep, Stack, decide, stackAt, pixelAt}
 use Rattle.pixel_rules.specs.Content.{Content, CanHold, shade, three, Possible, maskWith, imageWith, maskUnder, imageUnder, colourFrom, colourUnder}
 use Rattle.pixel_rules.proofs.Division.{depth-mask, depth-grey, depth-colour}
-use Rattle.pixel_rules.proofs.Seen.{differ-unknown}
-use Rattle.picture_rules.specs.Line.{fourOf, lineOf, lineInto}
+use Rattle.pixel_rules.proofs.Seen.{unseen-unknown, differ-unknown}
+use Rattle.picture_rules.specs.Line.{lineOf, lineInto}
 use Rattle.picture_rules.specs.Sentences.{sceneOf, AllFine, lined}
 use Rattle.picture_rules.specs.Demand.{fourAt, seenIn, unseenIn, at, Reread, AllRead}
 use Rattle.picture_rules.proofs.Scenes.{Stage, shows-stage, stage-layers, stage-placed}
 use Rattle.picture_rules.proofs.Fours.{four-known, known-four}
-use Rattle.picture_rules.proofs.Demand3.{done-line, done-four, demand-3}
+use Rattle.picture_rules.proofs.Demand3.{mark-unseen, done-line, done-four, demand-3}
 use Rattle.picture_rules.proofs.Exactly.{line-exactly}
 use Rattle.picture_rules.proofs.More.{MaskGrows, ImageGrows, mask-grows, image-grows, more-stays}
 use Rattle.picture_rules.proofs.Filled.{octetIn, bitOctet, value-mask, value-image, behind, filledList, filledSamples, filled, unread-start, unread-octet}
@@ -219,11 +219,6 @@ module _ (s : List ℕ) (pl : PlaneList) (d : List ℕ) (k y : ℕ) (g : Stage s
 
 -- ---- the theorem
 
-marked-unknown : (u : Colour) (p : Sample) → getD (fourOf u p) 3 0 ≡ 0 → p ≡ Unknown
-unfolding fourOf
-marked-unknown u (Known c) e = clash (sym e)
-marked-unknown u Unknown e = refl
-
 seen-once : (u c c′ : Colour) → seenIn c ≡ seenIn c′ → c ≡ c′
 seen-once u c c′ e = let k = four-known u (Known c) c′ (known-four u (Known c) c refl ∙ e) in cc
 
@@ -259,8 +254,7 @@ module _ (s : List ℕ) (pl : PlaneList) (d : List ℕ) (k y : ℕ) (u : Colour)
 
   opens : getD (fourAt (lineInto s pl d k y u out) x) 3 0 ≡ 0 → Open s pl d k y u out n x
   opens m =
-      let f = done-four s pl d k y u out n q x h in
-      let t = differ-unknown v (at x) (at y) .0 (marked-unknown u (pixelAt v (at x) (at y)) (sym (ap (λ (l : List ℕ). getD l 3 0) f) ∙ m)) in
+      let t = differ-unknown v (at x) (at y) .0 (unseen-unknown v (at x) (at y) .1 (mark-unseen (demand-3 s pl d k y u out n q .pixels x h) .0 m)) in
       record {
         one = whole (t .one) (t .one-can);
         other = whole (t .other) (t .other-can);
