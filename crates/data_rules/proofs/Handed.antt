@@ -14,10 +14,11 @@ use Rattle.answers.specs.declared.Answer.the-variants.{Done}
 use Rattle.sheet_rules.specs.declared.Record.{Record}
 use Rattle.sheet_rules.specs.Record.{records, nth}
 use Rattle.sheet_rules.specs.Sentences.{Coded, Uncoded}
-use Rattle.data_rules.specs.declared.Source.the-variants.{Page}
+use Rattle.data_rules.specs.declared.Source.{Source}
+use Rattle.data_rules.specs.declared.Source.the-variants.{Page, Pencil}
 use Rattle.data_rules.specs.declared.Part.{Part}
 use Rattle.data_rules.specs.declared.Found.the-variants.{Lies}
-use Rattle.data_rules.specs.Data.{sourceOf, octetsIn, emptyPart, partIn, foundOf, dataBy, dataOf, partBy, partOf, sourceBy, partSource, startBy, partStart}
+use Rattle.data_rules.specs.Data.{sourceOf, sourceNumber, octetsIn, emptyPart, partIn, foundOf, dataBy, dataOf, partBy, partOf, sourceBy, partSource, startBy, partStart}
 use Rattle.data_rules.specs.Sentences.{LayerAt, Fits, Nothing, Handed}
 use Rattle.data_rules.proofs.Layer.{source-low, source-high, octets-low, octets-high}
 use Rattle.data_rules.proofs.Cases.{found-cases}
@@ -147,3 +148,48 @@ module _ (s page pencil : List ℕ) (k l : ℕ) where
     where
       nothing : Nothing [] Page 0
       nothing = record { octets = refl; source = refl; start = refl }
+
+-- ---- the number by which a viewer is told what holds the part: 0 the page, 1 the pencil file, and 0 where there is no part
+
+pub record Numbered (l n : ℕ) (x : Source) : Type 0 where
+  pub low : 0 < n → l ≤ 3 → sourceNumber x ≡ 0
+  pub high : 0 < n → 3 < l → sourceNumber x ≡ 1
+  pub none : n ≡ 0 → sourceNumber x ≡ 0
+
+pub number-page : (x : Source) → x ≡ Page → sourceNumber x ≡ 0
+unfolding sourceNumber
+number-page x e = ap sourceNumber e
+
+pub number-pencil : (x : Source) → x ≡ Pencil → sourceNumber x ≡ 1
+unfolding sourceNumber
+number-pencil x e = ap sourceNumber e
+
+part-numbered : (l n : ℕ) (r : Record) → partIn l r .len ≡ n → Numbered l n (partIn l r .source)
+part-numbered l n r z =
+    ⊎-elim
+    (λ (e : Uncoded r).
+    let x = number-page (partIn l r .source) (ap (λ (p : Part). p .source) (part-uncoded l r e)) in
+    let m : partIn l r .len ≡ 0 = ap (λ (p : Part). p .len) (part-uncoded l r e) in
+    record { low = λ some a. x; high = λ some a. absurd (omega arith); none = λ no. x })
+    (λ (d : Coded r).
+    let x : partIn l r .source ≡ sourceOf l = ap (λ (p : Part). p .source) (part-coded l r d) in
+    let m : partIn l r .len ≡ r .len = ap (λ (p : Part). p .len) (part-coded l r d) in
+    record {
+      low = λ some a. number-page (partIn l r .source) (x ∙ source-low l a);
+      high = λ some a. number-pencil (partIn l r .source) (x ∙ source-high l a);
+      none = λ no. absurd (d (sym m ∙ z ∙ no));
+    })
+    (says-else (says-eq (r .len) 0))
+
+module _ (s page pencil : List ℕ) (k l : ℕ) where
+  pub source-numbered : (n : ℕ) → dataOf s page pencil k l ≡ Done n → Numbered l n (partSource s page pencil k l)
+  unfolding dataOf dataBy partSource sourceBy
+  source-numbered n =
+      found-cases s page pencil k l (λ f. dataBy f ≡ Done n → Numbered l n (sourceBy f))
+      (λ i b q. clash cc)
+      (λ a m q. clash cc)
+      (λ a i y m q. clash cc)
+      (λ a i y f q. part-numbered l n (nth (records s) i) cc)
+
+  pub refused-numbered : ((n : ℕ) → dataOf s page pencil k l ≡ Done n → ⊥) → sourceNumber (partSource s page pencil k l) ≡ 0
+  refused-numbered h = number-page (partSource s page pencil k l) (part-refused s page pencil k l h .source)

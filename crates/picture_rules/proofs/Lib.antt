@@ -7,5 +7,7 @@ pub mod Lists
 pub mod Starts
 pub mod Within
 pub mod More
+pub mod Filled
+pub mod Open
 pub mod First
 pub mod Before

@@ -40,11 +40,11 @@ use Rattle.picture_rules.proofs.Demand3.{done-line, done-four}
 -- ---- samples that become known
 
 -- what is known stays; what is not known may become anything
-abbrev ImageGrows : Sample → Sample → Type 0
+abbrev pub ImageGrows : Sample → Sample → Type 0
 ImageGrows (Known c) t = t ≡ Known c
 ImageGrows Unknown t = Unit
 
-abbrev MaskGrows : Mask → Mask → Type 0
+abbrev pub MaskGrows : Mask → Mask → Type 0
 MaskGrows Zero t = t ≡ Zero
 MaskGrows One t = t ≡ One
 MaskGrows Hidden t = Unit
@@ -132,7 +132,7 @@ module _ (s : List ℕ) (k y : ℕ) (pl qm : PlaneList) (d e : List ℕ) (g : St
   image-read l i n s h Unread f = tt
 
   module _ (x z : MainPos) where
-    mask-grows : (l : ℕ) → 1 ≤ l → l ≤ old .extent .layers → l % 2 ≡ 0 → MaskGrows (maskAt old l x z) (maskAt new l x z)
+    pub mask-grows : (l : ℕ) → 1 ≤ l → l ≤ old .extent .layers → l % 2 ≡ 0 → MaskGrows (maskAt old l x z) (maskAt new l x z)
     unfolding maskAt layerRecord virtual
     mask-grows l a b even =
         let p = stage-placed g l a b .layer in
@@ -146,7 +146,7 @@ module _ (s : List ℕ) (k y : ℕ) (pl qm : PlaneList) (d e : List ℕ) (g : St
         (λ u. refl))
         (λ t. mask-self (virtual old l))
 
-    image-grows : (l : ℕ) → 1 ≤ l → l ≤ old .extent .layers → l % 2 ≡ 1 → ImageGrows (imageAt old l x z) (imageAt new l x z)
+    pub image-grows : (l : ℕ) → 1 ≤ l → l ≤ old .extent .layers → l % 2 ≡ 1 → ImageGrows (imageAt old l x z) (imageAt new l x z)
     unfolding imageAt layerRecord
     image-grows l a b odd =
         let p = stage-placed g l a b .layer in

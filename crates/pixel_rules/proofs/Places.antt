@@ -1,6 +1,6 @@
 -- The sample of a layer at a place, case by case (01, "Colour of a pixel"): coded or not, inside or outside, read or unread.
 -- Assumes nothing.
-use Prim.Native.Nat.{ℕ, _+_, _*_, _%_}
+use Prim.Native.Nat.{ℕ, _+_, _-_, _*_, _%_}
 use native.Mathlib.Nat.{mul-one}
 use mathlib.Core.Path.{_≡_, refl, sym, _∙_}
 use mathlib.Core.Logic.{_≢_}
@@ -19,7 +19,8 @@ use Rattle.pixel_rules.specs.Place.{inside}
 use Rattle.pixel_rules.specs.declared.Start.the-variants.{From, Unread}
 use Rattle.pixel_rules.specs.Planes.{planeStart}
 use Rattle.pixel_rules.specs.Samples.{Scene, recordOf, mainOf, indexOf, bitOf, baseOf, virtual, colourIn, maskRead, imageRead, maskAt, imageAt}
-use Rattle.sheet_rules.specs.Record.{colourAt, isGrey}
+use Rattle.sheet_rules.specs.Record.{recordAt, colourAt, isGrey}
+use Rattle.sheet_rules.specs.StripeTable.{layerRecord}
 use Rattle.pixel_rules.proofs.Division.{depth-grey, depth-colour}
 
 pub coded-true : (r : Record) → Coded r → coded r ≡ true
@@ -41,6 +42,16 @@ module _ (v : Scene) (l : ℕ) (x y : MainPos) where
   pub image-uncoded : Uncoded (recordOf v l) → imageAt v l x y ≡ Known (baseOf (recordOf v l))
   unfolding imageAt
   image-uncoded h = simp (coded-false (recordOf v l) h)
+
+  -- the base colour in the sheet's octets: 14, 15 and 16 of the layer's 28, the stripe's first being those of layer 1
+  pub base-octets : baseOf (recordOf v l)
+      ≡ record {
+        c0 = getD (v .sheet) ((v .extent .first + (l - 1)) * 28 + 14) 0;
+        c1 = getD (v .sheet) ((v .extent .first + (l - 1)) * 28 + 15) 0;
+        c2 = getD (v .sheet) ((v .extent .first + (l - 1)) * 28 + 16) 0;
+      }
+  unfolding layerRecord recordAt
+  base-octets = refl
 
   pub mask-outside : Coded (recordOf v l) → inside (mainOf v) (recordOf v l) x y ≡ false → maskAt v l x y ≡ Zero
   unfolding maskAt

@@ -1,18 +1,37 @@
--- Where a layer's samples start: found in the plane list exactly if it is listed, and where layers rise, at its one entry.
+-- Where a layer's samples start: an entry's octets, found in the plane list exactly if the layer is listed, and where layers rise, at its one entry.
 -- Assumes nothing.
-use Prim.Native.Nat.{ℕ, _<_}
+use Prim.Native.Nat.{ℕ, _+_, _*_, _<_}
+use native.Mathlib.Nat.{add-zero, add-assoc}
 use native.Mathlib.Omega.{arith}
 use mathlib.Core.Path.{_≡_, refl, sym, ap, _∙_}
 use mathlib.Core.Logic.{⊎-elim}
 use mathlib.Core.Bool.{Bool, cond}
 use mathlib.Core.List.{List, [], _∷_, List·Memᴰ, List·Memᴰ·not-nil, List·Memᴰ·head, List·Memᴰ·tail, List·Memᴰ·cases-cons}
+use lib.ListN.{drop}
+use lib.Seq.{getD-drop}
 use lib.Dec.{eqb}
 use borrow.Author.Tests.{eqb-true, eq-eqb, ne-eqb}
 use Rattle.laws.proofs.Cases.{cond-with, clash}
+use Rattle.octets.specs.Octets.{be16At, be32At}
 use Rattle.pixel_rules.specs.declared.Plane.{Plane}
 use Rattle.pixel_rules.specs.declared.Start.{Start}
 use Rattle.pixel_rules.specs.declared.Start.the-variants.{From}
-use Rattle.pixel_rules.specs.Planes.{planeStart}
+use Rattle.pixel_rules.specs.Planes.{planeAt, planeStart}
+
+-- ---- an entry's octets
+
+-- the layer, and then its start, most significant octet first
+pub plane-octets : (l a b c d : ℕ) (more : List ℕ)
+    → planeAt (l ∷ a ∷ b ∷ c ∷ d ∷ more) 0 ≡ record { layer = l; start = ((a * 256 + b) * 256 + c) * 256 + d }
+unfolding planeAt be32At be16At
+plane-octets l a b c d more =
+    let e : (a * 256 + b) * 65536 + (c * 256 + d) ≡ ((a * 256 + b) * 256 + c) * 256 + d = omega arith in
+    λ i. record { layer = l; start = e i }
+
+-- five octets an entry, one after the other
+pub plane-place : (s : List ℕ) (i : ℕ) → planeAt s i ≡ planeAt (drop (i * 5) s) 0
+unfolding planeAt be32At be16At
+plane-place s i = simp (getD-drop, add-zero, add-assoc) refl
 
 -- ---- an entry of the layer
 
