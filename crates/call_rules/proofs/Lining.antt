@@ -20,6 +20,7 @@ use Rattle.picture_rules.specs.Demand.{fourAt, seenIn, unseenIn, at, Shown, Rer
 use Rattle.picture_rules.proofs.Exactly.{line-exactly}
 use Rattle.picture_rules.proofs.Demand3.{mark-seen, mark-unseen, octets-told, recoloured, demand-3, refused-line}
 use Rattle.picture_rules.proofs.More.{more-stays, all-seen}
+use Rattle.picture_rules.proofs.Open.{Open, unseen-open}
 use Rattle.picture_rules.proofs.Before.{answers-before, into-before}
 use Rattle.call_rules.specs.Calls.{LineUnseenCall, LineCall, BaseLineCall}
 use Rattle.call_rules.proofs.Reports.{report-done, report-refused}
@@ -56,6 +57,12 @@ module _ (sheet planes samples : List ℕ) (k y : ℕ) (u : Colour) (out : List 
 
       pub lined-unseen : getD (fourAt out′ x) 3 0 ≡ 0 ↔ ((d : Colour) → SeenAs (sceneOf sheet (listOf planes) samples k) (at x) (at y) d → ⊥)
       lined-unseen = mark-unseen (lined-shown .pixels x h)
+
+      -- so that two ways of reading all layers, which agree with what was read, show it in two colours
+      pub lined-open : getD (fourAt out′ x) 3 0 ≡ 0 ↔ Open sheet (listOf planes) samples k y u out (r .count) x
+      lined-open =
+          subst (λ (l : List ℕ). getD (fourAt l x) 3 0 ≡ 0 ↔ Open sheet (listOf planes) samples k y u out (r .count) x) (sym (c .holds))
+          (unseen-open sheet (listOf planes) samples k y u out (r .count) answered x h)
 
     -- with every coded layer of the stripe read, every pixel is seen
     pub lined-all : AllRead (sceneOf sheet (listOf planes) samples k) → (x : ℕ) → x < widthOf (sceneOf sheet (listOf planes) samples k) → getD (fourAt out′ x) 3 0 ≡ 1
