@@ -64,35 +64,7 @@ module _ (c : ℕ) where
       (λ (h : c ≤ high → ⊥). let g : high < c = omega arith in subst P (sym (behind-row low high k rows g)) (on g))
       (says-else (says-le c high))
 
-  -- a code that is an octet lies in a row, and has the sentence of its class
-  codes-by : (P : Class → Type 0) → ((k : Class) → Coded k c → P k) → (0xFF < c → P Segment) → P (classIn codes c)
-  unfolding codes Lies kindAt
-  codes-by P go beyond =
-      rows-by P (drop 1 codes) (omega arith) (λ h. go Wrong (inr (inr (inl (omega arith))))) λ l.
-      rows-by P (drop 2 codes) l (λ h. go Alone (omega arith)) λ l.
-      rows-by P (drop 3 codes) l (λ h. go Wrong (inr (inr (inr (inr (omega arith)))))) λ l.
-      rows-by P (drop 4 codes) l (λ h. go Frame (omega arith)) λ l.
-      rows-by P (drop 5 codes) l (λ h. go Segment (inl (omega arith))) λ l.
-      rows-by P (drop 6 codes) l (λ h. go Frame (omega arith)) λ l.
-      rows-by P (drop 7 codes) l (λ h. go Segment (inr (inl (omega arith)))) λ l.
-      rows-by P (drop 8 codes) l (λ h. go Frame (omega arith)) λ l.
-      rows-by P (drop 9 codes) l (λ h. go Segment (inr (inr (inl (omega arith))))) λ l.
-      rows-by P (drop 10 codes) l (λ h. go Frame (omega arith)) λ l.
-      rows-by P (drop 11 codes) l (λ h. go Wrong (inl (omega arith))) λ l.
-      rows-by P (drop 12 codes) l (λ h. go Wrong (inr (inl (omega arith)))) λ l.
-      rows-by P (drop 13 codes) l (λ h. go End (omega arith)) λ l.
-      rows-by P (drop 14 codes) l (λ h. go Scan (omega arith)) λ l.
-      rows-by P (drop 15 codes) l (λ h. go Segment (inr (inr (inr (omega arith))))) λ l.
-      rows-by P (drop 16 codes) l (λ h. go Wrong (inr (inr (inr (inl (omega arith)))))) λ l.
-      subst P (sym (lies-class [] 0 tt)) (beyond l)
-
 -- ---- a class and its sentence
-
--- that the code is an octet is wanted for the class of all that lies in no row
-pub class-coded : (c : ℕ) (k : Class) → (k ≡ Segment → c < 256) → classOf c ≡ k → Coded k c
-unfolding classOf
-class-coded c k o =
-    codes-by c (λ x. x ≡ k → Coded k c) (λ x s e. subst (λ (y : Class). Coded y c) e s) (λ h e. let l = o (sym e) in absurd (omega arith))
 
 pub coded-class : (c : ℕ) (k : Class) → Coded k c → classOf c ≡ k
 unfolding classOf Lies kindAt
@@ -116,6 +88,34 @@ coded-class c Segment (inl e) = ap classOf e
 coded-class c Segment (inr (inl e)) = ap classOf e
 coded-class c Segment (inr (inr (inl e))) = ap classOf e
 coded-class c Segment (inr (inr (inr h))) = lies-class c codes 14 (omega arith)
+
+-- a code that is an octet lies in a row, and has the sentence of its class
+codes-by : (c : ℕ) (P : Class → Type 0) → ((k : Class) → Coded k c → P k) → (0xFF < c → P Segment) → P (classIn codes c)
+unfolding codes Lies kindAt
+codes-by c P go beyond =
+    rows-by c P (drop 1 codes) (omega arith) (λ h. go Wrong (inr (inr (inl (omega arith))))) λ l.
+    rows-by c P (drop 2 codes) l (λ h. go Alone (omega arith)) λ l.
+    rows-by c P (drop 3 codes) l (λ h. go Wrong (inr (inr (inr (inr (omega arith)))))) λ l.
+    rows-by c P (drop 4 codes) l (λ h. go Frame (omega arith)) λ l.
+    rows-by c P (drop 5 codes) l (λ h. go Segment (inl (omega arith))) λ l.
+    rows-by c P (drop 6 codes) l (λ h. go Frame (omega arith)) λ l.
+    rows-by c P (drop 7 codes) l (λ h. go Segment (inr (inl (omega arith)))) λ l.
+    rows-by c P (drop 8 codes) l (λ h. go Frame (omega arith)) λ l.
+    rows-by c P (drop 9 codes) l (λ h. go Segment (inr (inr (inl (omega arith))))) λ l.
+    rows-by c P (drop 10 codes) l (λ h. go Frame (omega arith)) λ l.
+    rows-by c P (drop 11 codes) l (λ h. go Wrong (inl (omega arith))) λ l.
+    rows-by c P (drop 12 codes) l (λ h. go Wrong (inr (inl (omega arith)))) λ l.
+    rows-by c P (drop 13 codes) l (λ h. go End (omega arith)) λ l.
+    rows-by c P (drop 14 codes) l (λ h. go Scan (omega arith)) λ l.
+    rows-by c P (drop 15 codes) l (λ h. go Segment (inr (inr (inr (omega arith))))) λ l.
+    rows-by c P (drop 16 codes) l (λ h. go Wrong (inr (inr (inr (inl (omega arith)))))) λ l.
+    subst P (sym (lies-class c [] 0 tt)) (beyond l)
+
+-- that the code is an octet is wanted for the class of all that lies in no row
+pub class-coded : (c : ℕ) (k : Class) → (k ≡ Segment → c < 256) → classOf c ≡ k → Coded k c
+unfolding classOf
+class-coded c k o =
+    codes-by c (λ x. x ≡ k → Coded k c) (λ x s e. subst (λ (y : Class). Coded y c) e s) (λ h e. let l = o (sym e) in absurd (omega arith))
 
 -- a code has one sentence
 pub coded-once : (c : ℕ) (j k : Class) → Coded j c → Coded k c → j ≡ k
