@@ -38,6 +38,7 @@ use Rattle.jpeg_padding.specs.Frozen.{frozenClassOf, frozenMarkerOf, fro
 
 -- ---- what is as it was
 
+-- a test that fails: what it says does not hold
 test-fails : {a : Bool} {P : Type 0} → Says a P → a ≡ false → P → ⊥
 test-fails s n p = false≢true (sym n ∙ s .shown p)
 
@@ -73,8 +74,10 @@ module _ (c : ℕ) where
     where
       beyond : 0xBF < c → ((0xC0 ≤ c) × (c ≤ 0xCF) → ⊥) → ((0xD0 ≤ c) × (c ≤ 0xD8) → ⊥) → 0xD8 < c
       beyond l f g =
-          ⊎-elim (λ (h : c ≤ 0xD8). absurd (⊎-elim (λ (k : c ≤ 0xCF). f (l, k)) (λ (k : c ≤ 0xCF → ⊥). g (omega arith, h)) (says-else (says-le c 0xCF))))
-          (λ (h : c ≤ 0xD8 → ⊥). omega arith) (says-else (says-le c 0xD8))
+          ⊎-elim
+          (λ (h : c ≤ 0xD8). absurd (⊎-elim (λ (k : c ≤ 0xCF). f (l, k)) (λ (k : c ≤ 0xCF → ⊥). g (omega arith, h)) (says-else (says-le c 0xCF))))
+          (λ (h : c ≤ 0xD8 → ⊥). omega arith)
+          (says-else (says-le c 0xD8))
 
 pub seg-same : (s : List ℕ) (n least : ℕ) → frozenSegOf s n least ≡ segOf s n least
 unfolding frozenSegOf segOf

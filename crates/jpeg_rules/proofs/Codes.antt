@@ -74,7 +74,8 @@ coded-class c Frame f =
     (λ (h : c ≤ 0xC3 → ⊥).
     ⊎-elim (λ (i : c ≤ 0xC7). lies-class c codes 5 (omega arith))
     (λ (i : c ≤ 0xC7 → ⊥).
-    ⊎-elim (λ (j : c ≤ 0xCB). lies-class c codes 7 (omega arith)) (λ (j : c ≤ 0xCB → ⊥). lies-class c codes 9 (omega arith)) (says-else (says-le c 0xCB)))
+    ⊎-elim (λ (j : c ≤ 0xCB). lies-class c codes 7 (omega arith)) (λ (j : c ≤ 0xCB → ⊥). lies-class c codes 9 (omega arith))
+    (says-else (says-le c 0xCB)))
     (says-else (says-le c 0xC7)))
     (says-else (says-le c 0xC3))
 coded-class c Scan e = ap classOf e
@@ -130,12 +131,14 @@ class-low c n h = ⊎-elim (λ (e : c ≡ 0x00). ap classOf e) (λ (d : c ≢ 0x
 pub class-restart : (c : ℕ) → 0xD0 ≤ c → c ≤ 0xD8 → classOf c ≡ Wrong
 unfolding classOf Lies kindAt
 class-restart c l h =
-    ⊎-elim (λ (i : c ≤ 0xD7). lies-class c codes 10 (omega arith)) (λ (i : c ≤ 0xD7 → ⊥). lies-class c codes 11 (omega arith)) (says-else (says-le c 0xD7))
+    ⊎-elim (λ (i : c ≤ 0xD7). lies-class c codes 10 (omega arith)) (λ (i : c ≤ 0xD7 → ⊥). lies-class c codes 11 (omega arith))
+    (says-else (says-le c 0xD7))
 
 pub class-rest : (c : ℕ) → 0xD8 < c → c ≢ 0xD9 → c ≢ 0xDA → c ≢ 0xFF → classOf c ≡ Segment
 unfolding classOf Lies kindAt
 class-rest c l e d f =
-    ⊎-elim (λ (h : c ≤ 0xFE). lies-class c codes 14 (omega arith)) (λ (h : c ≤ 0xFE → ⊥). lies-class c codes 16 (omega arith)) (says-else (says-le c 0xFE))
+    ⊎-elim (λ (h : c ≤ 0xFE). lies-class c codes 14 (omega arith)) (λ (h : c ≤ 0xFE → ⊥). lies-class c codes 16 (omega arith))
+    (says-else (says-le c 0xFE))
 
 -- ---- the code of a marker that may stand in a layer
 

@@ -151,7 +151,8 @@ module _ (s : List ℕ) (o : Octets s) (main : ℕ) (st : Reach) (q : Bool) wher
     scan-blames w =
         cond-with Blames (st .framed)
         (λ fr.
-        body-blames 2 (λ (next : ℕ). onFound (scanOf s next) next (λ (p : ℕ). Go (passed st p))) (subst (λ (v : ℕ). Least k v 2) (sym w) (of-scan fr)) λ next g.
+        body-blames 2 (λ (next : ℕ). onFound (scanOf s next) next (λ (p : ℕ). Go (passed st p)))
+        (subst (λ (v : ℕ). Least k v 2) (sym w) (of-scan fr)) λ next g.
         by fr next g (scanOf s next) refl)
         (λ nf. refused-blames _ (by-one w (no-frame (mk .fill) (drop n s) nf)))
       where
@@ -275,8 +276,9 @@ module _ (s : List ℕ) (o : Octets s) (main : ℕ) (f : Fault) where
       let ww : be16At s (n + 5) ≡ widthOf (x .body) = number-is s main st (x .fill) c (x .body) (drop next s) (x .other) (x .stands) 3 (n + 5) (omega arith) (omega arith) in
       let nc : getD s (n + 7) 0 ≡ componentsOf (x .body) = octet-is s main st (x .fill) c (x .body) (drop next s) (x .other) (x .stands) 5 (n + 7) (omega arith) (omega arith) in
       let z : t .at ≡ st .at + length (lengthed (x .fill) c (x .body)) = omega arith in
+      let due : FrameDue (knownOf st q) c = record { code = class-coded c Frame (λ z. x .octet) w; first = nf; resolved = nr } in
       subst (λ (l : List ℕ). BadFrom main (knownOf st q) (st .at) l f) (sym (x .stands ∙ ap (λ (j : ℕ). lengthed (x .fill) c (x .body) ++ drop j s) (sym a)))
-      (past-frame (x .fill) c (x .body) (drop (t .at) s) (record { code = class-coded c Frame (λ z. x .octet) w; first = nf; resolved = nr }) (x .fits, en) (λ y. nh (hh ∙ y)) (λ y. nw (ww ∙ y))
+      (past-frame (x .fill) c (x .body) (drop (t .at) s) due (x .fits, en) (λ y. nh (hh ∙ y)) (λ y. nw (ww ∙ y))
       (says-components (componentsOf (x .body)) .told (ap componentsOk (sym nc) ∙ co))
       (subst (λ (j : ℕ). BadFrom main (framing (knownOf st q)) j (drop (t .at) s) f) z
       (subst (λ (i : Known). BadFrom main i (t .at) (drop (t .at) s) f) (known-of false e) (go false any))))

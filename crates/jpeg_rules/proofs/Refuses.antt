@@ -107,7 +107,8 @@ module _ (s : List ℕ) (main : ℕ) (st : Reach) (o : Bool) where
         ∙ simp (w .first, ne-eqb (st .said .res) 0 (w .resolved), seg-is s main st i c body r other-frame e 8 lo)
 
   -- a frame by its code alone
-  refused-frame : (i c : ℕ) (r : List ℕ) → drop (st .at) s ≡ marker i c ++ r → IsFrame c → turnOf s main st ≡ markOf s main st c (st .at + i + 2) Frame
+  refused-frame : (i c : ℕ) (r : List ℕ) → drop (st .at) s ≡ marker i c ++ r → IsFrame c
+      → turnOf s main st ≡ markOf s main st c (st .at + i + 2) Frame
   refused-frame i c r e w = turn-class s main st i c r Frame (frame-other c w) e w
 
   turn-cut : {l : List ℕ} → drop (st .at) s ≡ l → length l < 2 → turnOf s main st ≡ refused (Fault.Short (st .at))

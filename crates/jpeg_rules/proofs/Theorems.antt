@@ -25,15 +25,6 @@ use Rattle.jpeg_rules.proofs.Back.{walk-layer}
 use Rattle.jpeg_rules.proofs.Refuses.{layer-bad}
 use Rattle.jpeg_rules.proofs.Refused.{layer-blames}
 
--- the octets from one place up to another are a layer
-pub record LayerAt (s : List ℕ) (start main e : ℕ) (said : Said) : Type 0 where
-  pub layer : Layer main (take (e - start) (drop start s)) said
-  pub after : start ≤ e
-  pub inside : e ≤ length s
-
-cut-length : (s : List ℕ) (start e : ℕ) → e ≤ length s → length (take (e - start) (drop start s)) ≡ e - start
-cut-length s start e h = length-take-le (e - start) (drop start s) (let l = length-drop start s in omega arith)
-
 -- ---- the walk's table of codes says of every octet what the grammar's sentences say, and each octet has one of them
 
 pub class-exactly : (c : ℕ) → c < 256 → (k : Class) → classOf c ≡ k ↔ Coded k c
@@ -45,9 +36,19 @@ pub record OneSentence (c : ℕ) : Type 0 where
   pub only : (k : Class) → Coded k c → k ≡ class
 
 pub one-sentence : (c : ℕ) → c < 256 → OneSentence c
-one-sentence c o = record { class = classOf c; holds = class-exactly c o (classOf c) .0 refl; only = λ k x. coded-once c k (classOf c) x (class-exactly c o (classOf c) .0 refl) }
+one-sentence c o =
+    let s = class-exactly c o (classOf c) .0 refl in record { class = classOf c; holds = s; only = λ k x. coded-once c k (classOf c) x s }
 
 -- ---- the walk ends at e exactly if the octets up to e are a layer, with what it says of itself
+
+-- the octets from one place up to another are a layer
+pub record LayerAt (s : List ℕ) (start main e : ℕ) (said : Said) : Type 0 where
+  pub layer : Layer main (take (e - start) (drop start s)) said
+  pub after : start ≤ e
+  pub inside : e ≤ length s
+
+cut-length : (s : List ℕ) (start e : ℕ) → e ≤ length s → length (take (e - start) (drop start s)) ≡ e - start
+cut-length s start e h = length-take-le (e - start) (drop start s) (let l = length-drop start s in omega arith)
 
 layer-ends : (s : List ℕ) (start main e : ℕ) (said : Said) → LayerAt s start main e said → walkOf s start main ≡ Ends e said
 layer-ends s start main e said k =
