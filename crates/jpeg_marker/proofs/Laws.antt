@@ -1,48 +1,41 @@
 -- One law for each way out of the functions: its premises are what is known there.
 -- Assumes nothing.
-use mathlib.Core.Path.{_≡_, refl, sym, _∙_, ap}
-use mathlib.Core.Bool.{Bool, true, false, _||_, cond}
+use mathlib.Core.Path.{_≡_, sym, _∙_, ap}
+use mathlib.Core.Bool.{Bool, cond}
 use mathlib.Core.Logic.{inl, inr}
 use mathlib.Core.List.{List, [], _∷_}
-use Prim.Native.Nat.{ℕ, suc, _+_, _-_, _≤_, _<_}
+use Prim.Native.Nat.{ℕ, _+_, _-_, _≤_, _<_}
 use native.Mathlib.Omega.{arith}
 use lib.ListN.{length, getD, drop}
-use lib.Dec.{eqb, leb}
+use lib.Dec.{eqb}
 use types.Run.{OneOf}
-use borrow.Author.Tests.{eq-eqb, ne-eqb, le-leb, lt-leb, lt-ltb, le-ltb}
+use borrow.Author.Tests.{eq-eqb, ne-eqb, lt-ltb, le-ltb}
 use borrow.Author.Needs.{needs}
 use Rattle.octets.proofs.Laws.{drop-octet}
+use Rattle.jpeg_rules.specs.declared.Class.the-variants.{Frame, Wrong, Segment}
 use Rattle.jpeg_rules.specs.declared.Marker.{Marker}
 use Rattle.jpeg_rules.specs.declared.Marker.the-variants.{Code, Missing, Cut}
-use Rattle.jpeg_rules.specs.Marker.{codeFrom, markerOf}
+use Rattle.jpeg_rules.specs.Marker.{classOf, codeFrom, markerOf}
+use Rattle.jpeg_rules.proofs.Codes.{coded-class, class-low, class-restart, class-rest}
 use Rattle.jpeg_rules.proofs.Runs.{fillEnd, codeAt, code-opens}
-use Rattle.laws.specs.Tests.{among}
 
--- ---- the value of a test from the fact
+-- ---- class_of: ranges, after the single codes of all arms
 
-or-true : (b : Bool) → b || true ≡ true
-or-true true = refl
-or-true false = refl
+module _ (c : ℕ) (alone : c ≡ 0x01 → ⊥) (segments : OneOf (0xC4 ∷ 0xC8 ∷ 0xCC ∷ []) c → ⊥) (scan : c ≡ 0xDA → ⊥) (end : c ≡ 0xD9 → ⊥)
+    (wrong : OneOf (0x00 ∷ 0xFF ∷ []) c → ⊥) where
+  pub range-low : c < 0xC0 → Wrong ≡ classOf c
+  range-low h = sym (class-low c alone (omega arith))
 
--- an arm of single codes
-pub among-yes : (ks : List ℕ) (x : ℕ) → OneOf ks x → among ks x ≡ true
-unfolding among
-among-yes [] x h = absurd h
-among-yes (k ∷ []) x e = simp (eq-eqb x k e)
-among-yes (k ∷ k′ ∷ ks) x (inl e) = simp (eq-eqb x k e)
-among-yes (k ∷ k′ ∷ ks) x (inr r) = rw (among-yes (k′ ∷ ks) x r) (or-true (eqb x k))
+  pub range-frame : 0xC0 ≤ c → c < 0xD0 → Frame ≡ classOf c
+  range-frame l h = sym (coded-class c Frame (l, omega arith, λ e. segments (inl e), λ e. segments (inr (inl e)), λ e. segments (inr (inr e))))
 
-pub among-no : (ks : List ℕ) (x : ℕ) → (OneOf ks x → ⊥) → among ks x ≡ false
-unfolding among
-among-no [] x h = refl
-among-no (k ∷ []) x h = simp (ne-eqb x k h)
-among-no (k ∷ k′ ∷ ks) x h = simp (ne-eqb x k (λ e. h (inl e)), among-no (k′ ∷ ks) x (λ r. h (inr r)))
+  pub range-restart : 0xD0 ≤ c → c < 0xD9 → Wrong ≡ classOf c
+  range-restart l h = sym (class-restart c l (omega arith))
 
--- the end of a range
-pub below-leb : (a n : ℕ) → a < suc n → leb a n ≡ true
-below-leb a n h = le-leb a n (omega arith)
+  pub range-rest : 0xD9 ≤ c → Segment ≡ classOf c
+  range-rest l = sym (class-rest c l end scan (λ e. wrong (inr e)))
 
-pub ruleset tests = (lt-ltb, le-ltb, le-leb, below-leb, lt-leb, eq-eqb, ne-eqb, among-yes, among-no)
+pub ruleset ranges = (range-low, range-frame, range-restart, range-rest)
 
 -- ---- marker_behind
 

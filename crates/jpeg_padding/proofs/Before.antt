@@ -6,15 +6,15 @@ use native.Mathlib.Omega.{arith}
 use mathlib.Core.Path.{_≡_, refl, sym, ap, ap₂, _∙_}
 use mathlib.Core.Logic.{_⊎_, inl, inr, _≢_, ⊎-elim}
 use mathlib.Core.Bool.{Bool, true, false, _&&_, _||_, cond, false≢true}
-use mathlib.Core.List.{List}
+use mathlib.Core.List.{List, [], _∷_}
 use lib.ListN.{length, getD, drop}
-use lib.Dec.{eqb, ltb}
-use borrow.Author.Tests.{eq-eqb, ne-eqb, eqb-true, ltb-false}
+use lib.Dec.{eqb, leb, ltb}
+use borrow.Author.Tests.{eq-eqb, ne-eqb, eqb-true, eqb-false, leb-true, leb-false, ltb-false}
 use Rattle.octets.proofs.Laws.{drop-octet}
 use Rattle.octets.proofs.Runs.{end-over, end-here}
-use Rattle.laws.specs.Tests.{within}
+use Rattle.laws.specs.Tests.{within, among}
 use Rattle.laws.proofs.Cases.{cond-with, cond-both, clash}
-use Rattle.laws.proofs.Says.{Says, says-eq, says-and, says-or, says-not, says-within, says-else}
+use Rattle.laws.proofs.Says.{Says, says-eq, says-le, says-and, says-or, says-not, says-within, says-one, says-list, says-else}
 use Rattle.jpeg_rules.specs.declared.Said.{Said}
 use Rattle.jpeg_rules.specs.declared.Class.{Class}
 use Rattle.jpeg_rules.specs.declared.Class.the-variants.{Alone, Frame, Scan, End, Wrong, Segment}
@@ -32,14 +32,52 @@ use Rattle.jpeg_rules.specs.declared.Turn.the-variants.{Go, Stop}
 use Rattle.jpeg_rules.specs.Marker.{classOf, codeFrom, markerOf}
 use Rattle.jpeg_rules.specs.Grammar.{DataRun}
 use Rattle.jpeg_rules.specs.Walk.{segOf, scanOf, tagOf, passed, onBody, onFound, componentsOk, frameBodyOf, frameOf, scanStepOf, segmentOf, endOf, markOf, onMarker, turnOf, onTurn, walkFrom, begun, walkOf}
+use Rattle.jpeg_rules.proofs.Codes.{coded-class, class-low, class-restart, class-rest}
 use Rattle.jpeg_rules.proofs.Scans.{scan-over, plain-next, run-over, run-next, run-here}
 use Rattle.jpeg_padding.specs.Frozen.{frozenClassOf, frozenMarkerOf, frozenSegOf, frozenStopsOf, frozenScanFrom, frozenScanOf, frozenTagOf, frozenOnBody, frozenOnFound, frozenFrameBodyOf, frozenFrameOf, frozenScanStepOf, frozenSegmentOf, frozenEndOf, frozenMarkOf, frozenOnMarker, frozenTurnOf, frozenOnTurn, frozenWalkFrom, frozenWalkOf}
 
 -- ---- what is as it was
 
-pub class-same : (c : ℕ) → frozenClassOf c ≡ classOf c
-unfolding frozenClassOf classOf
-class-same c = refl
+-- a test that fails: what it says does not hold
+test-fails : {a : Bool} {P : Type 0} → Says a P → a ≡ false → P → ⊥
+test-fails s n p = false≢true (sym n ∙ s .shown p)
+
+-- a class, by the tests that were made then
+module _ (c : ℕ) where
+  segments : Says (among (0xC4 ∷ 0xC8 ∷ 0xCC ∷ []) c) ((c ≡ 0xC4) ⊎ (c ≡ 0xC8) ⊎ (c ≡ 0xCC))
+  segments = says-list c 0xC4 (0xC8 ∷ 0xCC ∷ []) (says-list c 0xC8 (0xCC ∷ []) (says-one c 0xCC))
+
+  faults : Says (among (0x00 ∷ 0xFF ∷ []) c) ((c ≡ 0x00) ⊎ (c ≡ 0xFF))
+  faults = says-list c 0x00 (0xFF ∷ []) (says-one c 0xFF)
+
+  abbrev Same : Class → Type 0
+  Same x = x ≡ classOf c
+
+  pub class-same : frozenClassOf c ≡ classOf c
+  unfolding frozenClassOf classOf
+  class-same =
+      cond-with Same (eqb c 0x01) (λ t. ap classOf (sym (eqb-true c 0x01 t))) λ n1.
+      cond-with Same (among (0xC4 ∷ 0xC8 ∷ 0xCC ∷ []) c)
+      (λ t. ⊎-elim (λ e. ap classOf (sym e)) (⊎-elim (λ e. ap classOf (sym e)) (λ e. ap classOf (sym e))) (segments .told t)) λ n2.
+      let no = test-fails segments n2 in
+      cond-with Same (within 0xC0 0xCF c)
+      (λ t.
+      let h = says-within 0xC0 0xCF c .told t in
+      sym (coded-class c Frame (h .0, h .1, λ e. no (inl e), λ e. no (inr (inl e)), λ e. no (inr (inr e))))) λ n3.
+      cond-with Same (eqb c 0xDA) (λ t. ap classOf (sym (eqb-true c 0xDA t))) λ n4.
+      cond-with Same (eqb c 0xD9) (λ t. ap classOf (sym (eqb-true c 0xD9 t))) λ n5.
+      cond-with Same (among (0x00 ∷ 0xFF ∷ []) c) (λ t. ⊎-elim (λ e. ap classOf (sym e)) (λ e. ap classOf (sym e)) (faults .told t)) λ n6.
+      cond-with Same (leb c 0xBF) (λ t. sym (class-low c (eqb-false c 0x01 n1) (leb-true c 0xBF t))) λ n7.
+      cond-with Same (within 0xD0 0xD8 c) (λ t. let h = says-within 0xD0 0xD8 c .told t in sym (class-restart c (h .0) (h .1))) λ n8.
+      sym (class-rest c (beyond (leb-false c 0xBF n7) (test-fails (says-within 0xC0 0xCF c) n3) (test-fails (says-within 0xD0 0xD8 c) n8))
+      (eqb-false c 0xD9 n5) (eqb-false c 0xDA n4) (λ e. test-fails faults n6 (inr e)))
+    where
+      beyond : 0xBF < c → ((0xC0 ≤ c) × (c ≤ 0xCF) → ⊥) → ((0xD0 ≤ c) × (c ≤ 0xD8) → ⊥) → 0xD8 < c
+      beyond l f g =
+          ⊎-elim
+          (λ (h : c ≤ 0xD8). absurd (⊎-elim (λ (k : c ≤ 0xCF). f (l, k)) (λ (k : c ≤ 0xCF → ⊥). g (omega arith, h)) (says-else (says-le c 0xCF))))
+          (λ (h : c ≤ 0xD8 → ⊥). omega arith)
+          (says-else (says-le c 0xD8))
 
 pub seg-same : (s : List ℕ) (n least : ℕ) → frozenSegOf s n least ≡ segOf s n least
 unfolding frozenSegOf segOf

@@ -12,7 +12,7 @@ use Rattle.octets.specs.Octets.{be16At, octets16}
 use Rattle.octets.proofs.Laws.{drop-next}
 use Rattle.laws.proofs.Cases.{cond-with, clash, bool-else}
 use Rattle.jpeg_rules.specs.declared.Said.{Said}
-use Rattle.jpeg_rules.specs.declared.Class.the-variants.{Frame, Scan, End, Wrong, Segment}
+use Rattle.jpeg_rules.specs.declared.Class.the-variants.{Frame, Scan, End}
 use Rattle.jpeg_rules.specs.declared.Fault.the-variants.{BadRes, BadLayer}
 use Rattle.jpeg_rules.specs.declared.Seg.{Seg}
 use Rattle.jpeg_rules.specs.declared.Reach.{Reach}
@@ -20,10 +20,10 @@ use Rattle.jpeg_rules.specs.declared.Tag.{Tag}
 use Rattle.jpeg_rules.specs.declared.Tag.the-variants.{Gives, Plain}
 use Rattle.jpeg_rules.specs.declared.Turn.{Turn}
 use Rattle.jpeg_rules.specs.declared.Turn.the-variants.{Go}
-use Rattle.jpeg_rules.specs.Marker.{classOf}
+use Rattle.jpeg_rules.specs.Codes.{IsFrame, HasLength}
 use Rattle.jpeg_rules.specs.Grammar.{marker, Data, Piece, alone, segment, scan, lengthed, octetsOf, piecesOf, Good, Each, Layer}
 use Rattle.jpeg_rules.specs.Walk.{resolves, tagOf, framed, moved, passed, refused, onBody, onTag, frameSaid, componentsOk, frameBodyOf, frameOf, scanStepOf, endOf, markOf, turnOf, begun}
-use Rattle.jpeg_rules.proofs.Leaves.{class-other}
+use Rattle.jpeg_rules.proofs.Codes.{end-right, frame-right, frame-other, segment-other}
 use Rattle.jpeg_rules.proofs.Runs.{length-marker}
 use Rattle.jpeg_rules.proofs.Scans.{Opens}
 use Rattle.jpeg_rules.proofs.Turns.{turn-class, turn-alone, turn-scan, scan-other, opened, seg-is, segment-opened}
@@ -50,7 +50,7 @@ module _ (s : List ℕ) (main : ℕ) where
       abbrev next : ℕ
       next = st .at + f + 2 + (length body + 2)
 
-      segment-to : classOf c ≡ Segment → To next (turnOf s main st)
+      segment-to : HasLength c → To next (turnOf s main st)
       segment-to k =
           subst (To next) (sym (segment-opened s main st f c body l other e (tagOf s st c (st .at + f + 2)) refl k)) (by (tagOf s st c (st .at + f + 2)))
         where
@@ -59,7 +59,7 @@ module _ (s : List ℕ) (main : ℕ) where
           by Plain = to-place (moved st next (st .said .res)) next refl
           by (Gives v) = cond-with (To next) (resolves main v) (λ t. to-place (moved st next v) next refl) (λ t. to-none next _)
 
-      frame-to : classOf c ≡ Frame → 8 ≤ length body + 2 → To next (turnOf s main st)
+      frame-to : IsFrame c → 8 ≤ length body + 2 → To next (turnOf s main st)
       unfolding markOf frameOf frameBodyOf
       frame-to k h =
           subst (To next) (sym (turn-class s main st f c (octets16 (length body + 2) ++ (body ++ l)) Frame other (opened s main st f c body l other e) k))
@@ -72,7 +72,7 @@ module _ (s : List ℕ) (main : ℕ) where
 
     scan-to : (f : ℕ) (header d l : List ℕ) → drop (st .at) s ≡ lengthed f 0xDA header ++ (d ++ l) → Data d → Opens l
         → To (st .at + f + 2 + (length header + 2) + length d) (turnOf s main st)
-    unfolding markOf scanStepOf classOf
+    unfolding markOf scanStepOf
     scan-to f header d l e k o =
         let n : ℕ = st .at + f + 2 + (length header + 2) + length d in
         ⊎-elim
@@ -95,7 +95,7 @@ module _ (s : List ℕ) (main : ℕ) where
     piece-to (segment f c body) l g e o =
         let n = length-lengthed f c body in
         let z : st .at + f + 2 + (length body + 2) ≡ st .at + length (lengthed f c body) = omega arith in
-        subst (λ (n : ℕ). To n (turnOf s main st)) z (segment-to f c body l (class-other c Segment (g .0) (λ z. clash cc)) e (g .0))
+        subst (λ (n : ℕ). To n (turnOf s main st)) z (segment-to f c body l (segment-other c (g .0)) e (g .0))
     piece-to (scan f header d) l g e o =
         let n = length-lengthed f 0xDA header in
         let m = length-append (lengthed f 0xDA header) d in
@@ -132,7 +132,7 @@ module _ (s : List ℕ) (main : ℕ) where
 
 -- at the end's marker no turn goes on
 end-stops : (s : List ℕ) (main : ℕ) (st : Reach) (f : ℕ) (l : List ℕ) → drop (st .at) s ≡ marker f 0xD9 ++ l → (u : Reach) → turnOf s main st ≡ Go u → ⊥
-unfolding markOf endOf classOf
+unfolding markOf endOf
 end-stops s main st f l e u =
     subst (λ (x : Turn). x ≡ Go u → ⊥) (sym (turn-class s main st f 0xD9 l End (λ z. omega arith) e refl))
     (cond-with (λ x. x ≡ Go u → ⊥) (st .scanned) (λ t q. clash cc) (λ t q. clash cc))
@@ -165,9 +165,6 @@ module _ (s : List ℕ) (start main : ℕ) {l : List ℕ} (rest : List ℕ) {sai
   end-there : drop (afterAt + length (piecesOf (y .after))) s ≡ end ++ rest
   end-there = drop-next s (piecesOf (y .after)) (end ++ rest) afterAt after-there
 
-  frame-right : classOf (y .code) ≢ Wrong
-  frame-right z = let q : Frame ≡ Wrong = sym (y .frame) ∙ z in clash cc
-
   at-place : {m n : ℕ} {x : List ℕ} → m ≡ n → drop n s ≡ x → drop m s ≡ x
   at-place z q = ap (λ (k : ℕ). drop k s) z ∙ q
 
@@ -179,9 +176,8 @@ module _ (s : List ℕ) (start main : ℕ) {l : List ℕ} (rest : List ℕ) {sai
   end-met u t z (onward {t = v} k c) = absurd (end-stops s main u (y .last) rest (at-place z end-there) v k)
 
   after-met : (u t : Reach) → u .at ≡ afterAt → Comes s main u t → BeginsAt y start (t .at)
-  unfolding classOf
   after-met u t z c =
-      by (pieces-meet s main (y .after) u t (end ++ rest) (y .late) (marker-opens (y .last) 0xD9 rest (λ q. clash cc)) (at-place z after-there) c)
+      by (pieces-meet s main (y .after) u t (end ++ rest) (y .late) (marker-opens (y .last) 0xD9 rest end-right) (at-place z after-there) c)
     where
       by : Meets s main (y .after) (u .at) t → BeginsAt y start (t .at)
       by (among {a = a} m q) =
@@ -195,7 +191,7 @@ module _ (s : List ℕ) (start main : ℕ) {l : List ℕ} (rest : List ℕ) {sai
   frame-met u t z (onward {t = v} k c) =
       let n = length-lengthed (y .fill) (y .code) (y .body) in
       let q =
-      frame-to s main u (y .fill) (y .code) (y .body) (piecesOf (y .after) ++ (end ++ rest)) (class-other (y .code) (classOf (y .code)) refl frame-right)
+      frame-to s main u (y .fill) (y .code) (y .body) (piecesOf (y .after) ++ (end ++ rest)) (frame-other (y .code) (y .frame))
       (at-place z frame-there) (y .frame) (y .long) v k in
       after-met v t (omega arith) c
 
@@ -203,7 +199,7 @@ module _ (s : List ℕ) (start main : ℕ) {l : List ℕ} (rest : List ℕ) {sai
   layer-met t c =
       by
       (pieces-meet s main (y .before) (begun (start + 2)) t (frame ++ (piecesOf (y .after) ++ (end ++ rest))) (each-good (y .before) (y .early))
-      (lengthed-opens (y .fill) (y .code) (y .body) (piecesOf (y .after) ++ (end ++ rest)) frame-right) pieces-there c)
+      (lengthed-opens (y .fill) (y .code) (y .body) (piecesOf (y .after) ++ (end ++ rest)) (frame-right (y .code) (y .frame))) pieces-there c)
     where
       by : Meets s main (y .before) (start + 2) t → BeginsAt y start (t .at)
       by (among {a = a} m q) = record { front = _; back = _; begins = before-frame m; place = omega arith }

@@ -22,10 +22,12 @@ use Rattle.jpeg_rules.specs.declared.Reach.{Reach}
 use Rattle.jpeg_rules.specs.declared.Turn.the-variants.{Stop}
 use Rattle.jpeg_rules.specs.declared.Walk.{Walk}
 use Rattle.jpeg_rules.specs.declared.Walk.the-variants.{Ends}
+use Rattle.jpeg_rules.specs.Codes.{IsFrame}
 use Rattle.jpeg_rules.specs.Marker.{classOf, markerOf}
 use Rattle.jpeg_rules.specs.Grammar.{marker, Piece, alone, segment, lengthed, octetsOf, piecesOf, Fits, Good, isScan, tagged, resolution, Each, Scanned, Components, saidBy, Layer}
 use Rattle.jpeg_rules.specs.Walk.{segOf, resolves, tagOf, framed, moved, frameSaid, componentsOk, begun, walkOf}
 use Rattle.laws.proofs.Cases.{cond-with, clash}
+use Rattle.jpeg_rules.proofs.Codes.{class-coded}
 use Rattle.jpeg_rules.proofs.Leaves.{two-stand}
 use Rattle.jpeg_rules.proofs.Runs.{length-marker, marker-back}
 use Rattle.jpeg_rules.proofs.Turns.{frame-says}
@@ -45,7 +47,7 @@ pub record Head (s : List ℕ) (main : ℕ) (st : Reach) (e : ℕ) (said : Said)
   pub octets : drop (st .at) s ≡ piecesOf before ++ (lengthed fill code body ++ (piecesOf after ++ (marker last 0xD9 ++ drop e s)))
   pub early : Each (λ p. Good p × (isScan p ≡ false)) before
   pub late : Each Good after
-  pub frame : classOf code ≡ Frame
+  pub frame : IsFrame code
   pub long : 8 ≤ length body + 2
   pub fits : Fits body
   pub says : said ≡ saidBy body (cond (eqb (st .said .res) 0) (resolution before) (st .said .res))
@@ -123,7 +125,7 @@ module _ (s : List ℕ) (o : Octets s) (main e : ℕ) (said : Said) where
         octets = x .stands ∙ ap (λ (l : List ℕ). lengthed (x .fill) c (x .body) ++ l) (ap (λ (j : ℕ). drop j s) (sym a) ∙ y .octets);
         early = tt;
         late = y .good;
-        frame = k;
+        frame = class-coded c Frame (λ z. x .octet) k;
         long = en;
         fits = x .fits;
         says =

@@ -1,83 +1,26 @@
--- The leaves of the walk: the codes of each class, which runs are data, and what a segment's length says of the octets. A run of FF and a marker
--- are in Runs.antt, scan data in Scans.antt.
+-- The leaves of the walk: which runs are data, and what a segment's length says of the octets. The codes are in Codes.antt, a run of FF and a marker
+-- in Runs.antt, scan data in Scans.antt.
 -- Assumes nothing.
 use Prim.Native.Nat.{ℕ, suc, _+_, _-_, _≤_, _<_}
 use native.Mathlib.Omega.{arith}
 use mathlib.Core.Path.{_≡_, refl, sym, ap, _∙_}
-use mathlib.Core.Logic.{_⊎_, inl, inr, _≢_, ⊎-elim}
-use mathlib.Core.Bool.{true, false, _&&_, _||_, false≢true}
-use mathlib.Core.List.{List, [], _∷_, _++_}
+use mathlib.Core.Logic.{_≢_, ⊎-elim}
+use mathlib.Core.Bool.{_&&_, _||_}
+use mathlib.Core.List.{List, _∷_, _++_}
 use lib.ListN.{length, getD, take, drop, length-append, length-drop, take-append-drop}
 use lib.Seq.{drop-drop, length-take-le}
-use lib.Dec.{eqb, leb, ltb}
-use borrow.Author.Tests.{eqb-true, leb-false, le-ltb, ltb-false}
+use lib.Dec.{eqb, ltb}
+use borrow.Author.Tests.{le-ltb, ltb-false}
 use Rattle.laws.proofs.Cases.{cond-with, clash}
 use Rattle.octets.specs.Octets.{Octets, be16At, octets16}
 use Rattle.octets.proofs.Laws.{be16-there, be16-stands, be16-bound, drop-next, drop-octet, length-octets16}
-use Rattle.laws.proofs.Says.{Says, says-as, says-eq, says-le, says-and, says-or, says-else, says-false}
-use Rattle.jpeg_rules.specs.declared.Class.{Class}
-use Rattle.jpeg_rules.specs.declared.Class.the-variants.{Alone, Frame, Scan, End, Wrong, Segment}
+use Rattle.laws.proofs.Says.{Says, says-as, says-eq, says-le, says-and, says-or}
 use Rattle.jpeg_rules.specs.declared.Seg.the-variants.{Body}
-use Rattle.jpeg_rules.specs.Marker.{classOf}
-use Rattle.laws.specs.Tests.{within, among}
+use Rattle.laws.specs.Tests.{within}
 use Rattle.jpeg_rules.specs.Grammar.{DataRun, Fits}
 use Rattle.jpeg_rules.specs.Walk.{segOf, dataRun}
 
--- ---- the codes of each class
-
-module _ (c : ℕ) (P : Class → Type 0)
-    (alone : c ≡ 0x01 → P Alone) (frame : (0xC0 ≤ c) × (c ≤ 0xCF) → P Frame) (scan : c ≡ 0xDA → P Scan) (end : c ≡ 0xD9 → P End)
-    (wrong : P Wrong) (segment : ((0xC0 ≤ c) × (c ≤ 0xCF)) ⊎ (0xD8 < c) → P Segment) where
-  in-range : (lo hi : ℕ) → within lo hi c ≡ true → (lo ≤ c) × (c ≤ hi)
-  in-range lo hi e = says-and (says-le lo c) (says-le c hi) .told e
-
-  pub class-cases : P (classOf c)
-  unfolding classOf
-  class-cases =
-      cond-with P (eqb c 0x01) (λ e. alone (eqb-true c 0x01 e)) λ n1.
-      cond-with P (among (0xC4 ∷ 0xC8 ∷ 0xCC ∷ []) c) (λ e. segment (inl (listed e))) λ n2.
-      cond-with P (within 0xC0 0xCF c) (λ e. frame (in-range 0xC0 0xCF e)) λ n3.
-      cond-with P (eqb c 0xDA) (λ e. scan (eqb-true c 0xDA e)) λ n4.
-      cond-with P (eqb c 0xD9) (λ e. end (eqb-true c 0xD9 e)) λ n5.
-      cond-with P (among (0x00 ∷ 0xFF ∷ []) c) (λ e. wrong) λ n6.
-      cond-with P (leb c 0xBF) (λ e. wrong) λ n7.
-      cond-with P (within 0xD0 0xD8 c) (λ e. wrong) λ n8.
-      segment (above (leb-false c 0xBF n7) n3 n8)
-    where
-      listed : among (0xC4 ∷ 0xC8 ∷ 0xCC ∷ []) c ≡ true → (0xC0 ≤ c) × (c ≤ 0xCF)
-      listed e =
-          ⊎-elim (λ (k : c ≡ 0xC4). (omega arith, omega arith))
-          (⊎-elim (λ (k : c ≡ 0xC8). (omega arith, omega arith))
-          (⊎-elim (λ (k : c ≡ 0xCC). (omega arith, omega arith)) (λ (k : ⊥). absurd k)))
-          (says-or (says-eq c 0xC4) (says-or (says-eq c 0xC8) (says-or (says-eq c 0xCC) says-false)) .told e)
-
-      above : 0xBF < c → within 0xC0 0xCF c ≡ false → within 0xD0 0xD8 c ≡ false → ((0xC0 ≤ c) × (c ≤ 0xCF)) ⊎ (0xD8 < c)
-      above l f g =
-          ⊎-elim (λ (h : c ≤ 0xCF). inl (omega arith, h))
-          (λ (h : c ≤ 0xCF → ⊥).
-          ⊎-elim
-          (λ (k : c ≤ 0xD8). absurd (false≢true (sym g ∙ says-and (says-le 0xD0 c) (says-le c 0xD8) .shown (omega arith, k))))
-          (λ (k : c ≤ 0xD8 → ⊥). inr (omega arith))
-          (says-else (says-le c 0xD8)))
-          (says-else (says-le c 0xCF))
-
--- the marker that stands alone, a scan's and the end's have one code each
-pub alone-code : (c : ℕ) → classOf c ≡ Alone → c ≡ 0x01
-alone-code c =
-    class-cases c (λ x. x ≡ Alone → c ≡ 0x01) (λ h e. h) (λ h e. clash cc) (λ h e. clash cc) (λ h e. clash cc) (λ e. clash cc) (λ h e. clash cc)
-
-pub scan-code : (c : ℕ) → classOf c ≡ Scan → c ≡ 0xDA
-scan-code c =
-    class-cases c (λ x. x ≡ Scan → c ≡ 0xDA) (λ h e. clash cc) (λ h e. clash cc) (λ h e. h) (λ h e. clash cc) (λ e. clash cc) (λ h e. clash cc)
-
-pub end-code : (c : ℕ) → classOf c ≡ End → c ≡ 0xD9
-end-code c =
-    class-cases c (λ x. x ≡ End → c ≡ 0xD9) (λ h e. clash cc) (λ h e. clash cc) (λ h e. clash cc) (λ h e. h) (λ e. clash cc) (λ h e. clash cc)
-
--- FF is the code of no marker
-pub class-other : (c : ℕ) (k : Class) → classOf c ≡ k → k ≢ Wrong → c ≢ 0xFF
-unfolding classOf among
-class-other c k e n z = n (sym e ∙ ap classOf z)
+-- ---- which runs are data
 
 pub says-data : (fill c : ℕ) → Says ((eqb c 0x00 && eqb fill 0) || within 0xD0 0xD7 c) (DataRun fill c)
 says-data fill c = says-or (says-and (says-eq c 0x00) (says-eq fill 0)) (says-and (says-le 0xD0 c) (says-le c 0xD7))
@@ -87,26 +30,6 @@ pub says-run : (run fill c : ℕ) → run ≡ fill + 1 → Says (dataRun run c) 
 unfolding dataRun
 says-run run fill c e =
     says-or (says-and (says-eq c 0x00) (says-as (says-eq run 1) (λ q. omega arith) (λ q. omega arith))) (says-and (says-le 0xD0 c) (says-le c 0xD7))
-
--- the code of a marker that may stand in a layer ends scan data, whatever its fill
-pub code-stops : (fill c : ℕ) → classOf c ≢ Wrong → DataRun fill c → ⊥
-code-stops fill c =
-    class-cases c (λ x. x ≢ Wrong → DataRun fill c → ⊥)
-    (λ h e k. outside (omega arith) (omega arith) k)
-    (λ h e k. outside (omega arith) (omega arith) k)
-    (λ h e k. outside (omega arith) (omega arith) k)
-    (λ h e k. outside (omega arith) (omega arith) k)
-    (λ e k. e refl)
-    (λ h e k. outside (λ z. among-range h z) (λ z. beyond h z) k)
-  where
-    outside : (c ≡ 0x00 → ⊥) → ((0xD0 ≤ c) × (c ≤ 0xD7) → ⊥) → DataRun fill c → ⊥
-    outside m n k = ⊎-elim (λ (z : (c ≡ 0x00) × (fill ≡ 0)). m (z .0)) n k
-
-    among-range : ((0xC0 ≤ c) × (c ≤ 0xCF)) ⊎ (0xD8 < c) → c ≡ 0x00 → ⊥
-    among-range h z = ⊎-elim (λ (y : (0xC0 ≤ c) × (c ≤ 0xCF)). omega arith) (λ (y : 0xD8 < c). omega arith) h
-
-    beyond : ((0xC0 ≤ c) × (c ≤ 0xCF)) ⊎ (0xD8 < c) → (0xD0 ≤ c) × (c ≤ 0xD7) → ⊥
-    beyond h z = ⊎-elim (λ (y : (0xC0 ≤ c) × (c ≤ 0xCF)). omega arith) (λ (y : 0xD8 < c). omega arith) h
 
 -- FF is no code of data
 pub data-other : (fill c : ℕ) → DataRun fill c → c ≢ 0xFF

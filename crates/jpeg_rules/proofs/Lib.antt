@@ -1,4 +1,5 @@
 pub mod Grey
+pub mod Codes
 pub mod Leaves
 pub mod Runs
 pub mod Scans

@@ -27,12 +27,14 @@ use Rattle.jpeg_rules.specs.declared.Reach.{Reach}
 use Rattle.jpeg_rules.specs.declared.Walk.{Walk}
 use Rattle.jpeg_rules.specs.declared.Turn.{Turn}
 use Rattle.jpeg_rules.specs.declared.Turn.the-variants.{Go, Stop}
+use Rattle.jpeg_rules.specs.Codes.{IsFrame, HasLength}
 use Rattle.jpeg_rules.specs.Marker.{classOf, markerOf}
 use Rattle.jpeg_rules.specs.Grammar.{marker, Piece, alone, segment, scan, lengthed, Good}
 use Rattle.jpeg_rules.specs.Walk.{segOf, scanOf, resolves, tagOf, framed, passed, moved, refused, onBody, onFound, onTag, componentsOk, frameBodyOf, frameOf, scanStepOf, segmentOf, endOf, markOf, onMarker, turnOf, begun, walkOf}
 use Rattle.jpeg_rules.specs.Faults.{Known, heightOf, widthOf, componentsOf, resOf, FrameDue, May, past, framing, Next, any, no-data, Least, of-segment, of-scan, of-frame, BadLength, cut-length, small, cut-body, BadMarker, cut, cut-run, no-marker, wrong-code, second-frame, no-resolution, no-frame, no-scan, bad-length, no-height, no-width, bad-components, bad-resolution, endless, BadFrom, here, past-piece, past-frame, BadLayer, cut-start, no-start, started}
-use Rattle.jpeg_rules.proofs.Leaves.{scan-code, two-stand}
-use Rattle.jpeg_rules.proofs.Runs.{fillEnd, Marked, marker-by, marker-back, run-cut}
+use Rattle.jpeg_rules.proofs.Codes.{Coded, class-coded}
+use Rattle.jpeg_rules.proofs.Leaves.{two-stand}
+use Rattle.jpeg_rules.proofs.Runs.{fillEnd, Marked, marker-by, marker-back, code-octet, run-cut}
 use Rattle.jpeg_rules.proofs.Turns.{number-is, octet-is}
 use Rattle.jpeg_rules.proofs.Scans.{scan-back, none-endless}
 use Rattle.jpeg_rules.proofs.Tail.{Stood, stood, Over, alone-over, segment-over, scan-over, plain-test, gives-test}
@@ -98,6 +100,10 @@ module _ (s : List ℕ) (o : Octets s) (main : ℕ) (st : Reach) (q : Bool) wher
     by-code : {f : Fault} → BadMarker main k (st .at) (marker (mk .fill) c ++ drop n s) f → Blame f
     by-code {f} b = subst (λ (l : List ℕ). BadMarker main k (st .at) l f) (sym (mk .stands)) b
 
+    -- a code that alone makes its marker
+    by-one : {v : ℕ} {f : Fault} → c ≡ v → BadMarker main k (st .at) (marker (mk .fill) v ++ drop n s) f → Blame f
+    by-one {f = f} w b = by-code (subst (λ (v : ℕ). BadMarker main k (st .at) (marker (mk .fill) v ++ drop n s) f) (sym w) b)
+
     body-blames : (least : ℕ) (go : ℕ → Turn) → Least k c least → ((next : ℕ) → segOf s n least ≡ Body next → Blames (go next))
         → Blames (onBody (segOf s n least) go)
     body-blames least go ln y = by (segOf s n least) refl
@@ -111,7 +117,7 @@ module _ (s : List ℕ) (o : Octets s) (main : ℕ) (st : Reach) (q : Bool) wher
     by-body : (least next : ℕ) (x : Stood s (st .at) c n least next) {f : Fault} → BadMarker main k (st .at) (lengthed (x .fill) c (x .body) ++ drop next s) f → Blame f
     by-body least next x {f} b = subst (λ (l : List ℕ). BadMarker main k (st .at) l f) (sym (x .stands)) b
 
-    frame-blames : classOf c ≡ Frame → Blames (frameOf s st n)
+    frame-blames : IsFrame c → Blames (frameOf s st n)
     unfolding frameOf frameBodyOf
     frame-blames w =
         cond-with Blames (st .framed) (λ e. refused-blames _ (by-code (second-frame (mk .fill) c (drop n s) w e))) λ nf.
@@ -140,14 +146,15 @@ module _ (s : List ℕ) (o : Octets s) (main : ℕ) (st : Reach) (q : Bool) wher
         (bad-components (x .fill) c (x .body) (drop next s) due (x .fits, en) (λ z. eqb-false (be16At s (n + 3)) 0 nh (a ∙ z)) (λ z. eqb-false (be16At s (n + 5)) 0 nw (b ∙ z))
         (λ z. false≢true (sym co ∙ ap componentsOk d ∙ says-components (componentsOf (x .body)) .shown z)))))
 
-    scan-blames : classOf c ≡ Scan → Blames (scanStepOf s st n)
+    scan-blames : c ≡ 0xDA → Blames (scanStepOf s st n)
     unfolding scanStepOf
     scan-blames w =
         cond-with Blames (st .framed)
         (λ fr.
-        body-blames 2 (λ (next : ℕ). onFound (scanOf s next) next (λ (p : ℕ). Go (passed st p))) (of-scan w fr) λ next g.
+        body-blames 2 (λ (next : ℕ). onFound (scanOf s next) next (λ (p : ℕ). Go (passed st p)))
+        (subst (λ (v : ℕ). Least k v 2) (sym w) (of-scan fr)) λ next g.
         by fr next g (scanOf s next) refl)
-        (λ nf. refused-blames _ (by-code (no-frame (mk .fill) c (drop n s) w nf)))
+        (λ nf. refused-blames _ (by-one w (no-frame (mk .fill) (drop n s) nf)))
       where
         by : st .framed ≡ true → (next : ℕ) → segOf s n 2 ≡ Body next → (x : Found) → scanOf s next ≡ x
             → Blames (onFound x next (λ (p : ℕ). Go (passed st p)))
@@ -159,10 +166,10 @@ module _ (s : List ℕ) (o : Octets s) (main : ℕ) (st : Reach) (q : Bool) wher
             placed-blames Fault.Short (st .at + x .fill + 4 + length (x .body)) next (omega arith)
             (by-body 2 next x
             (subst (λ (v : ℕ). BadMarker main k (st .at) (lengthed (x .fill) v (x .body) ++ drop next s) (Fault.Short (st .at + x .fill + 4 + length (x .body))))
-            (sym (scan-code c w))
+            (sym w)
             (endless (x .fill) (x .body) (drop next s) (x .fits) fr (none-endless s next e))))
 
-    segment-blames : classOf c ≡ Segment → Blames (segmentOf s main st c n)
+    segment-blames : HasLength c → Blames (segmentOf s main st c n)
     unfolding segmentOf Good
     segment-blames w =
         body-blames 2
@@ -184,11 +191,11 @@ module _ (s : List ℕ) (o : Octets s) (main : ℕ) (st : Reach) (q : Bool) wher
             (bad-resolution (x .fill) c (x .body) (drop next s) (w, x .fits) (tg .0)
             (λ r. false≢true (sym t ∙ ap (resolves main) (tg .1) ∙ says-resolves main (resOf (x .body)) .shown r)))))
 
-    end-blames : classOf c ≡ End → Blames (endOf st n)
+    end-blames : c ≡ 0xD9 → Blames (endOf st n)
     unfolding endOf
-    end-blames w = cond-with Blames (st .scanned) (λ t f e. clash cc) (λ t. refused-blames _ (by-code (no-scan (mk .fill) c (drop n s) w t)))
+    end-blames w = cond-with Blames (st .scanned) (λ t f e. clash cc) (λ t. refused-blames _ (by-one w (no-scan (mk .fill) (drop n s) t)))
 
-    mark-blames : (x : Class) → classOf c ≡ x → Blames (markOf s main st c n x)
+    mark-blames : (x : Class) → Coded x c → Blames (markOf s main st c n x)
     unfolding markOf
     mark-blames Alone w = go-blames _
     mark-blames Frame w = frame-blames w
@@ -223,7 +230,7 @@ module _ (s : List ℕ) (o : Octets s) (main : ℕ) (st : Reach) (q : Bool) wher
   turn-blames = by (markerOf s (st .at)) refl
     where
       by : (x : Marker) → markerOf s (st .at) ≡ x → Blames (onMarker x (st .at) (λ (c n : ℕ). markOf s main st c n (classOf c)))
-      by (Code c n) m = mark-blames c n m (classOf c) refl
+      by (Code c n) m = mark-blames c n m (classOf c) (class-coded c (classOf c) (λ z. code-octet s o (st .at) c n m) refl)
       by Missing m = refused-blames _ (marker-blames .0 m)
       by Cut m = refused-blames _ (marker-blames .1 m)
 
@@ -269,8 +276,9 @@ module _ (s : List ℕ) (o : Octets s) (main : ℕ) (f : Fault) where
       let ww : be16At s (n + 5) ≡ widthOf (x .body) = number-is s main st (x .fill) c (x .body) (drop next s) (x .other) (x .stands) 3 (n + 5) (omega arith) (omega arith) in
       let nc : getD s (n + 7) 0 ≡ componentsOf (x .body) = octet-is s main st (x .fill) c (x .body) (drop next s) (x .other) (x .stands) 5 (n + 7) (omega arith) (omega arith) in
       let z : t .at ≡ st .at + length (lengthed (x .fill) c (x .body)) = omega arith in
+      let due : FrameDue (knownOf st q) c = record { code = class-coded c Frame (λ z. x .octet) w; first = nf; resolved = nr } in
       subst (λ (l : List ℕ). BadFrom main (knownOf st q) (st .at) l f) (sym (x .stands ∙ ap (λ (j : ℕ). lengthed (x .fill) c (x .body) ++ drop j s) (sym a)))
-      (past-frame (x .fill) c (x .body) (drop (t .at) s) (record { code = w; first = nf; resolved = nr }) (x .fits, en) (λ y. nh (hh ∙ y)) (λ y. nw (ww ∙ y))
+      (past-frame (x .fill) c (x .body) (drop (t .at) s) due (x .fits, en) (λ y. nh (hh ∙ y)) (λ y. nw (ww ∙ y))
       (says-components (componentsOf (x .body)) .told (ap componentsOk (sym nc) ∙ co))
       (subst (λ (j : ℕ). BadFrom main (framing (knownOf st q)) j (drop (t .at) s) f) z
       (subst (λ (i : Known). BadFrom main i (t .at) (drop (t .at) s) f) (known-of false e) (go false any))))

@@ -11,8 +11,7 @@ use borrow.Author.Tests.{le-ltb, lt-ltb, eq-eqb, ne-eqb}
 use Rattle.octets.specs.Octets.{be16At, octets16}
 use Rattle.octets.proofs.Laws.{be16-there, length-octets16}
 use Rattle.laws.proofs.Says.{says-eq, says-and, says-true, says-fails}
-use Rattle.laws.proofs.Cases.{clash, bool-else}
-use Rattle.jpeg_rules.specs.declared.Class.{Class}
+use Rattle.laws.proofs.Cases.{bool-else}
 use Rattle.jpeg_rules.specs.declared.Class.the-variants.{Frame, Scan, End, Wrong, Segment}
 use Rattle.jpeg_rules.specs.declared.Marker.{Marker}
 use Rattle.jpeg_rules.specs.declared.Fault.{Fault}
@@ -22,11 +21,13 @@ use Rattle.jpeg_rules.specs.declared.Said.{Said}
 use Rattle.jpeg_rules.specs.declared.Reach.{Reach}
 use Rattle.jpeg_rules.specs.declared.Walk.{Walk}
 use Rattle.jpeg_rules.specs.declared.Turn.the-variants.{Go}
+use Rattle.jpeg_rules.specs.Codes.{IsFrame}
 use Rattle.jpeg_rules.specs.Marker.{classOf, markerOf}
 use Rattle.jpeg_rules.specs.Grammar.{marker, Piece, alone, segment, scan, lengthed, octetsOf, Good, tagged, saidBy}
 use Rattle.jpeg_rules.specs.Walk.{segOf, resolves, tagOf, framed, passed, moved, refused, onBody, onTag, frameSaid, frameBodyOf, frameOf, scanStepOf, segmentOf, endOf, markOf, onMarker, turnOf, begun, walkOf}
 use Rattle.jpeg_rules.specs.Faults.{Known, heightOf, widthOf, componentsOf, resOf, gives, FrameDue, May, past, framing, Next, any, no-data, Least, of-segment, of-scan, of-frame, BadLength, cut-length, small, cut-body, BadMarker, cut, cut-run, no-marker, wrong-code, second-frame, no-resolution, no-frame, no-scan, bad-length, no-height, no-width, bad-components, bad-resolution, endless, BadFrom, here, past-piece, past-frame, BadLayer, cut-start, no-start, started}
-use Rattle.jpeg_rules.proofs.Leaves.{class-other, two-there}
+use Rattle.jpeg_rules.proofs.Codes.{frame-right, frame-other, segment-other}
+use Rattle.jpeg_rules.proofs.Leaves.{two-there}
 use Rattle.jpeg_rules.proofs.Runs.{length-marker, begins-there, marker-cut}
 use Rattle.jpeg_rules.proofs.Scans.{Opens, endless-none}
 use Rattle.jpeg_rules.proofs.Turns.{scan-other, turn-class, turn-alone, turn-plain, turn-tag, turn-frame, turn-scan, frame-says, opened, seg-is, segment-opened, number-is, tag-of, rest-at}
@@ -66,16 +67,16 @@ module _ (s : List ℕ) (main : ℕ) (st : Reach) (o : Bool) where
       → turnOf s main st ≡ refused f
   unfolding markOf segmentOf scanStepOf frameOf
   bodied i {c = c} r f e (of-segment w) q =
-      turn-class s main st i c r Segment (class-other c Segment w (λ z. clash cc)) e w
+      turn-class s main st i c r Segment (segment-other c w) e w
       ∙ ap
       (λ (g : Seg).
       onBody g (λ (next : ℕ).
       onTag (tagOf s st c (st .at + i + 2)) (Go (moved st next (st .said .res))) (λ (v : ℕ).
       cond (resolves main v) (Go (moved st next v)) (refused (Fault.BadRes (st .at + i + 2 + 10))))))
       q
-  bodied i {c = c} r f e (of-scan w fr) q = turn-class s main st i c r Scan (class-other c Scan w (λ z. clash cc)) e w ∙ simp (fr, q)
+  bodied i r f e (of-scan fr) q = turn-class s main st i 0xDA r Scan scan-other e refl ∙ simp (fr, q)
   bodied i {c = c} r f e (of-frame w) q =
-      turn-class s main st i c r Frame (class-other c Frame (w .code) (λ z. clash cc)) e (w .code)
+      turn-class s main st i c r Frame (frame-other c (w .code)) e (w .code)
       ∙ simp (w .first, ne-eqb (st .said .res) 0 (w .resolved), q)
 
   -- a fault at a place that is counted in another way
@@ -84,11 +85,11 @@ module _ (s : List ℕ) (main : ℕ) (st : Reach) (o : Bool) where
 
   -- a frame as the walk sees it: its length, its height, its width and its count of components
   module _ (i c : ℕ) (body r : List ℕ) (e : drop (st .at) s ≡ lengthed i c body ++ r) (w : FrameDue k c) (lo : 8 ≤ length body + 2) where
-    frame-other : c ≢ 0xFF
-    frame-other = class-other c Frame (w .code) (λ z. clash cc)
+    other-frame : c ≢ 0xFF
+    other-frame = frame-other c (w .code)
 
     said-is : frameSaid s st (st .at + i + 2) ≡ saidBy body (st .said .res)
-    said-is = frame-says s main st i c body r frame-other e lo
+    said-is = frame-says s main st i c body r other-frame e lo
 
     height-is : be16At s (st .at + i + 2 + 3) ≡ heightOf body
     height-is = ap (λ (x : Said). x .height) said-is
@@ -102,13 +103,13 @@ module _ (s : List ℕ) (main : ℕ) (st : Reach) (o : Bool) where
     frame-opens : turnOf s main st ≡ frameBodyOf s st (st .at + i + 2) (st .at + i + 2 + (length body + 2))
     unfolding markOf frameOf
     frame-opens =
-        turn-class s main st i c (octets16 (length body + 2) ++ (body ++ r)) Frame frame-other (opened s main st i c body r frame-other e) (w .code)
-        ∙ simp (w .first, ne-eqb (st .said .res) 0 (w .resolved), seg-is s main st i c body r frame-other e 8 lo)
+        turn-class s main st i c (octets16 (length body + 2) ++ (body ++ r)) Frame other-frame (opened s main st i c body r other-frame e) (w .code)
+        ∙ simp (w .first, ne-eqb (st .said .res) 0 (w .resolved), seg-is s main st i c body r other-frame e 8 lo)
 
-  -- a marker by its class alone
-  refused-class : (i c : ℕ) (r : List ℕ) (x : Class) → x ≢ Wrong → drop (st .at) s ≡ marker i c ++ r → classOf c ≡ x
-      → turnOf s main st ≡ markOf s main st c (st .at + i + 2) x
-  refused-class i c r x n e w = turn-class s main st i c r x (class-other c x w n) e w
+  -- a frame by its code alone
+  refused-frame : (i c : ℕ) (r : List ℕ) → drop (st .at) s ≡ marker i c ++ r → IsFrame c
+      → turnOf s main st ≡ markOf s main st c (st .at + i + 2) Frame
+  refused-frame i c r e w = turn-class s main st i c r Frame (frame-other c w) e w
 
   turn-cut : {l : List ℕ} → drop (st .at) s ≡ l → length l < 2 → turnOf s main st ≡ refused (Fault.Short (st .at))
   unfolding turnOf markerOf
@@ -126,22 +127,22 @@ module _ (s : List ℕ) (main : ℕ) (st : Reach) (o : Bool) where
       ap (λ (m : Marker). onMarker m (st .at) (λ (c n : ℕ). markOf s main st c n (classOf c))) (marker-cut s (st .at) i e)
 
   turn-bad : {l : List ℕ} {f : Fault} → drop (st .at) s ≡ l → BadMarker main k (st .at) l f → turnOf s main st ≡ refused f
-  unfolding markOf frameOf scanStepOf endOf frameBodyOf classOf Good
+  unfolding markOf frameOf scanStepOf endOf frameBodyOf Good
   turn-bad e (cut c) = turn-cut e c
   turn-bad e (cut-run i) = turn-run i e
   turn-bad e (no-marker x y r d) = turn-stray x y r e d
   turn-bad e (wrong-code i c r d w) = turn-class s main st i c r Wrong d e w
-  turn-bad e (second-frame i c r w fr) = refused-class i c r Frame (λ z. clash cc) e w ∙ simp fr
-  turn-bad e (no-resolution i c r w fr z) = refused-class i c r Frame (λ z. clash cc) e w ∙ simp (fr, eq-eqb (st .said .res) 0 z)
-  turn-bad e (no-frame i c r w fr) = refused-class i c r Scan (λ z. clash cc) e w ∙ simp fr
-  turn-bad e (no-scan i c r w sc) = refused-class i c r End (λ z. clash cc) e w ∙ simp sc
+  turn-bad e (second-frame i c r w fr) = refused-frame i c r e w ∙ simp fr
+  turn-bad e (no-resolution i c r w fr z) = refused-frame i c r e w ∙ simp (fr, eq-eqb (st .said .res) 0 z)
+  turn-bad e (no-frame i r fr) = turn-class s main st i 0xDA r Scan scan-other e refl ∙ simp fr
+  turn-bad e (no-scan i r sc) = turn-class s main st i 0xD9 r End (λ z. omega arith) e refl ∙ simp sc
   turn-bad e (bad-length {f = f} i c least r w b) =
       bodied i r f e w (length-bad s least (st .at + i + 2) (begins-there s (st .at) i c r (least-other w) e .rest) b)
     where
       least-other : {c least : ℕ} → Least k c least → c ≢ 0xFF
-      least-other {c = c} (of-segment w) = class-other c Segment w (λ z. clash cc)
-      least-other {c = c} (of-scan w fr) = class-other c Scan w (λ z. clash cc)
-      least-other {c = c} (of-frame w) = class-other c Frame (w .code) (λ z. clash cc)
+      least-other {c = c} (of-segment w) = segment-other c w
+      least-other (of-scan fr) = scan-other
+      least-other {c = c} (of-frame w) = frame-other c (w .code)
   turn-bad e (no-height i c body r w lo z) =
       placed Fault.BadLayer (st .at + i + 2 + 3) (st .at + i + 5) (omega arith)
       (frame-opens i c body r e w (lo .1) ∙ simp (height-is i c body r e w (lo .1), eq-eqb (heightOf body) 0 z))
@@ -163,7 +164,7 @@ module _ (s : List ℕ) (main : ℕ) (st : Reach) (o : Bool) where
   turn-bad e (bad-resolution i c body r g t n) =
       let u = says-and (says-eq (st .said .res) 0) (says-true (tagged c body)) .told t in
       let long = tagged-long s main c body (u .1) in
-      let other = class-other c Segment (g .0) (λ z. clash cc) in
+      let other = segment-other c (g .0) in
       let v : be16At s (st .at + i + 2 + 10) ≡ resOf body = number-is s main st i c body r other e 8 (st .at + i + 2 + 10) (omega arith) (omega arith) in
       let tg : tagOf s st c (st .at + i + 2) ≡ Gives (resOf body) =
       tag-of s main st i c body r other e ∙ ap (λ (b : Bool). cond b (Gives (be16At s (st .at + i + 2 + 10))) Plain) t ∙ ap Gives v in
@@ -190,7 +191,7 @@ from-opens (here n b) e = by n e
     by any e = absurd (false≢true e)
     by (no-data i c r n d) e = record { fill = i; code = c; rest = r; is = refl; other = n; stop = d }
 from-opens (past-piece q l g m b) e = piece-opens q l g
-from-opens (past-frame i c body l w lo hi wi co b) e = lengthed-opens i c body l (λ e. let z : Frame ≡ Wrong = sym (w .code) ∙ e in clash cc)
+from-opens (past-frame i c body l w lo hi wi co b) e = lengthed-opens i c body l (frame-right c (w .code))
 
 module _ (s : List ℕ) (main : ℕ) (st : Reach) (o : Bool) (w : Walk) where
   -- after a piece the walk goes on, with what is known there
@@ -207,7 +208,7 @@ module _ (s : List ℕ) (main : ℕ) (st : Reach) (o : Bool) (w : Walk) where
       (go (moved st (st .at + i + 2) (st .said .res)) false refl (omega arith) (begins-there s (st .at) i 0x01 l (λ z. omega arith) e .rest))
   piece-on (segment i c body) l g m e op go =
       let y = length-lengthed i c body in
-      let other = class-other c Segment (g .0) (λ z. clash cc) in
+      let other = segment-other c (g .0) in
       let z : st .at + i + 2 + (length body + 2) ≡ st .at + length (lengthed i c body) = omega arith in
       let on : (v : ℕ) → v ≡ cond (gives (knownOf st o) c body) (resOf body) (st .said .res) → Walks s main (moved st (st .at + i + 2 + (length body + 2)) v) w =
       λ v q.
@@ -242,7 +243,7 @@ module _ (s : List ℕ) (main : ℕ) where
       (λ t u k at r. walk-bad b t u (k ∙ ap (λ (i : Known). past i q) e) (at ∙ ap (λ (n : ℕ). n + length (octetsOf q)) a) r)
   walk-bad {j = j} {p = p} {f = f} (past-frame i c body l w lo hi wi co b) st o e a d =
       let y = length-lengthed i c body in
-      let other = class-other c Frame (w .code) (λ z. clash cc) in
+      let other = frame-other c (w .code) in
       let v : FrameDue (knownOf st o) c = subst (λ (i : Known). FrameDue i c) (sym e) w in
       goes (turn-frame s main st i c body l other d (v .code) (v .first) (v .resolved) (lo .1) hi wi (says-components (componentsOf body) .shown co))
       (walk-bad b (framed st (st .at + i + 2 + (length body + 2)) (saidBy body (st .said .res))) false (ap framing e) (omega arith)

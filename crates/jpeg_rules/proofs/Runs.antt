@@ -10,6 +10,7 @@ use lib.ListN.{length, getD, drop, replicate, length-append, length-drop, length
 use lib.Dec.{eqb, ltb}
 use borrow.Author.Tests.{eq-eqb, ne-eqb, eqb-true, eqb-false, le-ltb, lt-ltb, ltb-true, ltb-false}
 use Rattle.laws.proofs.Cases.{cond-with, clash}
+use Rattle.octets.specs.Octets.{Octets}
 use Rattle.octets.proofs.Laws.{drop-octet}
 use Rattle.octets.proofs.Runs.{runFrom, runEnd, end-over, end-here, end-next, Run, run-back}
 use Rattle.laws.proofs.Says.{says-lt, says-else}
@@ -208,6 +209,12 @@ marker-back s at c n =
     let a : getD s (fillEnd s (at + 1)) 0 ≡ c = cc in
     let b : fillEnd s (at + 1) + 1 ≡ n = cc in
     subst (Marked s at c) b (subst (λ (x : ℕ). Marked s at x (fillEnd s (at + 1) + 1)) a (run-marked s at (omega arith) f (fillEnd s (at + 1)) refl l)))
+
+-- its code is one of the octets
+pub code-octet : (s : List ℕ) → Octets s → (at c n : ℕ) → markerOf s at ≡ Code c n → c < 256
+code-octet s o at c n =
+    marker-by s at (λ x. x ≡ Code c n → c < 256) (λ l e. clash cc) (λ h f e. clash cc) (λ h f l e. clash cc)
+    (λ h f l e. let a : getD s (fillEnd s (at + 1)) 0 ≡ c = cc in subst (λ (x : ℕ). x < 256) a (o (fillEnd s (at + 1))))
 
 -- where the run ends, from its first FF on
 pub fill-marked : (s : List ℕ) (at c n : ℕ) → Marked s at c n → fillEnd s at + 1 ≡ n

@@ -1,6 +1,6 @@
 -- Where the walk ends, the octets after the frame are pieces of the grammar.
 -- Assumes nothing.
-use Prim.Native.Nat.{ℕ, _+_, _-_, _≤_}
+use Prim.Native.Nat.{ℕ, _+_, _-_, _≤_, _<_}
 use native.Mathlib.Omega.{arith}
 use mathlib.Core.Path.{_≡_, refl, sym, ap, ap₂, _∙_}
 use mathlib.Core.Logic.{_⊎_, inl, inr, _≢_, ⊎-elim, ⊎-map}
@@ -12,7 +12,7 @@ use lib.Dec.{eqb, leb}
 use Rattle.octets.specs.Octets.{Octets, be16At, octets16, standsAt}
 use Rattle.laws.proofs.Says.{says-eq, says-le, says-and, says-true, says-fails}
 use Rattle.jpeg_rules.specs.declared.Marker.the-variants.{Code}
-use Rattle.jpeg_rules.specs.declared.Class.the-variants.{Alone, Scan, Segment}
+use Rattle.jpeg_rules.specs.declared.Class.the-variants.{Alone, Scan, End, Segment}
 use Rattle.jpeg_rules.specs.declared.Found.the-variants.{At}
 use Rattle.jpeg_rules.specs.declared.Seg.the-variants.{Body}
 use Rattle.jpeg_rules.specs.declared.Tag.the-variants.{Gives, Plain}
@@ -25,8 +25,9 @@ use Rattle.jpeg_rules.specs.Marker.{classOf, markerOf}
 use Rattle.jpeg_rules.specs.Grammar.{marker, Piece, alone, segment, scan, lengthed, octetsOf, piecesOf, Fits, Good, isScan, g3fax, tagged, Each, Scanned}
 use Rattle.jpeg_rules.specs.Walk.{segOf, scanOf, tagOf, framed}
 use Rattle.laws.proofs.Cases.{cond-with, clash, bool-else}
-use Rattle.jpeg_rules.proofs.Leaves.{alone-code, scan-code, end-code, seg-back}
-use Rattle.jpeg_rules.proofs.Runs.{length-marker, Marked, marker-back}
+use Rattle.jpeg_rules.proofs.Codes.{class-coded}
+use Rattle.jpeg_rules.proofs.Leaves.{seg-back}
+use Rattle.jpeg_rules.proofs.Runs.{length-marker, Marked, marker-back, code-octet}
 use Rattle.jpeg_rules.proofs.Scans.{scan-back, scan-split}
 use Rattle.jpeg_rules.proofs.Walks.{Onward, by-alone, by-frame, by-scan, by-plain, by-tag, Ended, turn-told, Walks, stops, goes}
 use Rattle.jpeg_rules.proofs.There.{length-lengthed, tagged-long}
@@ -38,6 +39,7 @@ pub record Stood (s : List ℕ) (at c n least next : ℕ) : Type 0 where
   pub fill : ℕ
   pub body : List ℕ
   pub other : c ≢ 0xFF
+  pub octet : c < 256
   pub fits : Fits body
   pub enough : least ≤ length body + 2
   pub after : n ≡ at + fill + 2
@@ -54,6 +56,7 @@ stood s o at c n least next two m g =
       fill = k .fill;
       body = b .body;
       other = k .other;
+      octet = code-octet s o at c n m;
       fits = b .fits;
       enough = b .enough;
       after = k .ends;
@@ -80,7 +83,7 @@ module _ (s : List ℕ) (st t : Reach) (c : ℕ) where
       let l = length-marker (x .fill) 0x01 in
       record {
         good = tt;
-        stands = x .stands ∙ ap₂ (λ (c j : ℕ). marker (x .fill) c ++ drop j s) (alone-code c k) (sym a);
+        stands = x .stands ∙ ap₂ (λ (c j : ℕ). marker (x .fill) c ++ drop j s) (class-coded c Alone (λ z. clash cc) k) (sym a);
         at = omega arith;
       }
 
@@ -92,7 +95,7 @@ module _ (s : List ℕ) (st t : Reach) (c : ℕ) where
         let y = x .after in
         let z = x .ends in
         record {
-          good = (k, x .fits);
+          good = (class-coded c Segment (λ z. x .octet) k, x .fits);
           stands = x .stands ∙ ap (λ (j : ℕ). lengthed (x .fill) c (x .body) ++ drop j s) (sym a);
           at = omega arith;
         }
@@ -114,7 +117,7 @@ module _ (s : List ℕ) (st t : Reach) (c : ℕ) where
         record {
           good = (x .fits, b .coded);
           stands =
-              x .stands ∙ ap (λ (c : ℕ). lengthed (x .fill) c (x .body) ++ drop next s) (scan-code c k)
+              x .stands ∙ ap (λ (c : ℕ). lengthed (x .fill) c (x .body) ++ drop next s) (class-coded c Scan (λ z. x .octet) k)
               ∙ ap (λ (u : List ℕ). front ++ u) (scan-split s next p i) ∙ sym (append-assoc front coded (drop p s))
               ∙ ap (λ (j : ℕ). (front ++ coded) ++ drop j s) (sym a);
           at = omega arith;
@@ -207,7 +210,7 @@ module _ (s : List ℕ) (o : Octets s) (main e : ℕ) (said : Said) where
         after = [];
         good = tt;
         last = m .fill;
-        octets = m .stands ∙ ap (λ (c : ℕ). marker (m .fill) c ++ drop e s) (end-code (k .c) (k .class));
+        octets = m .stands ∙ ap (λ (c : ℕ). marker (m .fill) c ++ drop e s) (class-coded (k .c) End (λ z. clash cc) (k .class));
         scanned = inl (k .scanned);
         says = k .says;
         ends = omega arith;

@@ -1,6 +1,6 @@
 -- What is proved of the JPEG walk. The statements are for the reader; how each is shown stands in the files beside this one.
 -- Assumes nothing.
-use Prim.Native.Nat.{ℕ, _+_, _-_, _≤_}
+use Prim.Native.Nat.{ℕ, _+_, _-_, _≤_, _<_}
 use native.Mathlib.Omega.{arith}
 use mathlib.Core.Path.{_≡_, refl, sym, ap, _∙_}
 use mathlib.Core.Logic.{_↔_}
@@ -9,18 +9,37 @@ use lib.ListN.{length, take, drop, length-append, length-drop}
 use lib.Seq.{length-take-le}
 use Rattle.laws.proofs.Cases.{clash}
 use Rattle.octets.specs.Octets.{Octets}
+use Rattle.jpeg_rules.specs.declared.Class.{Class}
 use Rattle.jpeg_rules.specs.declared.Fault.{Fault}
 use Rattle.jpeg_rules.specs.declared.Said.{Said}
 use Rattle.jpeg_rules.specs.declared.Walk.{Walk}
 use Rattle.jpeg_rules.specs.declared.Walk.the-variants.{Ends, Refused}
+use Rattle.jpeg_rules.specs.Marker.{classOf}
 use Rattle.jpeg_rules.specs.Grammar.{Layer}
 use Rattle.jpeg_rules.specs.Walk.{walkOf}
 use Rattle.jpeg_rules.specs.Faults.{BadLayer}
+use Rattle.jpeg_rules.proofs.Codes.{Coded, class-coded, coded-class, coded-once}
 use Rattle.jpeg_rules.proofs.Scans.{scan-split}
 use Rattle.jpeg_rules.proofs.There.{layer-walk}
 use Rattle.jpeg_rules.proofs.Back.{walk-layer}
 use Rattle.jpeg_rules.proofs.Refuses.{layer-bad}
 use Rattle.jpeg_rules.proofs.Refused.{layer-blames}
+
+-- ---- the walk's table of codes says of every octet what the grammar's sentences say, and each octet has one of them
+
+pub class-exactly : (c : ℕ) → c < 256 → (k : Class) → classOf c ≡ k ↔ Coded k c
+class-exactly c o k = (class-coded c k (λ z. o), coded-class c k)
+
+pub record OneSentence (c : ℕ) : Type 0 where
+  pub class : Class
+  pub holds : Coded class c
+  pub only : (k : Class) → Coded k c → k ≡ class
+
+pub one-sentence : (c : ℕ) → c < 256 → OneSentence c
+one-sentence c o =
+    let s = class-exactly c o (classOf c) .0 refl in record { class = classOf c; holds = s; only = λ k x. coded-once c k (classOf c) x s }
+
+-- ---- the walk ends at e exactly if the octets up to e are a layer, with what it says of itself
 
 -- the octets from one place up to another are a layer
 pub record LayerAt (s : List ℕ) (start main e : ℕ) (said : Said) : Type 0 where
@@ -30,8 +49,6 @@ pub record LayerAt (s : List ℕ) (start main e : ℕ) (said : Said) : Type 0 wh
 
 cut-length : (s : List ℕ) (start e : ℕ) → e ≤ length s → length (take (e - start) (drop start s)) ≡ e - start
 cut-length s start e h = length-take-le (e - start) (drop start s) (let l = length-drop start s in omega arith)
-
--- ---- the walk ends at e exactly if the octets up to e are a layer, with what it says of itself
 
 layer-ends : (s : List ℕ) (start main e : ℕ) (said : Said) → LayerAt s start main e said → walkOf s start main ≡ Ends e said
 layer-ends s start main e said k =

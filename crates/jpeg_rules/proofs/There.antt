@@ -16,17 +16,17 @@ use Rattle.sheet_rules.specs.Sentences.{Listed}
 use Rattle.laws.proofs.Says.{Says, says-eq, says-le, says-and, says-or, says-true, says-as, says-else}
 use Rattle.sheet_rules.proofs.New.{says-listed, says-divides}
 use Rattle.sheet_rules.proofs.Backward.{listed-nonzero}
-use Rattle.jpeg_rules.specs.declared.Class.the-variants.{Frame, Wrong, Segment}
 use Rattle.jpeg_rules.specs.declared.Said.{Said}
 use Rattle.jpeg_rules.specs.declared.Reach.{Reach}
 use Rattle.jpeg_rules.specs.declared.Turn.the-variants.{Stop}
 use Rattle.jpeg_rules.specs.declared.Walk.{Walk}
 use Rattle.jpeg_rules.specs.declared.Walk.the-variants.{Ends}
-use Rattle.jpeg_rules.specs.Marker.{classOf}
+use Rattle.jpeg_rules.specs.Codes.{IsFault, HasLength}
 use Rattle.jpeg_rules.specs.Grammar.{marker, Data, Piece, alone, segment, scan, lengthed, octetsOf, piecesOf, Good, isScan, g3fax, tagged, resolution, Each, Scanned, Components, saidBy, Layer}
 use Rattle.jpeg_rules.specs.Walk.{resolves, withRes, componentsOk, framed, passed, moved, begun, walkOf}
-use Rattle.laws.proofs.Cases.{clash, bool-else}
-use Rattle.jpeg_rules.proofs.Leaves.{class-other, code-stops, two-there}
+use Rattle.laws.proofs.Cases.{bool-else}
+use Rattle.jpeg_rules.proofs.Codes.{alone-right, scan-right, end-right, frame-right, segment-right, frame-other, segment-other, right-other, right-stops}
+use Rattle.jpeg_rules.proofs.Leaves.{two-there}
 use Rattle.jpeg_rules.proofs.Runs.{length-marker, begins-there}
 use Rattle.jpeg_rules.proofs.Scans.{Opens}
 use Rattle.jpeg_rules.proofs.Turns.{turn-alone, turn-plain, turn-tag, turn-frame, turn-scan, turn-end, rest-at}
@@ -49,21 +49,21 @@ says-components c = says-or (says-eq c 1) (says-eq c 3)
 
 -- ---- what may stand after scan data
 
-pub marker-opens : (f c : ℕ) (l : List ℕ) → classOf c ≢ Wrong → Opens (marker f c ++ l)
+pub marker-opens : (f c : ℕ) (l : List ℕ) → (IsFault c → ⊥) → Opens (marker f c ++ l)
 marker-opens f c l n =
-    record { fill = f; code = c; rest = l; is = refl; other = class-other c (classOf c) refl n; stop = code-stops f c n }
+    record { fill = f; code = c; rest = l; is = refl; other = right-other c n; stop = right-stops f c n }
 
-pub lengthed-opens : (f c : ℕ) (body l : List ℕ) → classOf c ≢ Wrong → Opens (lengthed f c body ++ l)
+pub lengthed-opens : (f c : ℕ) (body l : List ℕ) → (IsFault c → ⊥) → Opens (lengthed f c body ++ l)
 unfolding lengthed
 lengthed-opens f c body l n =
     subst Opens (sym (append-assoc (marker f c) (octets16 (length body + 2) ++ body) l)) (marker-opens f c ((octets16 (length body + 2) ++ body) ++ l) n)
 
 pub piece-opens : (q : Piece) (l : List ℕ) → Good q → Opens (octetsOf q ++ l)
-unfolding octetsOf Good classOf
-piece-opens (alone f) l g = marker-opens f 0x01 l (λ e. clash cc)
-piece-opens (segment f c body) l g = lengthed-opens f c body l (λ e. let z : Segment ≡ Wrong = sym (g .0) ∙ e in clash cc)
+unfolding octetsOf Good
+piece-opens (alone f) l g = marker-opens f 0x01 l alone-right
+piece-opens (segment f c body) l g = lengthed-opens f c body l (segment-right c (g .0))
 piece-opens (scan f header scanned) l g =
-    subst Opens (sym (append-assoc (lengthed f 0xDA header) scanned l)) (lengthed-opens f 0xDA header (scanned ++ l) (λ e. clash cc))
+    subst Opens (sym (append-assoc (lengthed f 0xDA header) scanned l)) (lengthed-opens f 0xDA header (scanned ++ l) scan-right)
 
 pub pieces-open : (ps : List Piece) (l : List ℕ) → Each Good ps → Opens l → Opens (piecesOf ps ++ l)
 unfolding Each piecesOf
@@ -201,10 +201,10 @@ module _ (s : List ℕ) (main : ℕ) where
         (st .said .res) refl (res-same ps (st .said .res) (alone f) refl) q)
         d))
 
-    module _ (f b : ℕ) (body : List ℕ) (g : classOf b ≡ Segment) (e : drop (st .at) s ≡ piecesOf (segment f b body ∷ ps) ++ l)
+    module _ (f b : ℕ) (body : List ℕ) (g : HasLength b) (e : drop (st .at) s ≡ piecesOf (segment f b body ∷ ps) ++ l)
         (v : Resolved st (segment f b body ∷ ps)) (k : Onto st (segment f b body ∷ ps) l w) where
       other : b ≢ 0xFF
-      other = class-other b Segment g (λ z. clash cc)
+      other = segment-other b g
 
       opened : drop (st .at) s ≡ lengthed f b body ++ (piecesOf ps ++ l)
       unfolding piecesOf
@@ -339,27 +339,23 @@ module _ (s : List ℕ) (start main : ℕ) (l rest : List ℕ) (said : Said) (y 
       let same : t .said ≡ said = b .says ∙ ap (λ (c : Bool). withRes (u .said) (cond c (resolution (y .after)) (u .said .res))) nz ∙ x in
       stops (turn-end s main t (y .last) rest d (b .scanned (inr (y .scanned))) ∙ ap₂ (λ (n : ℕ) (i : Said). Stop (Ends n i)) end same)
 
-  frame-right : classOf (y .code) ≢ Wrong
-  frame-right e = let z : Frame ≡ Wrong = sym (y .frame) ∙ e in clash cc
-
-  frame-other : y .code ≢ 0xFF
-  frame-other = class-other (y .code) (classOf (y .code)) refl frame-right
+  other-frame : y .code ≢ 0xFF
+  other-frame = frame-other (y .code) (y .frame)
 
   frame-walk : (t : Reach) → Behind (begun (start + 2)) t (y .before) → drop (t .at) s ≡ lengthed (y .fill) (y .code) (y .body) ++ (piecesOf (y .after) ++ (marker (y .last) 0xD9 ++ rest))
       → Walks s main t w
-  unfolding classOf
   frame-walk t b d =
       let tr : t .said .res ≡ said .res = ap (λ (x : Said). x .res) (b .says) ∙ sym res-is in
       let u : Reach = framed t (t .at + y .fill + 2 + (length (y .body) + 2)) (saidBy (y .body) (t .said .res)) in
       let q = b .at in
       let tf : t .framed ≡ false = b .framed in
       goes
-      (turn-frame s main t (y .fill) (y .code) (y .body) (piecesOf (y .after) ++ (marker (y .last) 0xD9 ++ rest)) frame-other d (y .frame) tf (λ k. res-nonzero (sym tr ∙ k)) (y .long)
+      (turn-frame s main t (y .fill) (y .code) (y .body) (piecesOf (y .after) ++ (marker (y .last) 0xD9 ++ rest)) other-frame d (y .frame) tf (λ k. res-nonzero (sym tr ∙ k)) (y .long)
       (λ k. y .high (ap (λ (x : Said). x .height) (y .says) ∙ k)) (λ k. y .wide (ap (λ (x : Said). x .width) (y .says) ∙ k))
       (says-components (getD (y .body) 5 0) .shown (subst Components (ap (λ (x : Said). x .components) (y .says)) (y .counted))))
       (pieces-walk s main (y .after) u (marker (y .last) 0xD9 ++ rest) w
-      (rest-at s main t (y .fill) (y .code) (y .body) (piecesOf (y .after) ++ (marker (y .last) 0xD9 ++ rest)) frame-other d)
-      (marker-opens (y .last) 0xD9 rest (λ e. clash cc)) (y .late) (inl refl)
+      (rest-at s main t (y .fill) (y .code) (y .body) (piecesOf (y .after) ++ (marker (y .last) 0xD9 ++ rest)) other-frame d)
+      (marker-opens (y .last) 0xD9 rest end-right) (y .late) (inl refl)
       (inl (λ k. res-nonzero (sym tr ∙ k)))
       (λ v c f. last-walk u v c (omega arith) (ap (saidBy (y .body)) (tr ∙ res-is) ∙ sym (y .says)) f))
 
@@ -370,7 +366,7 @@ module _ (s : List ℕ) (start main : ℕ) (l rest : List ℕ) (said : Said) (y 
       let h = t .0 in
       let k =
       pieces-walk s main (y .before) (begun (start + 2)) (lengthed (y .fill) (y .code) (y .body) ++ (piecesOf (y .after) ++ (marker (y .last) 0xD9 ++ rest)))
-      w (t .3) (lengthed-opens (y .fill) (y .code) (y .body) (piecesOf (y .after) ++ (marker (y .last) 0xD9 ++ rest)) frame-right) (each-good (y .before) (y .early))
+      w (t .3) (lengthed-opens (y .fill) (y .code) (y .body) (piecesOf (y .after) ++ (marker (y .last) 0xD9 ++ rest)) (frame-right (y .code) (y .frame))) (each-good (y .before) (y .early))
       (inr (each-scanless (y .before) (y .early))) (inr res-resolves)
       (λ u b d. frame-walk u b d) in
       simp (le-ltb (length s) (start + 2) h, eq-eqb (getD s start 0) 0xFF (t .1), eq-eqb (getD s (start + 1) 0) 0xD8 (t .2))

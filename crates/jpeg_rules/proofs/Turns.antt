@@ -24,28 +24,30 @@ use Rattle.jpeg_rules.specs.declared.Said.{Said}
 use Rattle.jpeg_rules.specs.declared.Reach.{Reach}
 use Rattle.jpeg_rules.specs.declared.Walk.the-variants.{Ends}
 use Rattle.jpeg_rules.specs.declared.Turn.the-variants.{Go, Stop}
+use Rattle.jpeg_rules.specs.Codes.{IsFrame, HasLength}
 use Rattle.jpeg_rules.specs.Marker.{classOf}
 use Rattle.jpeg_rules.specs.Grammar.{marker, Data, lengthed, g3fax, tagged, saidBy}
 use Rattle.jpeg_rules.specs.Walk.{segOf, resolves, tagOf, framed, passed, moved, refused, onBody, onTag, frameSaid, componentsOk, frameBodyOf, frameOf, scanStepOf, segmentOf, markOf, onMarker, turnOf}
+use Rattle.jpeg_rules.proofs.Codes.{Coded, coded-class}
 use Rattle.jpeg_rules.proofs.Leaves.{seg-there}
 use Rattle.jpeg_rules.proofs.Runs.{begins-there, marker-there}
 use Rattle.jpeg_rules.proofs.Scans.{Opens, scan-there}
 
 module _ (s : List ℕ) (main : ℕ) (st : Reach) where
-  pub turn-class : (f c : ℕ) (r : List ℕ) (k : Class) → c ≢ 0xFF → drop (st .at) s ≡ marker f c ++ r → classOf c ≡ k
+  pub turn-class : (f c : ℕ) (r : List ℕ) (k : Class) → c ≢ 0xFF → drop (st .at) s ≡ marker f c ++ r → Coded k c
       → turnOf s main st ≡ markOf s main st c (st .at + f + 2) k
   unfolding turnOf
   turn-class f c r k d e h =
       ap (λ (m : Marker). onMarker m (st .at) (λ (c n : ℕ). markOf s main st c n (classOf c))) (marker-there s (st .at) f c r d e)
-      ∙ ap (markOf s main st c (st .at + f + 2)) h
+      ∙ ap (markOf s main st c (st .at + f + 2)) (coded-class c k h)
 
   pub turn-alone : (f : ℕ) (r : List ℕ) → drop (st .at) s ≡ marker f 0x01 ++ r → turnOf s main st ≡ Go (moved st (st .at + f + 2) (st .said .res))
-  unfolding markOf classOf
+  unfolding markOf
   turn-alone f r e = turn-class f 0x01 r Alone (λ z. omega arith) e refl
 
   pub turn-end : (f : ℕ) (r : List ℕ) → drop (st .at) s ≡ marker f 0xD9 ++ r → st .scanned ≡ true
       → turnOf s main st ≡ Stop (Ends (st .at + f + 2) (st .said))
-  unfolding markOf classOf
+  unfolding markOf
   turn-end f r e h =
       turn-class f 0xD9 r End (λ z. omega arith) e refl
       ∙ ap (λ (b : Bool). cond b (Stop (Ends (st .at + f + 2) (st .said))) (refused (BadLayer (st .at)))) h
@@ -141,7 +143,7 @@ module _ (s : List ℕ) (main : ℕ) (st : Reach) where
 
     -- ---- a segment
 
-    pub segment-opened : (t : Tag) → tagOf s st c (st .at + f + 2) ≡ t → classOf c ≡ Segment
+    pub segment-opened : (t : Tag) → tagOf s st c (st .at + f + 2) ≡ t → HasLength c
         → turnOf s main st ≡ onTag t (Go (moved st (st .at + f + 2 + (length body + 2)) (st .said .res)))
         (λ (v : ℕ). cond (resolves main v) (Go (moved st (st .at + f + 2 + (length body + 2)) v)) (refused (BadRes (st .at + f + 2 + 10))))
     unfolding markOf segmentOf
@@ -159,11 +161,11 @@ module _ (s : List ℕ) (main : ℕ) (st : Reach) where
         (λ (v : ℕ). cond (resolves main v) (Go (moved st (st .at + f + 2 + (length body + 2)) v)) (refused (BadRes (st .at + f + 2 + 10)))))
         q
 
-    pub turn-plain : classOf c ≡ Segment → eqb (st .said .res) 0 && tagged c body ≡ false
+    pub turn-plain : HasLength c → eqb (st .said .res) 0 && tagged c body ≡ false
         → turnOf s main st ≡ Go (moved st (st .at + f + 2 + (length body + 2)) (st .said .res))
     turn-plain k h = segment-opened Plain (tag-of ∙ ap (λ (b : Bool). cond b (Gives (be16At s (st .at + f + 2 + 10))) Plain) h) k
 
-    pub turn-tag : classOf c ≡ Segment → eqb (st .said .res) 0 && tagged c body ≡ true → 10 ≤ length body → resolves main (be16At body 8) ≡ true
+    pub turn-tag : HasLength c → eqb (st .said .res) 0 && tagged c body ≡ true → 10 ≤ length body → resolves main (be16At body 8) ≡ true
         → turnOf s main st ≡ Go (moved st (st .at + f + 2 + (length body + 2)) (be16At body 8))
     turn-tag k h g v =
         let z : st .at + f + 2 + 2 + 8 ≡ st .at + f + 2 + 10 = omega arith in
@@ -182,7 +184,7 @@ module _ (s : List ℕ) (main : ℕ) (st : Reach) where
         let d = octet-is 5 (st .at + f + 2 + 7) (let z : st .at + f + 2 + 2 + 5 ≡ st .at + f + 2 + 7 = omega arith in z) (omega arith) in
         λ i. record { width = b i; height = a i; res = st .said .res; components = d i }
 
-    pub turn-frame : classOf c ≡ Frame → st .framed ≡ false → st .said .res ≢ 0 → 8 ≤ length body + 2 → be16At body 1 ≢ 0 → be16At body 3 ≢ 0
+    pub turn-frame : IsFrame c → st .framed ≡ false → st .said .res ≢ 0 → 8 ≤ length body + 2 → be16At body 1 ≢ 0 → be16At body 3 ≢ 0
         → componentsOk (getD body 5 0) ≡ true
         → turnOf s main st ≡ Go (framed st (st .at + f + 2 + (length body + 2)) (saidBy body (st .said .res)))
     unfolding markOf frameOf frameBodyOf
@@ -202,7 +204,7 @@ pub turn-scan : (s : List ℕ) (main : ℕ) (st : Reach) (f : ℕ) (header scann
     → drop (st .at) s ≡ lengthed f 0xDA header ++ (scanned ++ l) → Data scanned → Opens l → st .framed ≡ true
     → (turnOf s main st ≡ Go (passed st (st .at + f + 2 + (length header + 2) + length scanned)))
     × (drop (st .at + f + 2 + (length header + 2) + length scanned) s ≡ l)
-unfolding markOf scanStepOf classOf
+unfolding markOf scanStepOf
 turn-scan s main st f header scanned l e d o fr =
     let tail : List ℕ = scanned ++ l in
     let b = rest-at s main st f 0xDA header tail scan-other e in

@@ -25,9 +25,8 @@ use lib.ListN.{length, getD, replicate}
 use lib.Dec.{eqb}
 use Rattle.octets.specs.Octets.{be16At, octets16}
 use Rattle.sheet_rules.specs.Sentences.{Listed}
-use Rattle.jpeg_rules.specs.declared.Class.the-variants.{Frame, Scan, End, Wrong, Segment}
 use Rattle.jpeg_rules.specs.declared.Fault.{Fault}
-use Rattle.jpeg_rules.specs.Marker.{classOf}
+use Rattle.jpeg_rules.specs.Codes.{IsFrame, IsFault, HasLength}
 use Rattle.jpeg_rules.specs.Grammar.{marker, DataRun, Data, Piece, alone, segment, scan, lengthed, octetsOf, Fits, Good, tagged, Components}
 
 -- ---- what may stand where a marker is due
@@ -64,7 +63,7 @@ Resolves main r = Listed r × (r ∣ main)
 
 -- exactly one frame, and before it the resolution
 pub record FrameDue (k : Known) (c : ℕ) : Type 0 where
-  pub code : classOf c ≡ Frame
+  pub code : IsFrame c
   pub first : k .framed ≡ false
   pub resolved : k .res ≢ 0
 
@@ -100,8 +99,8 @@ pub data Endless : List ℕ → Type 0 where
   in-run : {d : List ℕ} (fill : ℕ) → Data d → Endless (d ++ (0xFF ∷ replicate fill 0xFF))
 
 pub data Least (k : Known) : ℕ → ℕ → Type 0 where
-  of-segment : {c : ℕ} → classOf c ≡ Segment → Least k c 2
-  of-scan : {c : ℕ} → classOf c ≡ Scan → k .framed ≡ true → Least k c 2
+  of-segment : {c : ℕ} → HasLength c → Least k c 2
+  of-scan : k .framed ≡ true → Least k 0xDA 2
   of-frame : {c : ℕ} → FrameDue k c → Least k c 8
 
 -- the length stands at n: it does not fit, it is below the least, or the body after it passes the end, and is not judged
@@ -118,13 +117,13 @@ pub data BadMarker (main : ℕ) (k : Known) (p : ℕ) : List ℕ → Fault → T
   cut-run : (fill : ℕ) → BadMarker main k p (0xFF ∷ replicate fill 0xFF) (Fault.Short p)
   no-marker : (x y : ℕ) (r : List ℕ) → x ≢ 0xFF → BadMarker main k p (x ∷ y ∷ r) (Fault.BadLayer p)
   -- D0 to D7 and a second D8, 00 and 02 to BF
-  wrong-code : (fill c : ℕ) (r : List ℕ) → c ≢ 0xFF → classOf c ≡ Wrong → BadMarker main k p (marker fill c ++ r) (Fault.BadLayer p)
+  wrong-code : (fill c : ℕ) (r : List ℕ) → c ≢ 0xFF → IsFault c → BadMarker main k p (marker fill c ++ r) (Fault.BadLayer p)
   -- exactly one frame; a missing frame, scan or resolution is faulted at the marker where it was due
-  second-frame : (fill c : ℕ) (r : List ℕ) → classOf c ≡ Frame → k .framed ≡ true → BadMarker main k p (marker fill c ++ r) (Fault.BadLayer p)
-  no-resolution : (fill c : ℕ) (r : List ℕ) → classOf c ≡ Frame → k .framed ≡ false → k .res ≡ 0
+  second-frame : (fill c : ℕ) (r : List ℕ) → IsFrame c → k .framed ≡ true → BadMarker main k p (marker fill c ++ r) (Fault.BadLayer p)
+  no-resolution : (fill c : ℕ) (r : List ℕ) → IsFrame c → k .framed ≡ false → k .res ≡ 0
       → BadMarker main k p (marker fill c ++ r) (Fault.BadLayer p)
-  no-frame : (fill c : ℕ) (r : List ℕ) → classOf c ≡ Scan → k .framed ≡ false → BadMarker main k p (marker fill c ++ r) (Fault.BadLayer p)
-  no-scan : (fill c : ℕ) (r : List ℕ) → classOf c ≡ End → k .scanned ≡ false → BadMarker main k p (marker fill c ++ r) (Fault.BadLayer p)
+  no-frame : (fill : ℕ) (r : List ℕ) → k .framed ≡ false → BadMarker main k p (marker fill 0xDA ++ r) (Fault.BadLayer p)
+  no-scan : (fill : ℕ) (r : List ℕ) → k .scanned ≡ false → BadMarker main k p (marker fill 0xD9 ++ r) (Fault.BadLayer p)
   -- the length, or a body that passes the end
   bad-length : {f : Fault} (fill c least : ℕ) (r : List ℕ) → Least k c least → BadLength least (p + fill + 2) r f
       → BadMarker main k p (marker fill c ++ r) f

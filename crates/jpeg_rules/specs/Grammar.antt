@@ -17,9 +17,8 @@ use lib.ListN.{length, getD, replicate}
 use lib.Dec.{eqb, leb}
 use Rattle.octets.specs.Octets.{be16At, octets16, begins}
 use Rattle.sheet_rules.specs.Sentences.{Listed}
-use Rattle.jpeg_rules.specs.declared.Class.the-variants.{Frame, Segment}
 use Rattle.jpeg_rules.specs.declared.Said.{Said}
-use Rattle.jpeg_rules.specs.Marker.{classOf}
+use Rattle.jpeg_rules.specs.Codes.{IsFrame, HasLength}
 
 -- T.81 B.1.1.2: any marker may be preceded by octets FF
 unfoldable pub marker : ℕ → ℕ → List ℕ
@@ -60,7 +59,7 @@ Fits body = length body + 2 < 65536
 
 unfoldable pub Good : Piece → Type 0
 Good (alone fill) = Unit {0}
-Good (segment fill c body) = (classOf c ≡ Segment) × Fits body
+Good (segment fill c body) = HasLength c × Fits body
 Good (scan fill header scanned) = Fits header × Data scanned
 
 unfoldable pub isScan : Piece → Bool
@@ -114,7 +113,7 @@ pub record Layer (main : ℕ) (l : List ℕ) (said : Said) : Type 0 where
   pub early : Each (λ p. Good p × (isScan p ≡ false)) before
   pub late : Each Good after
   -- the frame: its length at least 8, its width and height not 0, its components one or three
-  pub frame : classOf code ≡ Frame
+  pub frame : IsFrame code
   pub long : 8 ≤ length body + 2
   pub fits : Fits body
   pub says : said ≡ saidBy body (resolution before)

@@ -1,3 +1,4 @@
+pub mod Codes
 pub mod Marker
 pub mod Said
 pub mod Grammar
