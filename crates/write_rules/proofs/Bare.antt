@@ -43,12 +43,15 @@ bare-exactly r q = (told, shown)
           base1 = ap (λ (z : Record). z .base1) e;
           base2 = ap (λ (z : Record). z .base2) e;
           octet17 = ap (λ (z : Record). z .octet17) e;
-          start = λ u. sym (start-stays r u) ∙ ap (λ (z : Record). z .start) e ∙ start-stays q (sym l ∙ u);
+          start = λ u.
+              let a : bare r .start ≡ r .start = start-stays r u in
+              let b : bare q .start ≡ q .start = start-stays q (sym l ∙ u) in
+              sym a ∙ ap (λ (z : Record). z .start) e ∙ b;
           len = l;
           octets26 = ap (λ (z : Record). z .octets26) e;
         }
 
-    start-by : ButForStart r q → cond (coded r) 0 (r .start) ≡ cond (coded q) 0 (q .start)
+    start-by : ButForStart r q → bare r .start ≡ bare q .start
     start-by k =
         ⊎-elim (λ (c : coded r ≡ true). start-gone r c ∙ sym (start-gone q (sym (coded-same r q (k .len)) ∙ c)))
         (λ (c : coded r ≡ false). let u = uncoded-is r c in start-stays r u ∙ k .start u ∙ sym (start-stays q (sym (k .len) ∙ u)))
