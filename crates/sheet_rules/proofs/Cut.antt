@@ -4,7 +4,7 @@ use mathlib.Core.Path.{_≡_, refl, sym, ap, _∙_}
 use Prim.Native.Nat.{ℕ, _+_, _*_, _/_, _%_, _≤_, _<_}
 use native.Mathlib.Nat.{add-assoc, add-zero}
 use native.Mathlib.Omega.{arith}
-use mathlib.Core.List.{List, _∷_, _++_}
+use mathlib.Core.List.{List, [], _∷_, _++_}
 use lib.Dec.{lit<, lit≤}
 use lib.ListN.{length, getD, drop, List·getD-eq-default, List·getD-append}
 use lib.Seq.{getD-drop}
@@ -47,14 +47,17 @@ record-entry = record { some = lit< tt; own = λ s t i j e. record-octets s t (i
 
 -- octets that stand there are those that their record is put as
 module _ (s : List ℕ) (o : Octets s) (at : ℕ) (h : at + recordSize ≤ length s) where
+  further : (k n : ℕ) (l : List ℕ) → drop (at + k) s ≡ l ++ drop (at + k + n) s → drop (at + k) s ≡ l ++ drop (at + (k + n)) s
+  further k n l e = e ∙ ap (λ (j : ℕ). l ++ drop j s) (add-assoc at k n)
+
   one : (k : ℕ) → k < recordSize → drop (at + k) s ≡ getD s (at + k) 0 ∷ drop (at + (k + 1)) s
-  one k l = drop-octet s (at + k) (omega arith) ∙ ap (λ (j : ℕ). getD s (at + k) 0 ∷ drop j s) (add-assoc at k 1)
+  one k g = further k 1 (getD s (at + k) 0 ∷ []) (drop-octet s (at + k) (omega arith))
 
   two : (k : ℕ) → k + 2 ≤ recordSize → drop (at + k) s ≡ octets16 (be16At s (at + k)) ++ drop (at + (k + 2)) s
-  two k l = be16-stands s (at + k) o (omega arith) ∙ ap (λ (j : ℕ). octets16 (be16At s (at + k)) ++ drop j s) (add-assoc at k 2)
+  two k g = further k 2 (octets16 (be16At s (at + k))) (be16-stands s (at + k) o (omega arith))
 
   four : (k : ℕ) → k + 4 ≤ recordSize → drop (at + k) s ≡ octets32 (be32At s (at + k)) ++ drop (at + (k + 4)) s
-  four k l = be32-stands s (at + k) o (omega arith) ∙ ap (λ (j : ℕ). octets32 (be32At s (at + k)) ++ drop j s) (add-assoc at k 4)
+  four k g = further k 4 (octets32 (be32At s (at + k))) (be32-stands s (at + k) o (omega arith))
 
   record-stands : drop at s ≡ encode (recordFrom s at) ++ drop (at + recordSize) s
   unfolding encode octets16 octets32

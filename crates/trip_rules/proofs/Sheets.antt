@@ -1,21 +1,24 @@
 -- Records that are the same but for the starts of coded ones: their sheets, octet by octet, and the layers that they name.
 -- Assumes nothing.
-use Prim.Native.Nat.{ℕ, _+_, _-_, _<_}
+use Prim.Native.Nat.{ℕ, _+_, _-_, _*_, _/_, _%_, _≤_, _<_}
+use native.Mathlib.Nat.{add-assoc}
 use native.Mathlib.Omega.{arith}
-use mathlib.Core.Path.{_≡_, sym, ap, _∙_}
-use mathlib.Core.Logic.{_⊎_, inl, inr}
+use mathlib.Core.Path.{_≡_, sym, ap, subst, _∙_}
+use mathlib.Core.Logic.{_↔_, _⊎_, inl, inr}
 use mathlib.Core.List.{List, [], map}
 use lib.ListN.{length, getD, take, drop, length-map, List·getD-map}
-use lib.Seq.{getD-take, getD-drop}
+use lib.Dec.{lit<, lit≤}
+use lib.Seq.{getD-take, getD-drop, ext-getD}
+use Rattle.octets.specs.Octets.{Octets, be16At, be32At}
+use Rattle.octets.proofs.Laws.{be16-same, be32-same}
 use Rattle.octets.proofs.Entries.{joined-length, joined-entry, joined-octet}
 use Rattle.sheet_rules.specs.declared.Record.{Record}
-use Rattle.sheet_rules.specs.Record.{recordAt, encode, sheetOf, blank, nth}
+use Rattle.sheet_rules.specs.Record.{recordSize, recordAt, encode, sheetOf, records, rest, blank, nth}
 use Rattle.sheet_rules.specs.Sentences.{Uncoded}
-use Rattle.sheet_rules.proofs.Cut.{record-entry}
+use Rattle.sheet_rules.proofs.Cut.{record-entry, records-count, record-nth, sheet-octets}
 use Rattle.write_rules.specs.Layer.{layerOctets}
 use Rattle.write_rules.specs.Form.{bare, ButForStart}
-use Rattle.write_rules.proofs.Bare.{bare-exactly}
-use Rattle.write_rules.proofs.Mode1Records.{record-by}
+use Rattle.write_rules.proofs.Bare.{start-same, bare-exactly}
 use Rattle.trip_rules.specs.Trips.{Stays, SameButStarts, SameLayers}
 
 -- ---- one record
@@ -30,9 +33,7 @@ module _ (r q : Record) (k : ButForStart r q) where
   behind-same = cc
 
   uncoded-same : Uncoded r → r ≡ q
-  uncoded-same u =
-      record-by r q (k .stripe) (k .layer) (k .coder) (k .x) (k .y) (k .width) (k .height) (k .res) (k .base0) (k .base1) (k .base2) (k .octet17)
-      (k .start u) (k .len) (k .octets26)
+  uncoded-same u = start-same r q k (r .start) (q .start) (k .start u)
 
   octet-same : (j : ℕ) → (j < 18) ⊎ (21 < j) ⊎ Uncoded r → getD (encode r) j 0 ≡ getD (encode q) j 0
   octet-same j (inl h) = sym (getD-take 18 (encode r) j 0 h) ∙ ap (λ (l : List ℕ). getD l j 0) front-same ∙ getD-take 18 (encode q) j 0 h
@@ -61,8 +62,8 @@ module _ (rs qs : List Record) (same : map bare qs ≡ map bare rs) where
 
   stays-of : (i j : ℕ) → i < length rs → Stays (sheetOf rs) i j → (j < 18) ⊎ (21 < j) ⊎ Uncoded (nth rs i)
   unfolding recordAt
-  stays-of i j h (inl b) = inl b
-  stays-of i j h (inr (inl b)) = inr (inl b)
+  stays-of i j h (inl b) = inl (omega arith)
+  stays-of i j h (inr (inl b)) = inr (inl (omega arith))
   stays-of i j h (inr (inr z)) = inr (inr (sym (ap (λ (r : Record). r .len) (record-of rs i h)) ∙ z))
 
   pub sheets-same : SameButStarts (sheetOf rs) (sheetOf qs)
@@ -88,3 +89,65 @@ module _ (rs qs : List Record) (same : map bare qs ≡ map bare rs) where
       ∙ ap (λ (l : List (List ℕ)). getD l i []) e
       ∙ List·getD-map (layerOctets d) rs i blank
       ∙ sym (ap (layerOctets d) (record-of rs i (omega arith)))
+
+-- ---- and octet by octet the same sheets have the same records
+
+module _ (s t : List ℕ) (k : SameButStarts s t) where
+  module _ (i : ℕ) (h : i < length s / recordSize) where
+    octet : (j : ℕ) → j < recordSize → Stays s i j → getD s (i * recordSize + j) 0 ≡ getD t (i * recordSize + j) 0
+    octet j g y = sym (k .octets i j g (omega arith) y)
+
+    span : (j n : ℕ) → j + n ≤ recordSize → ((m : ℕ) → m < n → Stays s i (j + m)) → (m : ℕ) → m < n
+        → getD s (i * recordSize + j + m) 0 ≡ getD t (i * recordSize + j + m) 0
+    span j n g y m l = rw add-assoc (octet (j + m) (omega arith) (y m l))
+
+    two : (j : ℕ) → j + 2 ≤ recordSize → ((m : ℕ) → m < 2 → Stays s i (j + m)) → be16At s (i * recordSize + j) ≡ be16At t (i * recordSize + j)
+    two j g y = be16-same s t (i * recordSize + j) (i * recordSize + j) (span j 2 g y)
+
+    four : (j : ℕ) → j + 4 ≤ recordSize → ((m : ℕ) → m < 4 → Stays s i (j + m)) → be32At s (i * recordSize + j) ≡ be32At t (i * recordSize + j)
+    four j g y = be32-same s t (i * recordSize + j) (i * recordSize + j) (span j 4 g y)
+
+    record-same : ButForStart (recordAt s i) (recordAt t i)
+    unfolding recordAt
+    record-same =
+        record {
+          stripe = be16-same s t (i * recordSize) (i * recordSize) (λ m l. octet m (omega arith) (inl (omega arith)));
+          layer = octet 2 (lit< tt) (inl (lit< tt));
+          coder = octet 3 (lit< tt) (inl (lit< tt));
+          x = two 4 (lit≤ tt) (λ m l. inl (omega arith));
+          y = two 6 (lit≤ tt) (λ m l. inl (omega arith));
+          width = two 8 (lit≤ tt) (λ m l. inl (omega arith));
+          height = two 10 (lit≤ tt) (λ m l. inl (omega arith));
+          res = two 12 (lit≤ tt) (λ m l. inl (omega arith));
+          base0 = octet 14 (lit< tt) (inl (lit< tt));
+          base1 = octet 15 (lit< tt) (inl (lit< tt));
+          base2 = octet 16 (lit< tt) (inl (lit< tt));
+          octet17 = octet 17 (lit< tt) (inl (omega arith));
+          start = λ u. four 18 (lit≤ tt) (λ m l. inr (inr u));
+          len = four 22 (lit≤ tt) (λ m l. inr (inl (omega arith)));
+          octets26 = two 26 (lit≤ tt) (λ m l. inr (inl (omega arith)));
+        }
+
+  records-same : map bare (records t) ≡ map bare (records s)
+  records-same =
+      let a = records-count s in
+      let b = records-count t in
+      let c = length-map (records s) bare in
+      let d = length-map (records t) bare in
+      let l = k .long in
+      ext-getD (bare blank) (map bare (records t)) (map bare (records s)) (omega arith)
+      (λ i h. let g : i < length s / recordSize = omega arith in
+      List·getD-map bare (records t) i blank
+      ∙ ap bare (record-nth t i (omega arith))
+      ∙ sym (bare-exactly (recordAt s i) (recordAt t i) .1 (record-same i g))
+      ∙ ap bare (sym (record-nth s i g))
+      ∙ sym (List·getD-map bare (records s) i blank))
+
+pub same-exactly : (s t : List ℕ) → Octets s → Octets t → rest s ≡ 0 → SameButStarts s t ↔ (length t ≡ length s) × (map bare (records t) ≡ map bare (records s))
+same-exactly s t os ot w = (
+  λ k. (k .long, records-same s t k),
+  λ e.
+      subst (λ (x : List ℕ). SameButStarts x t) (sheet-octets s os w)
+      (subst (SameButStarts (sheetOf (records s))) (sheet-octets t ot (ap (λ (n : ℕ). n % recordSize) (e .0) ∙ w))
+      (sheets-same (records s) (records t) (e .1))),
+)

@@ -10,7 +10,7 @@ use Rattle.laws.proofs.Cases.{bool-else}
 use Rattle.sheet_rules.specs.declared.Record.{Record}
 use Rattle.sheet_rules.specs.Judge.{coded}
 use Rattle.sheet_rules.specs.Sentences.{Uncoded}
-use Rattle.write_rules.specs.Form.{bare, ButForStart}
+use Rattle.write_rules.specs.Form.{startAt, bare, ButForStart}
 use Rattle.write_rules.proofs.Placed.{uncoded-is}
 use Rattle.write_rules.proofs.Mode1Records.{record-by}
 
@@ -22,6 +22,12 @@ start-stays r u = ap (λ (b : Bool). cond (not b) 0 (r .start)) (eq-eqb (r .len)
 
 start-gone : (r : Record) → coded r ≡ true → cond (coded r) 0 (r .start) ≡ 0
 start-gone r c = ap (λ (b : Bool). cond b 0 (r .start)) c
+
+-- with the same start they are the same
+pub start-same : (r q : Record) → ButForStart r q → (n m : ℕ) → n ≡ m → startAt r n ≡ startAt q m
+start-same r q k n m e =
+    record-by (startAt r n) (startAt q m) (k .stripe) (k .layer) (k .coder) (k .x) (k .y) (k .width) (k .height) (k .res)
+    (k .base0) (k .base1) (k .base2) (k .octet17) e (k .len) (k .octets26)
 
 pub bare-exactly : (r q : Record) → bare r ≡ bare q ↔ ButForStart r q
 unfolding bare
@@ -58,6 +64,4 @@ bare-exactly r q = (told, shown)
         (bool-else (coded r))
 
     shown : ButForStart r q → bare r ≡ bare q
-    shown k =
-        record-by (bare r) (bare q) (k .stripe) (k .layer) (k .coder) (k .x) (k .y) (k .width) (k .height) (k .res)
-        (k .base0) (k .base1) (k .base2) (k .octet17) (start-by k) (k .len) (k .octets26)
+    shown k = start-same r q k (bare r .start) (bare q .start) (start-by k)
