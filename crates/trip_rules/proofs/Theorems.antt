@@ -88,10 +88,12 @@ module _ (p buf : List ℕ) (r : Report) (buf′ : List ℕ) (c : ReadCall p buf
   short : length p ≤ longestPage
   short = read-done p o (length buf) (r .count) .0 answered .short
 
-  module _ (out : List ℕ) (w : Report) (out′ : List ℕ) (k : WriteCall (take (r .count * recordSize) buf′) p out w out′) (fits : length p ≤ length out) where
+  module _ (out : List ℕ) (w : Report) (out′ : List ℕ) (k : WriteCall (take (r .count * recordSize) buf′) p out w out′)
+      (fits : length p ≤ length out) where
     reported : (rs : List Record) → take (r .count * recordSize) buf′ ≡ sheetOf rs → (n : ℕ) → writeOf (sheetOf rs) p (length out) ≡ Done n → w ≡ done n
     reported rs e n d =
-        reports-done (writeOf (take (r .count * recordSize) buf′) p (length out)) w n (k .reports) (ap (λ (s : List ℕ). writeOf s p (length out)) e ∙ d)
+        reports-done (writeOf (take (r .count * recordSize) buf′) p (length out)) w n (k .reports)
+        (ap (λ (s : List ℕ). writeOf s p (length out)) e ∙ d)
 
     held : (rs : List Record) → take (r .count * recordSize) buf′ ≡ sheetOf rs → out′ ≡ writeInto (sheetOf rs) p out
     held rs e = k .holds ∙ ap (λ (s : List ℕ). writeInto s p out) e
@@ -106,28 +108,28 @@ module _ (p buf : List ℕ) (r : Report) (buf′ : List ℕ) (c : ReadCall p buf
         record {
           report = reported rs e (length p) (a .0);
           page = ap (take (length p)) g ∙ put-back out 0 p (omega arith);
-          behind = ap (drop (length p)) g ∙ ap (λ (j : ℕ). drop j (putAt out 0 p)) (sym n) ∙ put-rest out 0 p (omega arith) ∙ ap (λ (j : ℕ). drop j out) n;
+          behind = ap₂ (λ (j : ℕ) (x : List ℕ). drop j x) (sym n) g ∙ put-rest out 0 p (omega arith) ∙ ap (λ (j : ℕ). drop j out) n;
         }
 
     again : Again p (front .list) out
     again = read-write-read p o (front .list) (length p) (page-there p (front .list) (front .page)) short out fits
 
+    reported-again : w ≡ done (again .count)
+    reported-again = reported (front .list) (front .octets) (again .count) (again .done)
+
+    count-again : w .count ≡ again .count
+    count-again = ap (λ (x : Report). x .count) reported-again
+
     -- in any form it is written, in no more octets
     pub read-written : (w ≡ record { number = 0; place = 0; count = w .count }) × (w .count ≤ length p)
-    read-written =
-        let e = reported (front .list) (front .octets) (again .count) (again .done) in
-        let n : w .count ≡ again .count = ap (λ (x : Report). x .count) e in
-        let m = again .most in
-        (e ∙ ap done (sym n), omega arith)
+    read-written = let n = count-again in let m = again .most in (reported-again ∙ ap done (sym n), omega arith)
 
     -- and read again it gives the same report and the same sheet, octet for octet but for octets 18 to 21 of coded records, with the same layers
     pub read-again : (lent : List ℕ) (q : Report) (lent′ : List ℕ) → ReadCall (take (w .count) out′) lent q lent′ → r .count * recordSize ≤ length lent
         → (q ≡ r) × Returned (take (r .count * recordSize) buf′) p (take (w .count) out′) q (take (r .count * recordSize) lent′)
     read-again lent q lent′ y room =
-        let e = reported (front .list) (front .octets) (again .count) (again .done) in
-        let n : w .count ≡ again .count = ap (λ (x : Report). x .count) e in
         let g : take (w .count) out′ ≡ take (again .count) (writeInto (sheetOf (front .list)) p out) =
-        ap₂ (λ (j : ℕ) (x : List ℕ). take j x) n (held (front .list) (front .octets)) in
+        ap₂ (λ (j : ℕ) (x : List ℕ). take j x) count-again (held (front .list) (front .octets)) in
         let a = ap length (front .octets) in
         let b = joined-length record-entry (front .list) in
         let i = front .good .count ∙ ap length (front .cut) in
