@@ -61,8 +61,8 @@ pub page-into : (s d : List ℕ) (rs : List Record) (n : ℕ) → pageOf s ≡ o
     → (readOf s (length d) ≡ Done (length rs)) × (readInto s d ≡ putAt d 0 (sheetOf rs))
 unfolding readOf roomOf readInto intoOf
 page-into s d rs n e short room = (
-  simp (le-ltb longestPage (length s) short, e, le-ltb (length d) (length rs * recordSize) room),
-  simp (le-ltb longestPage (length s) short, e, le-ltb (length d) (length rs * recordSize) room),
+  simp (le-ltb longestPage (length s) short, e, le-ltb (length d) (length rs * recordSize) room) refl,
+  simp (le-ltb longestPage (length s) short, e, le-ltb (length d) (length rs * recordSize) room) refl,
 )
 
 -- ---- a refusal changes no octet, and no answer changes the buffer's length or the octets past the sheet
