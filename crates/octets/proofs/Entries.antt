@@ -1,13 +1,13 @@
--- Laws of entries of a fixed size: how many there are, which is which, one more at the end, what they depend on, and that entries put one after the
--- other are cut into them again.
+-- Laws of entries of a fixed size: how many there are, which is which, one more at the end, what they depend on, that entries put one after the
+-- other are cut into them again, and that octets cut into entries are put as they stood.
 -- Assumes nothing.
 use Prim.Native.Nat.{ℕ, zero, suc, _+_, _-_, _*_, _/_, _%_, _≤_, _<_}
-use native.Mathlib.Nat.{add-zero, add-mul, suc-mul, zero-mul, mul-le-mul-right, mul-div-cancel, mul-mod-left}
+use native.Mathlib.Nat.{add-zero, add-mul, suc-mul, zero-mul, mul-le-mul-right, mul-div-cancel, mul-mod-left, mod-lt, div-add-mod', div-lt-iff-lt-mul}
 use native.Mathlib.Omega.{arith}
 use mathlib.Core.Path.{_≡_, refl, sym, ap, ap₂, _∙_}
 use mathlib.Core.List.{List, [], _∷_, _++_, append-assoc}
-use lib.ListN.{length, getD, take, length-append}
-use lib.Seq.{getD-take, getD-append-add}
+use lib.ListN.{length, getD, take, length-append, List·getD-append}
+use lib.Seq.{getD-take, getD-append-add, ext-getD}
 use Rattle.octets.specs.Entries.{entriesFrom, wholeEntries, joined, Entry}
 
 module _ {A : Type 0} (at : ℕ → A) where
@@ -108,3 +108,38 @@ module _ {A : Type 0} {size : ℕ} {at : List ℕ → ℕ → A} {enc : A → Li
 
   pub joined-rest : (es : List A) → length (joined enc es) % size ≡ 0
   joined-rest es = ap (λ (n : ℕ). n % size) (joined-length es) ∙ mul-mod-left (length es) size
+
+  -- an octet of entries is one of the entry that it stands in
+  pub joined-octet : (d : A) (es : List A) (i m : ℕ) → i < length es → m < size → getD (joined enc es) (i * size + m) 0 ≡ getD (enc (getD es i d)) m 0
+  unfolding joined
+  joined-octet d [] i m h g = absurd (omega arith)
+  joined-octet d (e ∷ es) zero m h g =
+      let n = y .long e in
+      let z = zero-mul size in
+      let p : 0 * size + m ≡ m = omega arith in
+      ap (λ (j : ℕ). getD (enc e ++ joined enc es) j 0) p ∙ List·getD-append (enc e) (joined enc es) 0 m (omega arith)
+  joined-octet d (e ∷ es) (suc i) m h g =
+      let n = y .long e in
+      let z = suc-mul i size in
+      let p : suc i * size + m ≡ length (enc e) + (i * size + m) = omega arith in
+      ap (λ (j : ℕ). getD (enc e ++ joined enc es) j 0) p ∙ getD-append-add (enc e) (joined enc es) (i * size + m) 0 ∙ joined-octet d es i m (omega arith) g
+
+  -- octets of whole entries are those that their entries are put as, if each entry's own are
+  pub whole-joined : A → (s : List ℕ) → length s % size ≡ 0
+      → ((i m : ℕ) → i < length s / size → m < size → getD (enc (at s i)) m 0 ≡ getD s (i * size + m) 0) → joined enc (wholeEntries size at s) ≡ s
+  whole-joined d s none own =
+      let count = length-entries (at s) (length s / size) 0 in
+      let whole : length s / size * size ≡ length s = let e = div-add-mod' (length s) size in omega arith in
+      let long : length (joined enc (wholeEntries size at s)) ≡ length s =
+      joined-length (wholeEntries size at s) ∙ ap (λ (k : ℕ). k * size) count ∙ whole in
+      ext-getD 0 (joined enc (wholeEntries size at s)) s long
+      (λ k h.
+      let e = div-add-mod' k size in
+      let l : k < length s / size * size = omega arith in
+      let i : k / size < length s / size = div-lt-iff-lt-mul (y .some) .1 l in
+      let m = mod-lt k (y .some) in
+      ap (λ (j : ℕ). getD (joined enc (wholeEntries size at s)) j 0) (sym e)
+      ∙ joined-octet d (wholeEntries size at s) (k / size) (k % size) (omega arith) m
+      ∙ ap (λ (x : A). getD (enc x) (k % size) 0) (entry-of (at s) d (length s / size) (k / size) i)
+      ∙ own (k / size) (k % size) i m
+      ∙ ap (λ (j : ℕ). getD s j 0) e)

@@ -8,7 +8,7 @@ use mathlib.Core.Bool.{Bool, true, false, cond}
 use mathlib.Core.List.{List}
 use lib.ListN.{length, take, drop}
 use lib.Dec.{ltb}
-use borrow.Author.Tests.{ltb-false}
+use borrow.Author.Tests.{le-ltb, ltb-false}
 use Rattle.octets.specs.Octets.{Octets, putAt}
 use Rattle.octets.proofs.Laws.{put-back, put-rest, put-length}
 use Rattle.octets.proofs.Entries.{joined-length}
@@ -55,6 +55,16 @@ module _ (s d : List ℕ) (P : Answer → List ℕ → Type 0) where
       by true t = bad TooLong (inr (inr refl))
       by false t = into-room (pageOf s) refl bad (good (ltb-false longestPage (length s) t))
 
+-- ---- a page that is not too long, and room for its sheet
+
+pub page-into : (s d : List ℕ) (rs : List Record) (n : ℕ) → pageOf s ≡ ok rs n → length s ≤ longestPage → length rs * recordSize ≤ length d
+    → (readOf s (length d) ≡ Done (length rs)) × (readInto s d ≡ putAt d 0 (sheetOf rs))
+unfolding readOf roomOf readInto intoOf
+page-into s d rs n e short room = (
+  simp (le-ltb longestPage (length s) short, e, le-ltb (length d) (length rs * recordSize) room) refl,
+  simp (le-ltb longestPage (length s) short, e, le-ltb (length d) (length rs * recordSize) room) refl,
+)
+
 -- ---- a refusal changes no octet, and no answer changes the buffer's length or the octets past the sheet
 
 pub into-kept : (s d : List ℕ) → ((n : ℕ) → readOf s (length d) ≡ Done n → ⊥) → readInto s d ≡ d
@@ -80,6 +90,7 @@ into-rest s d n =
 pub record Front (s : List ℕ) (n : ℕ) (front : List ℕ) : Type 0 where
   pub list : List Record
   pub page : Page s list
+  pub octets : front ≡ sheetOf list
   pub cut : records front ≡ list
   pub good : GoodSheet front n (stripeCount list)
 
@@ -103,6 +114,7 @@ into-front s d o n =
     (record {
       list = rs;
       page = g;
+      octets = refl;
       cut = sheet-back rs;
       good =
           record {

@@ -1,15 +1,17 @@
--- A sheet cut into records: how many, which is which, and that a record depends on its own 28 octets.
+-- A sheet cut into records: how many, which is which, that a record depends on its own 28 octets, and that it is put as they stood.
 -- Assumes nothing.
 use mathlib.Core.Path.{_≡_, refl, sym, ap, _∙_}
 use Prim.Native.Nat.{ℕ, _+_, _*_, _/_, _%_, _≤_, _<_}
 use native.Mathlib.Nat.{add-assoc, add-zero}
 use native.Mathlib.Omega.{arith}
-use mathlib.Core.List.{List, _++_}
-use lib.Dec.{lit<}
-use lib.ListN.{length, getD, List·getD-eq-default}
-use Rattle.octets.specs.Octets.{be16At, be32At}
+use mathlib.Core.List.{List, [], _∷_, _++_}
+use lib.Dec.{lit<, lit≤}
+use lib.ListN.{length, getD, drop, List·getD-eq-default, List·getD-append}
+use lib.Seq.{getD-drop}
+use Rattle.octets.specs.Octets.{be16At, be32At, octets16, octets32, Octets}
+use Rattle.octets.proofs.Laws.{drop-octet, be16-stands, be32-stands}
 use Rattle.octets.specs.Entries.{Entry}
-use Rattle.octets.proofs.Entries.{length-entries, entry-of, joined-whole, joined-rest}
+use Rattle.octets.proofs.Entries.{length-entries, entry-of, joined-whole, joined-rest, whole-joined}
 use Rattle.sheet_rules.specs.declared.Record.{Record}
 use Rattle.sheet_rules.specs.Record.{recordSize, recordFrom, recordAt, encode, sheetOf, records, rest, blank, nth}
 
@@ -43,6 +45,26 @@ pub record-entry : Entry recordSize recordAt encode
 unfolding recordAt
 record-entry = record { some = lit< tt; own = λ s t i j e. record-octets s t (i * recordSize) (j * recordSize) e; long = length-encode; back = record-back }
 
+-- octets that stand there are those that their record is put as
+module _ (s : List ℕ) (o : Octets s) (at : ℕ) (h : at + recordSize ≤ length s) where
+  further : (k n : ℕ) (l : List ℕ) → drop (at + k) s ≡ l ++ drop (at + k + n) s → drop (at + k) s ≡ l ++ drop (at + (k + n)) s
+  further k n l e = e ∙ ap (λ (j : ℕ). l ++ drop j s) (add-assoc at k n)
+
+  one : (k : ℕ) → k < recordSize → drop (at + k) s ≡ getD s (at + k) 0 ∷ drop (at + (k + 1)) s
+  one k g = further k 1 (getD s (at + k) 0 ∷ []) (drop-octet s (at + k) (omega arith))
+
+  two : (k : ℕ) → k + 2 ≤ recordSize → drop (at + k) s ≡ octets16 (be16At s (at + k)) ++ drop (at + (k + 2)) s
+  two k g = further k 2 (octets16 (be16At s (at + k))) (be16-stands s (at + k) o (omega arith))
+
+  four : (k : ℕ) → k + 4 ≤ recordSize → drop (at + k) s ≡ octets32 (be32At s (at + k)) ++ drop (at + (k + 4)) s
+  four k g = further k 4 (octets32 (be32At s (at + k))) (be32-stands s (at + k) o (omega arith))
+
+  record-stands : drop at s ≡ encode (recordFrom s at) ++ drop (at + recordSize) s
+  unfolding encode octets16 octets32
+  record-stands =
+      rw (be16-stands s at o (omega arith), one 2 (lit< tt), one 3 (lit< tt), two 4 (lit≤ tt), two 6 (lit≤ tt), two 8 (lit≤ tt), two 10 (lit≤ tt))
+      (rw (two 12 (lit≤ tt), one 14 (lit< tt), one 15 (lit< tt), one 16 (lit< tt), one 17 (lit< tt), four 18 (lit≤ tt), four 22 (lit≤ tt), two 26 (lit≤ tt)))
+
 -- ---- a sheet cut into records
 
 pub records-count : (s : List ℕ) → length (records s) ≡ length s / recordSize
@@ -60,6 +82,18 @@ sheet-back rs = joined-whole record-entry rs
 
 pub sheet-whole : (rs : List Record) → rest (sheetOf rs) ≡ 0
 sheet-whole rs = joined-rest record-entry rs
+
+-- and octets that are cut into records, none left over, are those that the records are put as
+pub sheet-octets : (s : List ℕ) → Octets s → rest s ≡ 0 → sheetOf (records s) ≡ s
+unfolding records recordAt
+sheet-octets s o w =
+    whole-joined record-entry blank s w
+    (λ i m h g.
+    let at : ℕ = i * recordSize in
+    let n = length-encode (recordFrom s at) in
+    sym (List·getD-append (encode (recordFrom s at)) (drop (at + recordSize) s) 0 m (omega arith))
+    ∙ ap (λ (l : List ℕ). getD l m 0) (sym (record-stands s o at (omega arith)))
+    ∙ getD-drop at s m 0)
 
 -- ---- the second record, layer 2 of the first stripe
 

@@ -5,6 +5,7 @@ pub mod Ready
 pub mod Placed
 pub mod Small
 pub mod Mode1Records
+pub mod Bare
 pub mod Mode1
 pub mod Mode1Octets
 pub mod Modes

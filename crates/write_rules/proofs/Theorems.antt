@@ -7,7 +7,6 @@ use mathlib.Core.Logic.{_↔_, _⊎_, inl, inr}
 use mathlib.Core.List.{List}
 use lib.ListN.{length, take, drop, length-map}
 use lib.Dec.{ltb}
-use borrow.Author.Tests.{le-ltb}
 use Rattle.octets.specs.Octets.{Octets, putAt}
 use Rattle.segment_rules.specs.Rules.{longestPage}
 use Rattle.laws.proofs.Cases.{cond-both}
@@ -21,8 +20,9 @@ use Rattle.sheet_rules.specs.Record.{recordSize, records, sheetOf}
 use Rattle.sheet_rules.proofs.Cut.{records-count}
 use Rattle.sheet_rules.proofs.Theorems.{sheet-refused, refused-few}
 use Rattle.page_rules.specs.Grammar.{Page}
-use Rattle.page_rules.specs.Reading.{roomOf, readOf, intoOf, readInto}
+use Rattle.page_rules.specs.Reading.{readOf, readInto}
 use Rattle.page_rules.proofs.Exactly.{page-there}
+use Rattle.page_rules.proofs.Into.{page-into}
 use Rattle.write_rules.specs.declared.Tally.{Tally}
 use Rattle.write_rules.specs.Writing.{verdictOf, sizeAnswer, answerBy, writeOf, intoBy, writeInto}
 use Rattle.write_rules.specs.Form.{bare, Lands, Formed}
@@ -88,18 +88,15 @@ write-page s d p os o n q = into-lands s d p o (records-sized s os) n (done-into
 pub write-read : (s d p : List ℕ) → Octets s → Octets d → (n : ℕ) → writeOf s d (length p) ≡ Done n → (k : Lands (records s) d (take n (writeInto s d p))) (t : List ℕ)
     → length (records s) * recordSize ≤ length t
     → (readOf (take n (writeInto s d p)) (length t) ≡ Done (length (records s))) × (readInto (take n (writeInto s d p)) t ≡ putAt t 0 (sheetOf (k .records)))
-unfolding readOf roomOf readInto intoOf
 write-read s d p os o n q k t h =
     let i = done-into s d p o n q in
     let ln = into-size s d p o (records-sized s os) n i in
     let sh = i .short in
-    let small : length (take n (writeInto s d p)) ≤ longestPage = omega arith in
     let same : length (k .records) ≡ length (records s) = sym (length-map (k .records) bare) ∙ ap length (k .same) ∙ length-map (records s) bare in
-    let e = page-there (take n (writeInto s d p)) (k .records) (k .page) in
-    let room : length (k .records) * recordSize ≤ length t = subst (λ (j : ℕ). j * recordSize ≤ length t) (sym same) h in (
-      simp (le-ltb longestPage (length (take n (writeInto s d p))) small, e, le-ltb (length t) (length (k .records) * recordSize) room) (ap Done same),
-      simp (le-ltb longestPage (length (take n (writeInto s d p))) small, e, le-ltb (length t) (length (k .records) * recordSize) room),
-    )
+    let r =
+    page-into (take n (writeInto s d p)) t (k .records) (length (take n (writeInto s d p))) (page-there (take n (writeInto s d p)) (k .records) (k .page))
+    (omega arith) (subst (λ (j : ℕ). j * recordSize ≤ length t) (sym same) h) in
+    (r .0 ∙ ap Done same, r .1)
 
 -- ---- every page that is written has the writer's form
 

@@ -2,6 +2,7 @@
 --
 --   startAt r p    the record with another start
 --   bare r         the record without the start of its coded data: all but octets 18 to 21 of a coded record
+--   ButForStart r q    the same in every field, but for the start, and in the start too where the record is not coded
 --   Lands rs d l   the octets l are a page whose sheet is that of the records rs, but for octets 18 to 21 of coded records; and the data of each
 --                  is the data that the buffer d has for it
 --   Trim ..        each stripe of a page has the writer's form
@@ -15,7 +16,7 @@ use mathlib.Core.List.{List, [], map}
 use lib.ListN.{length}
 use Rattle.sheet_rules.specs.declared.Record.{Record}
 use Rattle.sheet_rules.specs.Judge.{coded}
-use Rattle.sheet_rules.specs.Sentences.{Among, Coded}
+use Rattle.sheet_rules.specs.Sentences.{Among, Coded, Uncoded}
 use Rattle.start_rules.specs.declared.Head.{Head}
 use Rattle.page_rules.specs.Grammar.{Stripes, Page}
 use Rattle.body_rules.specs.Body.{last, next}
@@ -44,6 +45,23 @@ startAt r start =
 
 unfoldable pub bare : Record → Record
 bare r = startAt r (cond (coded r) 0 (r .start))
+
+pub record ButForStart (r q : Record) : Type 0 where
+  pub stripe : r .stripe ≡ q .stripe
+  pub layer : r .layer ≡ q .layer
+  pub coder : r .coder ≡ q .coder
+  pub x : r .x ≡ q .x
+  pub y : r .y ≡ q .y
+  pub width : r .width ≡ q .width
+  pub height : r .height ≡ q .height
+  pub res : r .res ≡ q .res
+  pub base0 : r .base0 ≡ q .base0
+  pub base1 : r .base1 ≡ q .base1
+  pub base2 : r .base2 ≡ q .base2
+  pub octet17 : r .octet17 ≡ q .octet17
+  pub start : Uncoded r → r .start ≡ q .start
+  pub len : r .len ≡ q .len
+  pub octets26 : r .octets26 ≡ q .octets26
 
 -- ---- what is written from records and a buffer
 
