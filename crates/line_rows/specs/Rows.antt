@@ -38,7 +38,15 @@ unfoldable pub rowIn : Record → ℕ → MainPos → Start → ℕ → Row
 rowIn r q y Unread other =
     record { from = leftOf r; to = areaEnd (leftOf r) (r .width) q; factor = factorOf q; read = 0; at = 0; other = other; ratio = q }
 rowIn r q y (From a) other =
-    record { from = leftOf r; to = areaEnd (leftOf r) (r .width) q; factor = factorOf q; read = depth r; at = a + scale q (topOf r) y .0 * r .width * depth r; other = other; ratio = q }
+    record {
+      from = leftOf r;
+      to = areaEnd (leftOf r) (r .width) q;
+      factor = factorOf q;
+      read = depth r;
+      at = a + scale q (topOf r) y .0 * r .width * depth r;
+      other = other;
+      ratio = q;
+    }
 
 unfoldable pub rowBy : Record → ℕ → MainPos → Start → ℕ → Row
 unfolding rowIn
