@@ -155,7 +155,7 @@ pub fn tail_of(s: &[u8], d: &[u8], rows: &[usize], pairs: usize, width: usize) -
     while 1 < j {
         let m = line_fetch::row_at(rows, j * 2);
         let r = line_fetch::row_at(rows, j * 2 + 1);
-        let c = paint_image::within(r.from, paint_image::within(m.from, 0, width), width);
+        let c = paint_image::within(r.from.0, paint_image::within(m.from.0, 0, width), width);
         if paint_floor::covers(m, r, c, width) {
             return c;
         }

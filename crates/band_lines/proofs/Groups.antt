@@ -42,13 +42,13 @@ module _ (w : Lane) (y g width : ℕ) (k : Steady w y g width) where
   abbrev rowed : ℕ → Row
   rowed at = record { from = w .from; to = w .to; factor = w .factor; read = w .read; at = at; other = w .other; ratio = w .ratio }
 
-  steady-row : (t : ℕ) → t < g → rowFrom w (record { 0 = y + t }) ≡ rowed (w .start + (y + t - w .top) * w .step)
+  steady-row : (t : ℕ) → t < g → rowFrom w (record { 0 = y + t }) ≡ rowed (w .start + (y + t - w .top .0) * w .step)
   unfolding scale
   steady-row t h =
       let a = k .top in
       let b = k .bottom in
-      let e : (y + t - w .top) / w .ratio ≡ y + t - w .top = ap (λ (n : ℕ). (y + t - w .top) / n) (k .single) ∙ div-one (y + t - w .top) in
-      sym (row-crossed w (record { 0 = y + t }) (scale (w .ratio) (w .top) (record { 0 = y + t })) (w .start + (y + t - w .top) * w .step) (omega arith) (omega arith) refl
+      let e : (y + t - w .top .0) / w .ratio ≡ y + t - w .top .0 = ap (λ (n : ℕ). (y + t - w .top .0) / n) (k .single) ∙ div-one (y + t - w .top .0) in
+      sym (row-crossed w (record { 0 = y + t }) (scale (w .ratio) (w .top) (record { 0 = y + t })) (w .start + (y + t - w .top .0) * w .step) (omega arith) (omega arith) refl
       (ap (λ (n : ℕ). w .start + n * w .step) (sym e)))
 
   -- line by line its samples stand one step further on
@@ -56,10 +56,10 @@ module _ (w : Lane) (y g width : ℕ) (k : Steady w y g width) where
   steady-at t h =
       let a = k .top in
       let z : y + 0 ≡ y = omega arith in
-      let s : y + t - w .top ≡ y - w .top + t = omega arith in
-      let p : (y - w .top + t) * w .step ≡ (y - w .top) * w .step + t * w .step = add-mul (y - w .top) t (w .step) in
-      let q : rowFrom w (record { 0 = y }) .at ≡ w .start + (y - w .top) * w .step
-      = ap (λ (r : Row). r .at) (ap (λ (i : ℕ). rowFrom w (record { 0 = i })) (sym z) ∙ steady-row 0 (omega arith)) ∙ ap (λ (i : ℕ). w .start + (i - w .top) * w .step) z in
+      let s : y + t - w .top .0 ≡ y - w .top .0 + t = omega arith in
+      let p : (y - w .top .0 + t) * w .step ≡ (y - w .top .0) * w .step + t * w .step = add-mul (y - w .top .0) t (w .step) in
+      let q : rowFrom w (record { 0 = y }) .at ≡ w .start + (y - w .top .0) * w .step
+      = ap (λ (r : Row). r .at) (ap (λ (i : ℕ). rowFrom w (record { 0 = i })) (sym z) ∙ steady-row 0 (omega arith)) ∙ ap (λ (i : ℕ). w .start + (i - w .top .0) * w .step) z in
       ap (λ (r : Row). r .at) (steady-row t h) ∙ ap (λ (i : ℕ). w .start + i * w .step) s ∙ ap (λ (i : ℕ). w .start + i) p ∙ omega (arith, q)
 
   pub steady-bit : (d : List ℕ) (t x : ℕ) → t < g → x < width → rowMask d (rowFrom w (record { 0 = y + t })) (record { 0 = x }) ≡ bitOf (getD d (rowFrom w (record { 0 = y }) .at + t * w .step + x) 0)
@@ -68,10 +68,10 @@ module _ (w : Lane) (y g width : ℕ) (k : Steady w y g width) where
       let e = steady-row t h in
       let f = k .from in
       let o = k .to in
-      let i : (x - w .from) / w .ratio ≡ x = ap₂ (λ (m n : ℕ). (x - m) / n) (k .from) (k .single) ∙ div-one (x - 0) ∙ omega arith in
+      let i : (x - w .from .0) / w .ratio ≡ x = ap₂ (λ (m n : ℕ). (x - m) / n) (k .from) (k .single) ∙ div-one (x - 0) ∙ omega arith in
       ap (λ (r : Row). rowMask d r (record { 0 = x })) e
-      ∙ sym (mask-read d (rowed (w .start + (y + t - w .top) * w .step)) (record { 0 = x }) (bitOf (getD d (w .start + (y + t - w .top) * w .step + x) 0)) (scale (w .ratio) (w .from) (record { 0 = x }))
-      (omega arith) (omega arith) (k .read) refl (ap (λ (n : ℕ). bitOf (getD d (w .start + (y + t - w .top) * w .step + n) 0)) (sym i)))
+      ∙ sym (mask-read d (rowed (w .start + (y + t - w .top .0) * w .step)) (record { 0 = x }) (bitOf (getD d (w .start + (y + t - w .top .0) * w .step + x) 0)) (scale (w .ratio) (w .from) (record { 0 = x }))
+      (omega arith) (omega arith) (k .read) refl (ap (λ (n : ℕ). bitOf (getD d (w .start + (y + t - w .top .0) * w .step + n) 0)) (sym i)))
       ∙ ap (λ (n : ℕ). bitOf (getD d (n + x) 0)) (sym (ap (λ (r : Row). r .at) e) ∙ steady-at t h)
 
   -- and they are there
@@ -81,9 +81,9 @@ module _ (w : Lane) (y g width : ℕ) (k : Steady w y g width) where
       let e = steady-row t h in
       let o = k .to in
       let z = k .from in
-      let i : (width - 1 - w .from) / w .ratio ≡ width - 1 = ap₂ (λ (m n : ℕ). (width - 1 - m) / n) (k .from) (k .single) ∙ div-one (width - 1 - 0) ∙ omega arith in
+      let i : (width - 1 - w .from .0) / w .ratio ≡ width - 1 = ap₂ (λ (m n : ℕ). (width - 1 - m) / n) (k .from) (k .single) ∙ div-one (width - 1 - 0) ∙ omega arith in
       let c = subst (MaskFits d) e f .there (record { 0 = width - 1 }) (omega arith) (omega arith) (k .read) in
-      let v : w .start + (y + t - w .top) * w .step ≡ rowFrom w (record { 0 = y }) .at + t * w .step = sym (ap (λ (r : Row). r .at) e) ∙ steady-at t h in
+      let v : w .start + (y + t - w .top .0) * w .step ≡ rowFrom w (record { 0 = y }) .at + t * w .step = sym (ap (λ (r : Row). r .at) e) ∙ steady-at t h in
       omega (arith, i, c, v)
 
 -- ---- a pixel of a line of the group

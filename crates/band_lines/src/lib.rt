@@ -27,7 +27,7 @@ fn unread(rows: &[usize], j: usize) -> bool
 {
     let m = line_fetch::row_at(rows, j * 2);
     let r = line_fetch::row_at(rows, j * 2 + 1);
-    (m.read == 0) & (r.read == 0) & (m.from < m.to) & (r.from < r.to)
+    (m.read == 0) & (r.read == 0) & (m.from.0 < m.to.0) & (r.from.0 < r.to.0)
 }
 
 // Two paintings serve a group: that is worth it for three lines, and for two where the second painting is cheap: over three layers, where layer 3 was not
@@ -46,7 +46,7 @@ fn worth(rows: &[usize], pairs: usize, g: usize) -> bool
         return true;
     }
     let r = line_fetch::row_at(rows, 3);
-    if (r.read == 0) & (r.from < r.to) {
+    if (r.read == 0) & (r.from.0 < r.to.0) {
         return true;
     }
     let mut j = 1;

@@ -41,14 +41,14 @@ same-div k n t h g =
     div-eq-of-lt-le k (omega arith) (omega arith)
 
 module _ (w : Lane) (y : ℕ) where
-  pub same-above : y < w .top → Same w y (w .top - y)
+  pub same-above : y < w .top .0 → Same w y (w .top .0 - y)
   same-above h =
       record {
         some = omega arith;
         row = λ t k. sym (row-above w (record { 0 = y + t }) (rowOut (w .other)) (omega arith) refl) ∙ row-above w (record { 0 = y }) (rowOut (w .other)) h refl;
       }
 
-  pub same-below : w .bottom ≤ y → Same w y 65536
+  pub same-below : w .bottom .0 ≤ y → Same w y 65536
   same-below h =
       record {
         some = omega arith;
@@ -58,13 +58,13 @@ module _ (w : Lane) (y : ℕ) where
   rowed : ℕ → Row
   rowed at = record { from = w .from; to = w .to; factor = w .factor; read = w .read; at = at; other = w .other; ratio = w .ratio }
 
-  crossed : (t : ℕ) → w .top ≤ y + t → y + t < w .bottom
+  crossed : (t : ℕ) → w .top .0 ≤ y + t → y + t < w .bottom .0
       → rowed (w .start + scale (w .ratio) (w .top) (record { 0 = y + t }) .0 * w .step) ≡ rowFrom w (record { 0 = y + t })
   unfolding rowed
   crossed t a b = row-crossed w (record { 0 = y + t }) (scale (w .ratio) (w .top) (record { 0 = y + t })) (w .start + scale (w .ratio) (w .top) (record { 0 = y + t }) .0 * w .step) a b refl refl
 
   -- where the places of the rows are the same, so are the rows
-  same-places : (n : ℕ) → 1 ≤ n → w .top ≤ y → y + n ≤ w .bottom
+  same-places : (n : ℕ) → 1 ≤ n → w .top .0 ≤ y → y + n ≤ w .bottom .0
       → ((t : ℕ) → t < n → scale (w .ratio) (w .top) (record { 0 = y + t }) .0 * w .step ≡ scale (w .ratio) (w .top) (record { 0 = y }) .0 * w .step) → Same w y n
   same-places n h a b p =
       record {
@@ -75,15 +75,15 @@ module _ (w : Lane) (y : ℕ) where
             ∙ subst (λ (i : ℕ). rowed (w .start + scale (w .ratio) (w .top) (record { 0 = i }) .0 * w .step) ≡ rowFrom w (record { 0 = i })) z (crossed 0 (omega arith) (omega arith));
       }
 
-  pub same-step : w .top ≤ y → y < w .bottom → w .step ≡ 0 → Same w y (w .bottom - y)
+  pub same-step : w .top .0 ≤ y → y < w .bottom .0 → w .step ≡ 0 → Same w y (w .bottom .0 - y)
   same-step a b e =
-      same-places (w .bottom - y) (omega arith) (omega arith) (omega arith)
+      same-places (w .bottom .0 - y) (omega arith) (omega arith) (omega arith)
       (λ t k.
       ap (λ (i : ℕ). scale (w .ratio) (w .top) (record { 0 = y + t }) .0 * i) e ∙ mul-zero (scale (w .ratio) (w .top) (record { 0 = y + t }) .0)
       ∙ sym (ap (λ (i : ℕ). scale (w .ratio) (w .top) (record { 0 = y }) .0 * i) e ∙ mul-zero (scale (w .ratio) (w .top) (record { 0 = y }) .0)))
 
-  pub same-sample : (left n : ℕ) → LaneFits w → w .top ≤ y → y < w .bottom → (1 ≤ left) × ((y - w .top) % w .ratio + left ≤ w .ratio)
-      → (n ≤ left) × (n ≤ w .bottom - y) × (1 ≤ left → 1 ≤ w .bottom - y → 1 ≤ n) → Same w y n
+  pub same-sample : (left n : ℕ) → LaneFits w → w .top .0 ≤ y → y < w .bottom .0 → (1 ≤ left) × ((y - w .top .0) % w .ratio + left ≤ w .ratio)
+      → (n ≤ left) × (n ≤ w .bottom .0 - y) × (1 ≤ left → 1 ≤ w .bottom .0 - y → 1 ≤ n) → Same w y n
   unfolding scale
   same-sample left n f a b l g =
       let s = f .some in
@@ -93,8 +93,8 @@ module _ (w : Lane) (y : ℕ) where
       let g₁ = g .1 in
       same-places n (g .2 l₀ (omega arith)) (omega arith) (omega arith)
       (λ t k.
-      let z : y + t - w .top ≡ y - w .top + t = omega arith in
-      ap (λ (i : ℕ). i * w .step) (ap (λ (i : ℕ). i / w .ratio) z ∙ same-div (w .ratio) (y - w .top) t s (omega arith)))
+      let z : y + t - w .top .0 ≡ y - w .top .0 + t = omega arith in
+      ap (λ (i : ℕ). i * w .step) (ap (λ (i : ℕ). i / w .ratio) z ∙ same-div (w .ratio) (y - w .top .0) t s (omega arith)))
 
 pub ruleset lining = (needs, same-above, same-below, same-step, same-sample)
 
@@ -166,10 +166,10 @@ pub ruleset grouping = (needs, grouping-none, grouping-more, grouping-end, group
 -- ---- layer 2
 
 module _ (w : Lane) (y g width : ℕ) where
-  pub steady-is : (w .read ≡ 0 → ⊥) → y ≤ w .bottom
-      → (eqb (w .ratio) 1 && eqb (w .from) 0 && leb width (w .to) && leb (w .top) y && leb g (w .bottom - y)) ≡ true → Steady w y g width
+  pub steady-is : (w .read ≡ 0 → ⊥) → y ≤ w .bottom .0
+      → (eqb (w .ratio) 1 && eqb (w .from .0) 0 && leb width (w .to .0) && leb (w .top .0) y && leb g (w .bottom .0 - y)) ≡ true → Steady w y g width
   steady-is n b t =
-      let h = says-and (says-and (says-and (says-and (says-eq (w .ratio) 1) (says-eq (w .from) 0)) (says-le width (w .to))) (says-le (w .top) y)) (says-le g (w .bottom - y)) .told t in
+      let h = says-and (says-and (says-and (says-and (says-eq (w .ratio) 1) (says-eq (w .from .0) 0)) (says-le width (w .to .0))) (says-le (w .top .0) y)) (says-le g (w .bottom .0 - y)) .told t in
       let k = h .1 in
       record { read = n; single = h .0 .0 .0 .0; from = h .0 .0 .0 .1; to = h .0 .0 .1; top = h .0 .1; bottom = omega arith }
 

@@ -28,7 +28,7 @@ pub record Grouped (ns : List ℕ) (n y most g : ℕ) : Type 0 where
 pub record Steady (w : Lane) (y g width : ℕ) : Type 0 where
   pub read : w .read ≢ 0
   pub single : w .ratio ≡ 1
-  pub from : w .from ≡ 0
-  pub to : width ≤ w .to
-  pub top : w .top ≤ y
-  pub bottom : y + g ≤ w .bottom
+  pub from : w .from .0 ≡ 0
+  pub to : width ≤ w .to .0
+  pub top : w .top .0 ≤ y
+  pub bottom : y + g ≤ w .bottom .0

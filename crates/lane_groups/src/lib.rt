@@ -32,16 +32,16 @@ fn lines_of(w: Lane, y: usize) -> usize
     requires { ⌜ LaneFits w ⌝ }
     ensures { λ r. ⌜ Same w y r ⌝ }
 {
-    if y < w.top {
-        return w.top - y;
+    if y < w.top.0 {
+        return w.top.0 - y;
     }
-    if w.bottom <= y {
+    if w.bottom.0 <= y {
         return ALL;
     }
     if w.step == 0 {
-        return w.bottom - y;
+        return w.bottom.0 - y;
     }
-    least(lines_left(w.ratio, y - w.top), w.bottom - y)
+    least(lines_left(w.ratio, y - w.top.0), w.bottom.0 - y)
 }
 
 // Of g lines from y on, those in which layer l has one row; layer 2 may have another in each.
@@ -79,8 +79,8 @@ pub fn steady(w: Lane, y: usize, g: usize, width: usize) -> bool
     if w.read == 0 {
         return false;
     }
-    if w.bottom < y {
+    if w.bottom.0 < y {
         return false;
     }
-    (w.ratio == 1) & (w.from == 0) & (width <= w.to) & (w.top <= y) & (g <= w.bottom - y)
+    (w.ratio == 1) & (w.from.0 == 0) & (width <= w.to.0) & (w.top.0 <= y) & (g <= w.bottom.0 - y)
 }

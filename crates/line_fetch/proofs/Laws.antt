@@ -26,8 +26,8 @@ use Rattle.line_fetch.specs.Rows.{rowSize, rowAt, rowMask, rowImage, Tur
 
 pub row-read : (ns : List ℕ) (l : ℕ)
     → record {
-      from = getD ns ((l - 1) * rowSize) 0;
-      to = getD ns ((l - 1) * rowSize + 1) 0;
+      from = record { 0 = getD ns ((l - 1) * rowSize) 0 };
+      to = record { 0 = getD ns ((l - 1) * rowSize + 1) 0 };
       factor = getD ns ((l - 1) * rowSize + 2) 0;
       read = getD ns ((l - 1) * rowSize + 3) 0;
       at = getD ns ((l - 1) * rowSize + 4) 0;
@@ -39,10 +39,10 @@ row-read ns l = refl
 
 -- ---- the scaling step: a place is no nearer than its sample
 
-row-steps : (r : Row) (x : MainPos) → Turns r → x .0 < 65536 → r .from ≤ x .0 → Steps (r .ratio) (r .factor) (r .from) x
+row-steps : (r : Row) (x : MainPos) → Turns r → x .0 < 65536 → r .from .0 ≤ x .0 → Steps (r .ratio) (r .factor) (r .from) x
 unfolding scale
 row-steps r x t h a =
-    let d = div-le-self (x .0 - r .from) (r .ratio) in
+    let d = div-le-self (x .0 - r .from .0) (r .ratio) in
     record { some = t .some; small = t .small; factor = t .factor; past = a; near = omega arith }
 
 -- ---- a mask's sample, an image layer's
@@ -52,51 +52,51 @@ and-no true = refl
 and-no false = refl
 
 module _ (d : List ℕ) (r : Row) (x : MainPos) where
-  pub mask-before : (m : Mask) → x .0 < r .from → m ≡ bitOf (r .other) → m ≡ rowMask d r x
+  pub mask-before : (m : Mask) → x .0 < r .from .0 → m ≡ bitOf (r .other) → m ≡ rowMask d r x
   unfolding rowMask
-  mask-before m h e = simp (lt-leb (r .from) (x .0) h, e)
+  mask-before m h e = simp (lt-leb (r .from .0) (x .0) h, e)
 
-  pub mask-after : (m : Mask) → r .to ≤ x .0 → m ≡ bitOf (r .other) → m ≡ rowMask d r x
+  pub mask-after : (m : Mask) → r .to .0 ≤ x .0 → m ≡ bitOf (r .other) → m ≡ rowMask d r x
   unfolding rowMask
-  mask-after m h e = simp (le-ltb (x .0) (r .to) h, and-no (leb (r .from) (x .0)), e)
+  mask-after m h e = simp (le-ltb (x .0) (r .to .0) h, and-no (leb (r .from .0) (x .0)), e)
 
-  pub mask-unread : r .from ≤ x .0 → x .0 < r .to → r .read ≡ 0 → Hidden ≡ rowMask d r x
+  pub mask-unread : r .from .0 ≤ x .0 → x .0 < r .to .0 → r .read ≡ 0 → Hidden ≡ rowMask d r x
   unfolding rowMask
-  mask-unread a b e = simp (le-leb (r .from) (x .0) a, lt-ltb (x .0) (r .to) b, eq-eqb (r .read) 0 e)
+  mask-unread a b e = simp (le-leb (r .from .0) (x .0) a, lt-ltb (x .0) (r .to .0) b, eq-eqb (r .read) 0 e)
 
-  pub mask-read : (m : Mask) (p : SamplePos) → r .from ≤ x .0 → x .0 < r .to → r .read ≢ 0 → p ≡ scale (r .ratio) (r .from) x
+  pub mask-read : (m : Mask) (p : SamplePos) → r .from .0 ≤ x .0 → x .0 < r .to .0 → r .read ≢ 0 → p ≡ scale (r .ratio) (r .from) x
       → m ≡ bitOf (getD d (r .at + p .0) 0) → m ≡ rowMask d r x
   unfolding rowMask
-  mask-read m p a b n e f = simp (le-leb (r .from) (x .0) a, lt-ltb (x .0) (r .to) b, ne-eqb (r .read) 0 n, f, e)
+  mask-read m p a b n e f = simp (le-leb (r .from .0) (x .0) a, lt-ltb (x .0) (r .to .0) b, ne-eqb (r .read) 0 n, f, e)
 
-  pub mask-steps : MaskFits d r → x .0 < 65536 → r .from ≤ x .0 → Steps (r .ratio) (r .factor) (r .from) x
+  pub mask-steps : MaskFits d r → x .0 < 65536 → r .from .0 ≤ x .0 → Steps (r .ratio) (r .factor) (r .from) x
   mask-steps g h a = row-steps r x (g .turns) h a
 
-  pub mask-there : (p : SamplePos) → MaskFits d r → r .from ≤ x .0 → x .0 < r .to → r .read ≢ 0 → p ≡ scale (r .ratio) (r .from) x → r .at + p .0 < length d
+  pub mask-there : (p : SamplePos) → MaskFits d r → r .from .0 ≤ x .0 → x .0 < r .to .0 → r .read ≢ 0 → p ≡ scale (r .ratio) (r .from) x → r .at + p .0 < length d
   mask-there p g a b n e = rw e (g .there x a b n)
 
 module _ (s d : List ℕ) (r : Row) (x : MainPos) where
-  pub image-before : (c : Colour) → x .0 < r .from → c ≡ colourAt s (r .other) → Known c ≡ rowImage s d r x
+  pub image-before : (c : Colour) → x .0 < r .from .0 → c ≡ colourAt s (r .other) → Known c ≡ rowImage s d r x
   unfolding rowImage
-  image-before c h e = simp (lt-leb (r .from) (x .0) h, e)
+  image-before c h e = simp (lt-leb (r .from .0) (x .0) h, e)
 
-  pub image-after : (c : Colour) → r .to ≤ x .0 → c ≡ colourAt s (r .other) → Known c ≡ rowImage s d r x
+  pub image-after : (c : Colour) → r .to .0 ≤ x .0 → c ≡ colourAt s (r .other) → Known c ≡ rowImage s d r x
   unfolding rowImage
-  image-after c h e = simp (le-ltb (x .0) (r .to) h, and-no (leb (r .from) (x .0)), e)
+  image-after c h e = simp (le-ltb (x .0) (r .to .0) h, and-no (leb (r .from .0) (x .0)), e)
 
-  pub image-unread : r .from ≤ x .0 → x .0 < r .to → r .read ≡ 0 → Unknown ≡ rowImage s d r x
+  pub image-unread : r .from .0 ≤ x .0 → x .0 < r .to .0 → r .read ≡ 0 → Unknown ≡ rowImage s d r x
   unfolding rowImage
-  image-unread a b e = simp (le-leb (r .from) (x .0) a, lt-ltb (x .0) (r .to) b, eq-eqb (r .read) 0 e)
+  image-unread a b e = simp (le-leb (r .from .0) (x .0) a, lt-ltb (x .0) (r .to .0) b, eq-eqb (r .read) 0 e)
 
-  pub image-read : (c : Colour) (p : SamplePos) → r .from ≤ x .0 → x .0 < r .to → r .read ≢ 0 → p ≡ scale (r .ratio) (r .from) x
+  pub image-read : (c : Colour) (p : SamplePos) → r .from .0 ≤ x .0 → x .0 < r .to .0 → r .read ≢ 0 → p ≡ scale (r .ratio) (r .from) x
       → c ≡ colourIn (r .read) d (r .at + p .0 * r .read) → Known c ≡ rowImage s d r x
   unfolding rowImage
-  image-read c p a b n e f = simp (le-leb (r .from) (x .0) a, lt-ltb (x .0) (r .to) b, ne-eqb (r .read) 0 n, f, e)
+  image-read c p a b n e f = simp (le-leb (r .from .0) (x .0) a, lt-ltb (x .0) (r .to .0) b, ne-eqb (r .read) 0 n, f, e)
 
-  pub image-steps : ImageFits s d r → x .0 < 65536 → r .from ≤ x .0 → Steps (r .ratio) (r .factor) (r .from) x
+  pub image-steps : ImageFits s d r → x .0 < 65536 → r .from .0 ≤ x .0 → Steps (r .ratio) (r .factor) (r .from) x
   image-steps g h a = row-steps r x (g .turns) h a
 
-  pub image-there : (p : SamplePos) → ImageFits s d r → r .from ≤ x .0 → x .0 < r .to → r .read ≢ 0 → p ≡ scale (r .ratio) (r .from) x
+  pub image-there : (p : SamplePos) → ImageFits s d r → r .from .0 ≤ x .0 → x .0 < r .to .0 → r .read ≢ 0 → p ≡ scale (r .ratio) (r .from) x
       → r .at + p .0 * r .read + r .read ≤ length d
   image-there p g a b n e = rw e (g .there x a b n)
 

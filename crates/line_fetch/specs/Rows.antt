@@ -35,8 +35,8 @@ rowsSize = 15 * rowSize
 unfoldable pub rowAt : List ℕ → ℕ → Row
 rowAt ns l =
     record {
-      from = getD ns ((l - 1) * rowSize) 0;
-      to = getD ns ((l - 1) * rowSize + 1) 0;
+      from = record { 0 = getD ns ((l - 1) * rowSize) 0 };
+      to = record { 0 = getD ns ((l - 1) * rowSize + 1) 0 };
       factor = getD ns ((l - 1) * rowSize + 2) 0;
       read = getD ns ((l - 1) * rowSize + 3) 0;
       at = getD ns ((l - 1) * rowSize + 4) 0;
@@ -45,10 +45,10 @@ rowAt ns l =
     }
 
 abbrev pub numbersOf : Row → List ℕ
-numbersOf r = r .from ∷ r .to ∷ r .factor ∷ r .read ∷ r .at ∷ r .other ∷ r .ratio ∷ []
+numbersOf r = r .from .0 ∷ r .to .0 ∷ r .factor ∷ r .read ∷ r .at ∷ r .other ∷ r .ratio ∷ []
 
 abbrev pub across : Row → MainPos → Bool
-across r x = leb (r .from) (x .0) && ltb (x .0) (r .to)
+across r x = leb (r .from .0) (x .0) && ltb (x .0) (r .to .0)
 
 unfoldable pub rowMask : List ℕ → Row → MainPos → Mask
 rowMask d r x =
@@ -71,9 +71,9 @@ pub record Turns (r : Row) : Type 0 where
 
 pub record MaskFits (d : List ℕ) (r : Row) : Type 0 where
   pub turns : Turns r
-  pub there : (x : MainPos) → r .from ≤ x .0 → x .0 < r .to → r .read ≢ 0 → r .at + scale (r .ratio) (r .from) x .0 < length d
+  pub there : (x : MainPos) → r .from .0 ≤ x .0 → x .0 < r .to .0 → r .read ≢ 0 → r .at + scale (r .ratio) (r .from) x .0 < length d
 
 pub record ImageFits (s d : List ℕ) (r : Row) : Type 0 where
   pub turns : Turns r
-  pub there : (x : MainPos) → r .from ≤ x .0 → x .0 < r .to → r .read ≢ 0 → r .at + scale (r .ratio) (r .from) x .0 * r .read + r .read ≤ length d
+  pub there : (x : MainPos) → r .from .0 ≤ x .0 → x .0 < r .to .0 → r .read ≢ 0 → r .at + scale (r .ratio) (r .from) x .0 * r .read + r .read ≤ length d
   pub base : r .other + 3 ≤ length s

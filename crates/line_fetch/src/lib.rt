@@ -17,8 +17,8 @@ pub const ROWS_SIZE: usize = 15 * ROW_SIZE;
 // sample has; the octets a sample if it was read (0: it was not), and where the line's samples then start; what it gives elsewhere: a mask its value,
 // an image layer the place of its base colour in the sheet; and last, since a pixel does not ask for it, how many main pixels a sample has.
 pub struct Row {
-    pub from: usize,
-    pub to: usize,
+    pub from: MainPos,
+    pub to: MainPos,
     pub factor: usize,
     pub read: usize,
     pub at: usize,
@@ -33,8 +33,8 @@ pub fn row_at(rows: &[usize], l: usize) -> Row
 {
     let b = (l - 1) * ROW_SIZE;
     Row {
-        from: rows[b],
-        to: rows[b + 1],
+        from: MainPos(rows[b]),
+        to: MainPos(rows[b + 1]),
         factor: rows[b + 2],
         read: rows[b + 3],
         at: rows[b + 4],
@@ -47,10 +47,10 @@ pub fn mask_at(d: &[u8], r: Row, x: MainPos) -> Mask
     requires { ⌜ MaskFits (now d) r × (x .0 < 65536) ⌝ }
     ensures { λ m. ⌜ m ≡ rowMask (now (d .entry)) r x ⌝ }
 {
-    if x.0 < r.from {
+    if x.0 < r.from.0 {
         return line_sample::other_bit(r.other);
     }
-    if r.to <= x.0 {
+    if r.to.0 <= x.0 {
         return line_sample::other_bit(r.other);
     }
     if r.read == 0 {
@@ -64,10 +64,10 @@ pub fn image_at(s: &[u8], d: &[u8], r: Row, x: MainPos) -> Sample
     requires { ⌜ ImageFits (now s) (now d) r × (x .0 < 65536) ⌝ }
     ensures { λ m. ⌜ m ≡ rowImage (now (s .entry)) (now (d .entry)) r x ⌝ }
 {
-    if x.0 < r.from {
+    if x.0 < r.from.0 {
         return Sample::Known(line_sample::colour_at(s, r.other));
     }
-    if r.to <= x.0 {
+    if r.to.0 <= x.0 {
         return Sample::Known(line_sample::colour_at(s, r.other));
     }
     if r.read == 0 {

@@ -25,7 +25,7 @@ use Rattle.pixel_rules.specs.declared.SamplePos.{SamplePos}
 use Rattle.pixel_rules.specs.declared.Plane.{Plane}
 use Rattle.pixel_rules.specs.declared.Start.{Start}
 use Rattle.pixel_rules.specs.declared.Start.the-variants.{From, Unread}
-use Rattle.pixel_rules.specs.Place.{scale}
+use Rattle.pixel_rules.specs.Place.{leftOf, topOf, areaEnd, scale}
 use Rattle.pixel_rules.specs.Planes.{planeStart}
 use Rattle.pixel_rules.specs.Samples.{depth}
 use Rattle.pixel_rules.proofs.Division.{says-covers, scale-within}
@@ -43,16 +43,19 @@ use Rattle.line_lanes.proofs.Rows.{lane-entry, lane-among, put-one-more
 -- ---- the last line
 
 module _ (r : Record) (k : ℕ) where
-  pub bottom-none : r .len ≡ 0 → 0 ≡ bottomOf r k
+  pub bottom-none : r .len ≡ 0 → record { 0 = 0 } ≡ bottomOf r k
   unfolding bottomOf
   bottom-none e = simp (eq-eqb (r .len) 0 e)
 
-  pub bottom-some : (o n end : ℕ) → r .len ≢ 0 → o ≡ r .y → n ≡ r .height → end ≡ o + n * k → end ≡ bottomOf r k
+  pub bottom-some : (o end : MainPos) (n : ℕ) → r .len ≢ 0 → o ≡ topOf r → n ≡ r .height → end ≡ areaEnd o n k → end ≡ bottomOf r k
   unfolding bottomOf
-  bottom-some o n end d eo en e = e ∙ ap₂ (λ (i j : ℕ). i + j * k) eo en ∙ simp (ne-eqb (r .len) 0 d)
+  bottom-some o end n d eo en e = e ∙ ap₂ (λ (i : MainPos) (j : ℕ). areaEnd i j k) eo en ∙ simp (ne-eqb (r .len) 0 d)
 
-  pub bottom-near : (o n end : ℕ) → o ≡ r .y → n < 65536 → end ≡ o + n * k → end ≤ r .y + 65535 * k
-  bottom-near o n end eo h e = let m : n * k ≤ 65535 * k = mul-le-mul-right k (omega arith) in omega arith
+  pub bottom-near : (o end : MainPos) (n : ℕ) → o ≡ topOf r → n < 65536 → end ≡ areaEnd o n k → end .0 ≤ r .y + 65535 * k
+  bottom-near o end n eo h e =
+      let m : n * k ≤ 65535 * k = mul-le-mul-right k (omega arith) in
+      let z : end .0 ≡ r .y + n * k = ap (λ (i : MainPos). i .0) (e ∙ ap (λ (i : MainPos). areaEnd i n k) eo) in
+      omega arith
 
 pub ruleset bottoms = (needs, bottom-none, bottom-some, bottom-near)
 
@@ -77,11 +80,11 @@ first-some p a e = rw e refl
 
 pub ruleset starting = (needs, read-none, read-some, first-none, first-some)
 
-pub lane-made : (r : Record) (k other : ℕ) (p : Start) (from width each to m start top bottom step : ℕ) → from ≡ r .x → width ≡ r .width → each ≡ readOf r p → to ≡ from + width * k → m ≡ factorOf k
-    → start ≡ firstOf p → top ≡ r .y → bottom ≡ bottomOf r k → step ≡ width * each
+pub lane-made : (r : Record) (k other : ℕ) (p : Start) (from to top bottom : MainPos) (width each m start step : ℕ) → from ≡ leftOf r → width ≡ r .width → each ≡ readOf r p → to ≡ areaEnd from width k → m ≡ factorOf k
+    → start ≡ firstOf p → top ≡ topOf r → bottom ≡ bottomOf r k → step ≡ width * each
     → record { from = from; to = to; factor = m; read = each; start = start; other = other; ratio = k; top = top; bottom = bottom; step = step } ≡ laneBy r k p other
 unfolding laneBy
-lane-made r k other p from width each to m start top bottom step ef ew ee et em es ep eb ez = rw (ez, et, ef, ew, ee, em, es, ep, eb)
+lane-made r k other p from to top bottom width each m start step ef ew ee et em es ep eb ez = rw (ez, et, ef, ew, ee, em, es, ep, eb)
 
 pub step-small : (width each step : ℕ) → width < 65536 → each ≤ 3 → step ≡ width * each → step < 196608
 step-small width each step h g e =
@@ -89,9 +92,9 @@ step-small width each step h g e =
     let m : width * each ≤ 65535 * 3 = mul-le-mul a g in
     omega arith
 
-pub lane-fits : (w : Lane) (y : ℕ) → 0 < w .ratio → w .ratio < 65536 → w .factor ≡ factorOf (w .ratio) → w .top ≡ y → w .bottom ≤ y + 65535 * w .ratio → w .start < 4294967296 → w .step < 196608 → LaneFits w
+pub lane-fits : (w : Lane) (y : ℕ) → 0 < w .ratio → w .ratio < 65536 → w .factor ≡ factorOf (w .ratio) → w .top ≡ record { 0 = y } → w .bottom .0 ≤ y + 65535 * w .ratio → w .start < 4294967296 → w .step < 196608 → LaneFits w
 lane-fits w y a b f t n s p =
-    record { some = a; small = b; factor = f; near = subst (λ (i : ℕ). w .bottom ≤ i + 65535 * w .ratio) (sym t) n; start = s; step = p }
+    record { some = a; small = b; factor = f; near = subst (λ (i : MainPos). w .bottom .0 ≤ i .0 + 65535 * w .ratio) (sym t) n; start = s; step = p }
 
 -- ---- the lane of a layer of a stripe
 
@@ -105,11 +108,11 @@ pub ruleset layering = (needs, layer-res, layer-turns, layer-lane-made)
 -- ---- the lanes of all layers
 
 pub stores-lane : (d : List ℕ) (l : ℕ) (w : Lane) → 1 ≤ l → l * laneSize ≤ length d
-    → set (set (set (set (set (set (set (set (set (set d ((l - 1) * laneSize) (w .from)) ((l - 1) * laneSize + 1) (w .to)) ((l - 1) * laneSize + 2) (w .factor)) ((l - 1) * laneSize + 3) (w .read)) ((l - 1) * laneSize + 4) (w .start)) ((l - 1) * laneSize + 5) (w .other)) ((l - 1) * laneSize + 6) (w .ratio)) ((l - 1) * laneSize + 7) (w .top)) ((l - 1) * laneSize + 8) (w .bottom)) ((l - 1) * laneSize + 9) (w .step)
+    → set (set (set (set (set (set (set (set (set (set d ((l - 1) * laneSize) (w .from .0)) ((l - 1) * laneSize + 1) (w .to .0)) ((l - 1) * laneSize + 2) (w .factor)) ((l - 1) * laneSize + 3) (w .read)) ((l - 1) * laneSize + 4) (w .start)) ((l - 1) * laneSize + 5) (w .other)) ((l - 1) * laneSize + 6) (w .ratio)) ((l - 1) * laneSize + 7) (w .top .0)) ((l - 1) * laneSize + 8) (w .bottom .0)) ((l - 1) * laneSize + 9) (w .step)
     ≡ putAt d ((l - 1) * laneSize) (laneNumbers w)
 stores-lane d l w g h = all d ((l - 1) * laneSize) (omega arith)
   where
-    all : (d : List ℕ) (b : ℕ) → b + laneSize ≤ length d → set (set (set (set (set (set (set (set (set (set d b (w .from)) (b + 1) (w .to)) (b + 2) (w .factor)) (b + 3) (w .read)) (b + 4) (w .start)) (b + 5) (w .other)) (b + 6) (w .ratio)) (b + 7) (w .top)) (b + 8) (w .bottom)) (b + 9) (w .step) ≡ putAt d b (laneNumbers w)
+    all : (d : List ℕ) (b : ℕ) → b + laneSize ≤ length d → set (set (set (set (set (set (set (set (set (set d b (w .from .0)) (b + 1) (w .to .0)) (b + 2) (w .factor)) (b + 3) (w .read)) (b + 4) (w .start)) (b + 5) (w .other)) (b + 6) (w .ratio)) (b + 7) (w .top .0)) (b + 8) (w .bottom .0)) (b + 9) (w .step) ≡ putAt d b (laneNumbers w)
     all d b h =
         let a : b + 1 ≡ suc b = omega arith in
         let c : b + 2 ≡ suc (suc b) = omega arith in
@@ -211,15 +214,15 @@ pub ruleset laying = (needs, stores-lane, laying-none, laying-layer, laying-room
 
 pub lane-there : (ns : List ℕ) (l : ℕ)
     → record {
-      from = getD ns ((l - 1) * laneSize) 0;
-      to = getD ns ((l - 1) * laneSize + 1) 0;
+      from = record { 0 = getD ns ((l - 1) * laneSize) 0 };
+      to = record { 0 = getD ns ((l - 1) * laneSize + 1) 0 };
       factor = getD ns ((l - 1) * laneSize + 2) 0;
       read = getD ns ((l - 1) * laneSize + 3) 0;
       start = getD ns ((l - 1) * laneSize + 4) 0;
       other = getD ns ((l - 1) * laneSize + 5) 0;
       ratio = getD ns ((l - 1) * laneSize + 6) 0;
-      top = getD ns ((l - 1) * laneSize + 7) 0;
-      bottom = getD ns ((l - 1) * laneSize + 8) 0;
+      top = record { 0 = getD ns ((l - 1) * laneSize + 7) 0 };
+      bottom = record { 0 = getD ns ((l - 1) * laneSize + 8) 0 };
       step = getD ns ((l - 1) * laneSize + 9) 0;
     } ≡ laneAt ns l
 unfolding laneAt
@@ -241,28 +244,28 @@ and-no true = refl
 and-no false = refl
 
 module _ (w : Lane) (y : MainPos) where
-  pub row-above : (r : Row) → y .0 < w .top → r ≡ rowOut (w .other) → r ≡ rowFrom w y
+  pub row-above : (r : Row) → y .0 < w .top .0 → r ≡ rowOut (w .other) → r ≡ rowFrom w y
   unfolding rowFrom
-  row-above r h e = e ∙ simp (lt-leb (w .top) (y .0) h)
+  row-above r h e = e ∙ simp (lt-leb (w .top .0) (y .0) h)
 
-  pub row-below : (r : Row) → w .bottom ≤ y .0 → r ≡ rowOut (w .other) → r ≡ rowFrom w y
+  pub row-below : (r : Row) → w .bottom .0 ≤ y .0 → r ≡ rowOut (w .other) → r ≡ rowFrom w y
   unfolding rowFrom
-  row-below r h e = e ∙ simp (le-ltb (y .0) (w .bottom) h, and-no (leb (w .top) (y .0)))
+  row-below r h e = e ∙ simp (le-ltb (y .0) (w .bottom .0) h, and-no (leb (w .top .0) (y .0)))
 
-  pub row-crossed : (q : SamplePos) (at : ℕ) → w .top ≤ y .0 → y .0 < w .bottom → q ≡ scale (w .ratio) (w .top) y → at ≡ w .start + q .0 * w .step
+  pub row-crossed : (q : SamplePos) (at : ℕ) → w .top .0 ≤ y .0 → y .0 < w .bottom .0 → q ≡ scale (w .ratio) (w .top) y → at ≡ w .start + q .0 * w .step
       → record { from = w .from; to = w .to; factor = w .factor; read = w .read; at = at; other = w .other; ratio = w .ratio } ≡ rowFrom w y
   unfolding rowFrom
-  row-crossed q at a b e f = simp (le-leb (w .top) (y .0) a, lt-ltb (y .0) (w .bottom) b, f, e)
+  row-crossed q at a b e f = simp (le-leb (w .top .0) (y .0) a, lt-ltb (y .0) (w .bottom .0) b, f, e)
 
-  down-near : LaneFits w → w .top ≤ y .0 → y .0 < w .bottom → scale (w .ratio) (w .top) y .0 < 65535
+  down-near : LaneFits w → w .top .0 ≤ y .0 → y .0 < w .bottom .0 → scale (w .ratio) (w .top) y .0 < 65535
   down-near f a b =
       let n = f .near in
       scale-within (w .top) 65535 (w .ratio) y (says-covers (w .top) 65535 (w .ratio) y .shown (a, omega arith))
 
-  pub lane-steps : LaneFits w → w .top ≤ y .0 → y .0 < w .bottom → Steps (w .ratio) (w .factor) (w .top) y
+  pub lane-steps : LaneFits w → w .top .0 ≤ y .0 → y .0 < w .bottom .0 → Steps (w .ratio) (w .factor) (w .top) y
   lane-steps f a b = let n = down-near f a b in record { some = f .some; small = f .small; factor = f .factor; past = a; near = omega arith }
 
-  pub lane-down : (q : SamplePos) → LaneFits w → w .top ≤ y .0 → y .0 < w .bottom → q ≡ scale (w .ratio) (w .top) y → q .0 < 65536
+  pub lane-down : (q : SamplePos) → LaneFits w → w .top .0 ≤ y .0 → y .0 < w .bottom .0 → q ≡ scale (w .ratio) (w .top) y → q .0 < 65536
   lane-down q f a b e = let n = down-near f a b in let z = ap (λ (i : SamplePos). i .0) e in omega arith
 
 -- ---- the rows of all layers in a line

@@ -21,7 +21,7 @@ use Rattle.pixel_rules.specs.declared.MainPos.{MainPos}
 use Rattle.pixel_rules.specs.declared.Plane.{Plane}
 use Rattle.pixel_rules.specs.declared.Start.{Start}
 use Rattle.pixel_rules.specs.declared.Start.the-variants.{From, Unread}
-use Rattle.pixel_rules.specs.Place.{ratio, scale, covers}
+use Rattle.pixel_rules.specs.Place.{ratio, leftOf, topOf, areaEnd, scale, covers}
 use Rattle.pixel_rules.specs.Planes.{planeStart}
 use Rattle.pixel_rules.specs.Samples.{depth}
 use Rattle.line_sample.specs.Factor.{factorOf}
@@ -40,22 +40,22 @@ none-above a b = ap (λ (c : Bool). leb a b && c) (le-ltb b 0 (omega arith)) ∙
     go false = refl
 
 -- a line crosses the lane of a coded layer exactly if it crosses the layer's area
-crosses-is : (r : Record) (q : ℕ) (y : MainPos) → leb (r .y) (y .0) && ltb (y .0) (bottomOf r q) ≡ coded r && covers (r .y) (r .height) q y
+crosses-is : (r : Record) (q : ℕ) (y : MainPos) → leb (r .y) (y .0) && ltb (y .0) (bottomOf r q .0) ≡ coded r && covers (topOf r) (r .height) q y
 unfolding bottomOf covers
 crosses-is r q y = go (coded r)
   where
-    go : (c : Bool) → leb (r .y) (y .0) && ltb (y .0) (cond c (r .y + r .height * q) 0) ≡ c && (leb (r .y) (y .0) && ltb (y .0) (r .y + r .height * q))
+    go : (c : Bool) → leb (r .y) (y .0) && ltb (y .0) (cond c (areaEnd (topOf r) (r .height) q) (record { 0 = 0 }) .0) ≡ c && (leb (r .y) (y .0) && ltb (y .0) (r .y + r .height * q))
     go true = refl
     go false = none-above (r .y) (y .0)
 
 pub row-by-lane : (r : Record) (q : ℕ) (y : MainPos) (p : Start) (other : ℕ) → rowFrom (laneBy r q p other) y ≡ rowBy r q y p other
 unfolding rowFrom laneBy rowBy
 row-by-lane r q y Unread other =
-    ap₂ (λ (b : Bool) (n : ℕ). cond b (record { from = r .x; to = r .x + r .width * q; factor = factorOf q; read = 0; at = n; other = other; ratio = q }) (rowOut other))
-    (crosses-is r q y) (zero-add (scale q (r .y) y .0 * (r .width * 0)) ∙ ap (λ (k : ℕ). scale q (r .y) y .0 * k) (mul-zero (r .width)) ∙ mul-zero (scale q (r .y) y .0))
+    ap₂ (λ (b : Bool) (n : ℕ). cond b (record { from = leftOf r; to = areaEnd (leftOf r) (r .width) q; factor = factorOf q; read = 0; at = n; other = other; ratio = q }) (rowOut other))
+    (crosses-is r q y) (zero-add (scale q (topOf r) y .0 * (r .width * 0)) ∙ ap (λ (k : ℕ). scale q (topOf r) y .0 * k) (mul-zero (r .width)) ∙ mul-zero (scale q (topOf r) y .0))
 row-by-lane r q y (From a) other =
-    ap₂ (λ (b : Bool) (n : ℕ). cond b (record { from = r .x; to = r .x + r .width * q; factor = factorOf q; read = depth r; at = a + n; other = other; ratio = q }) (rowOut other))
-    (crosses-is r q y) (sym (mul-assoc (scale q (r .y) y .0) (r .width) (depth r)))
+    ap₂ (λ (b : Bool) (n : ℕ). cond b (record { from = leftOf r; to = areaEnd (leftOf r) (r .width) q; factor = factorOf q; read = depth r; at = a + n; other = other; ratio = q }) (rowOut other))
+    (crosses-is r q y) (sym (mul-assoc (scale q (topOf r) y .0) (r .width) (depth r)))
 
 pub row-from-lane : (s : List ℕ) (extent : Extent) (ps : List Plane) (y : MainPos) (l : ℕ) → rowFrom (laneOf s extent ps l) y ≡ rowOf s extent ps y l
 unfolding laneOf rowOf

@@ -28,7 +28,7 @@ use Rattle.pixel_rules.specs.declared.MainPos.{MainPos}
 use Rattle.pixel_rules.specs.declared.Plane.{Plane}
 use Rattle.pixel_rules.specs.declared.Start.{Start}
 use Rattle.pixel_rules.specs.declared.Start.the-variants.{From, Unread}
-use Rattle.pixel_rules.specs.Place.{ratio, scale}
+use Rattle.pixel_rules.specs.Place.{ratio, leftOf, topOf, areaEnd, scale}
 use Rattle.pixel_rules.specs.Planes.{planeStart}
 use Rattle.pixel_rules.specs.Samples.{depth}
 use Rattle.line_sample.specs.Factor.{factorOf}
@@ -47,24 +47,24 @@ lanesSize = 15 * laneSize
 unfoldable pub laneAt : List ℕ → ℕ → Lane
 laneAt ns l =
     record {
-      from = getD ns ((l - 1) * laneSize) 0;
-      to = getD ns ((l - 1) * laneSize + 1) 0;
+      from = record { 0 = getD ns ((l - 1) * laneSize) 0 };
+      to = record { 0 = getD ns ((l - 1) * laneSize + 1) 0 };
       factor = getD ns ((l - 1) * laneSize + 2) 0;
       read = getD ns ((l - 1) * laneSize + 3) 0;
       start = getD ns ((l - 1) * laneSize + 4) 0;
       other = getD ns ((l - 1) * laneSize + 5) 0;
       ratio = getD ns ((l - 1) * laneSize + 6) 0;
-      top = getD ns ((l - 1) * laneSize + 7) 0;
-      bottom = getD ns ((l - 1) * laneSize + 8) 0;
+      top = record { 0 = getD ns ((l - 1) * laneSize + 7) 0 };
+      bottom = record { 0 = getD ns ((l - 1) * laneSize + 8) 0 };
       step = getD ns ((l - 1) * laneSize + 9) 0;
     }
 
 abbrev pub laneNumbers : Lane → List ℕ
-laneNumbers w = w .from ∷ w .to ∷ w .factor ∷ w .read ∷ w .start ∷ w .other ∷ w .ratio ∷ w .top ∷ w .bottom ∷ w .step ∷ []
+laneNumbers w = w .from .0 ∷ w .to .0 ∷ w .factor ∷ w .read ∷ w .start ∷ w .other ∷ w .ratio ∷ w .top .0 ∷ w .bottom .0 ∷ w .step ∷ []
 
 -- no line is above 0: none crosses a layer that is not coded
-unfoldable pub bottomOf : Record → ℕ → ℕ
-bottomOf r q = cond (coded r) (r .y + r .height * q) 0
+unfoldable pub bottomOf : Record → ℕ → MainPos
+bottomOf r q = cond (coded r) (areaEnd (topOf r) (r .height) q) (record { 0 = 0 })
 
 unfoldable pub readOf : Record → Start → ℕ
 readOf r Unread = 0
@@ -79,14 +79,14 @@ unfoldable pub laneBy : Record → ℕ → Start → ℕ → Lane
 unfolding bottomOf readOf firstOf
 laneBy r q p other =
     record {
-      from = r .x;
-      to = r .x + r .width * q;
+      from = leftOf r;
+      to = areaEnd (leftOf r) (r .width) q;
       factor = factorOf q;
       read = readOf r p;
       start = firstOf p;
       other = other;
       ratio = q;
-      top = r .y;
+      top = topOf r;
       bottom = bottomOf r q;
       step = r .width * readOf r p;
     }
@@ -101,7 +101,7 @@ abbrev pub lanesOf : List ℕ → Extent → List Plane → ℕ → List ℕ
 lanesOf s extent ps n = joined laneNumbers (entriesFrom (laneOf s extent ps) n 1)
 
 abbrev pub crosses : Lane → MainPos → Bool
-crosses w y = leb (w .top) (y .0) && ltb (y .0) (w .bottom)
+crosses w y = leb (w .top .0) (y .0) && ltb (y .0) (w .bottom .0)
 
 unfoldable pub rowFrom : Lane → MainPos → Row
 rowFrom w y =
@@ -124,7 +124,7 @@ pub record LaneFits (w : Lane) : Type 0 where
   pub some : 0 < w .ratio
   pub small : w .ratio < 65536
   pub factor : w .factor ≡ factorOf (w .ratio)
-  pub near : w .bottom ≤ w .top + 65535 * w .ratio
+  pub near : w .bottom .0 ≤ w .top .0 + 65535 * w .ratio
   pub start : w .start < 4294967296
   pub step : w .step < 196608
 

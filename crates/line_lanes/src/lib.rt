@@ -24,27 +24,27 @@ pub const LANES_SIZE: usize = 15 * LANE_SIZE;
 // `top` up to `bottom` (0 if it is not coded: no line crosses it); and how many octets further down each row of samples stands. A layer that was not
 // read starts at 0 and steps by 0, so that a line need not ask.
 pub struct Lane {
-    pub from: usize,
-    pub to: usize,
+    pub from: MainPos,
+    pub to: MainPos,
     pub factor: usize,
     pub read: usize,
     pub start: usize,
     pub other: usize,
     pub ratio: usize,
-    pub top: usize,
-    pub bottom: usize,
+    pub top: MainPos,
+    pub bottom: MainPos,
     pub step: usize,
 }
 
 // Behind the last line that crosses a layer: no layer has more than 65535 rows of samples.
-pub fn bottom_of(r: Record, ratio: usize) -> usize
+pub fn bottom_of(r: Record, ratio: usize) -> MainPos
     requires { ⌜ ratio < 65536 ⌝ }
-    ensures { λ n. ⌜ (n ≡ bottomOf r ratio) × (n ≤ r .y + 65535 * ratio) ⌝ }
+    ensures { λ n. ⌜ (n ≡ bottomOf r ratio) × (n .0 ≤ r .y + 65535 * ratio) ⌝ }
 {
     if r.len == 0 {
-        return 0;
+        return MainPos(0);
     }
-    line_rows::area_end(octets_get::wide16(r.y), octets_get::wide16(r.height), ratio)
+    line_rows::area_end(line_rows::top_of(r), octets_get::wide16(r.height), ratio)
 }
 
 // The octets a sample of a layer that was read; 0 if it was not.
@@ -71,7 +71,7 @@ pub fn lane_by(r: Record, ratio: usize, p: Start, other: usize) -> Lane
     requires { ⌜ (0 < ratio) × (ratio < 65536) ⌝ }
     ensures { λ w. ⌜ (w ≡ laneBy r ratio p other) × LaneFits w ⌝ }
 {
-    let from = octets_get::wide16(r.x);
+    let from = line_rows::left_of(r);
     let width = octets_get::wide16(r.width);
     let each = read_of(r, p);
     Lane {
@@ -82,7 +82,7 @@ pub fn lane_by(r: Record, ratio: usize, p: Start, other: usize) -> Lane
         start: first_of(p),
         other: other,
         ratio: ratio,
-        top: octets_get::wide16(r.y),
+        top: line_rows::top_of(r),
         bottom: bottom_of(r, ratio),
         step: line_sample::sample_octets(width, each),
     }
@@ -112,15 +112,15 @@ pub fn put_lane(lanes: &mut [usize], l: usize, w: Lane)
     ensures { λ _. ⌜ now (lanes .exit) ≡ putAt (now (lanes .entry)) ((l - 1) * laneSize) (laneNumbers w) ⌝ }
 {
     let b = (l - 1) * LANE_SIZE;
-    lanes[b] = w.from;
-    lanes[b + 1] = w.to;
+    lanes[b] = w.from.0;
+    lanes[b + 1] = w.to.0;
     lanes[b + 2] = w.factor;
     lanes[b + 3] = w.read;
     lanes[b + 4] = w.start;
     lanes[b + 5] = w.other;
     lanes[b + 6] = w.ratio;
-    lanes[b + 7] = w.top;
-    lanes[b + 8] = w.bottom;
+    lanes[b + 7] = w.top.0;
+    lanes[b + 8] = w.bottom.0;
     lanes[b + 9] = w.step;
 }
 
@@ -150,15 +150,15 @@ pub fn lane_at(lanes: &[usize], l: usize) -> Lane
 {
     let b = (l - 1) * LANE_SIZE;
     Lane {
-        from: lanes[b],
-        to: lanes[b + 1],
+        from: MainPos(lanes[b]),
+        to: MainPos(lanes[b + 1]),
         factor: lanes[b + 2],
         read: lanes[b + 3],
         start: lanes[b + 4],
         other: lanes[b + 5],
         ratio: lanes[b + 6],
-        top: lanes[b + 7],
-        bottom: lanes[b + 8],
+        top: MainPos(lanes[b + 7]),
+        bottom: MainPos(lanes[b + 8]),
         step: lanes[b + 9],
     }
 }
@@ -176,16 +176,18 @@ pub fn row_from(w: Lane, y: MainPos) -> Row
     requires { ⌜ LaneFits w ⌝ }
     ensures { λ r. ⌜ r ≡ rowFrom w y ⌝ }
 {
-    if y.0 < w.top {
+    if y.0 < w.top.0 {
         return line_rows::row_out(w.other);
     }
-    if w.bottom <= y.0 {
+    if w.bottom.0 <= y.0 {
         return line_rows::row_out(w.other);
     }
     let down = line_sample::scale_pos(w.ratio, w.factor, w.top, y);
+    let from = w.from;
+    let to = w.to;
     Row {
-        from: w.from,
-        to: w.to,
+        from: from,
+        to: to,
         factor: w.factor,
         read: w.read,
         at: steps_down(w.start, down.0, w.step),

@@ -19,7 +19,7 @@ use Rattle.sheet_rules.specs.Judge.{coded}
 use Rattle.pixel_rules.specs.declared.MainPos.{MainPos}
 use Rattle.pixel_rules.specs.declared.Start.{Start}
 use Rattle.pixel_rules.specs.declared.Start.the-variants.{From, Unread}
-use Rattle.pixel_rules.specs.Place.{ratio, scale, covers, inside}
+use Rattle.pixel_rules.specs.Place.{ratio, leftOf, topOf, scale, covers, inside}
 use Rattle.pixel_rules.specs.Planes.{PlaneList, planeStart}
 use Rattle.pixel_rules.specs.Samples.{Scene, recordOf, mainOf, indexOf, maskAt, imageAt, depth, pairsOf}
 use Rattle.pixel_rules.specs.Decide.{pairStep, decide, stackAt, pixelAt}
@@ -38,8 +38,8 @@ use Rattle.line_rows.proofs.Same.{row-among, mask-same, image-same, oth
 module _ (r : Record) (k : ℕ) (y : MainPos) (p : Start) (other : ℕ) (some : 0 < k) (small : k < 65536) where
   -- the samples of the layer in this line are in the buffer
   abbrev There : List ℕ → Type 0
-  There d = (a : ℕ) → p ≡ From a → (x : MainPos) → covers (r .x) (r .width) k x ≡ true → covers (r .y) (r .height) k y ≡ true
-      → a + (scale k (r .y) y .0 * r .width + scale k (r .x) x .0) * depth r + depth r ≤ length d
+  There d = (a : ℕ) → p ≡ From a → (x : MainPos) → covers (leftOf r) (r .width) k x ≡ true → covers (topOf r) (r .height) k y ≡ true
+      → a + (scale k (topOf r) y .0 * r .width + scale k (leftOf r) x .0) * depth r + depth r ≤ length d
 
   turns-in : (q : Start) → Turns (rowIn r k y q other)
   unfolding rowIn
@@ -49,17 +49,17 @@ module _ (r : Record) (k : ℕ) (y : MainPos) (p : Start) (other : ℕ) (some : 
   turns-out : Turns (rowOut other)
   turns-out = record { some = lit< tt; small = lit< tt; factor = refl }
 
-  crossed : coded r && covers (r .y) (r .height) k y ≡ true → covers (r .y) (r .height) k y ≡ true
-  crossed t = says-and (says-true (coded r)) (says-true (covers (r .y) (r .height) k y)) .told t .1
+  crossed : coded r && covers (topOf r) (r .height) k y ≡ true → covers (topOf r) (r .height) k y ≡ true
+  crossed t = says-and (says-true (coded r)) (says-true (covers (topOf r) (r .height) k y)) .told t .1
 
-  over : (x : MainPos) → r .x ≤ x .0 → x .0 < r .x + r .width * k → covers (r .x) (r .width) k x ≡ true
-  over x a b = says-covers (r .x) (r .width) k x .shown (a, b)
+  over : (x : MainPos) → r .x ≤ x .0 → x .0 < r .x + r .width * k → covers (leftOf r) (r .width) k x ≡ true
+  over x a b = says-covers (leftOf r) (r .width) k x .shown (a, b)
 
-  each-there : (d : List ℕ) → There d → covers (r .y) (r .height) k y ≡ true → (a : ℕ) → p ≡ From a → (x : MainPos) → covers (r .x) (r .width) k x ≡ true
-      → a + scale k (r .y) y .0 * r .width * depth r + scale k (r .x) x .0 * depth r + depth r ≤ length d
-  each-there d f t a z x o = let h = f a z x o t in let q = add-mul (scale k (r .y) y .0 * r .width) (scale k (r .x) x .0) (depth r) in omega arith
+  each-there : (d : List ℕ) → There d → covers (topOf r) (r .height) k y ≡ true → (a : ℕ) → p ≡ From a → (x : MainPos) → covers (leftOf r) (r .width) k x ≡ true
+      → a + scale k (topOf r) y .0 * r .width * depth r + scale k (leftOf r) x .0 * depth r + depth r ≤ length d
+  each-there d f t a z x o = let h = f a z x o t in let q = add-mul (scale k (topOf r) y .0 * r .width) (scale k (leftOf r) x .0) (depth r) in omega arith
 
-  mask-in : (d : List ℕ) → depth r ≡ 1 → There d → covers (r .y) (r .height) k y ≡ true → (q : Start) → p ≡ q → MaskFits d (rowIn r k y q other)
+  mask-in : (d : List ℕ) → depth r ≡ 1 → There d → covers (topOf r) (r .height) k y ≡ true → (q : Start) → p ≡ q → MaskFits d (rowIn r k y q other)
   unfolding rowIn
   mask-in d e f t Unread z = record { turns = turns-in Unread; there = λ x a b n. absurd (n refl) }
   mask-in d e f t (From i) z =
@@ -67,17 +67,17 @@ module _ (r : Record) (k : ℕ) (y : MainPos) (p : Start) (other : ℕ) (some : 
         turns = turns-in (From i);
         there = λ x a b n.
             let h = each-there d f t i z x (over x a b) in
-            let g : scale k (r .x) x .0 * depth r ≡ scale k (r .x) x .0 * 1 = ap (λ (m : ℕ). scale k (r .x) x .0 * m) e in
+            let g : scale k (leftOf r) x .0 * depth r ≡ scale k (leftOf r) x .0 * 1 = ap (λ (m : ℕ). scale k (leftOf r) x .0 * m) e in
             omega arith;
       }
 
   pub mask-fits : (d : List ℕ) → depth r ≡ 1 → There d → MaskFits d (rowBy r k y p other)
   unfolding rowBy
   mask-fits d e f =
-      cond-with (MaskFits d) (coded r && covers (r .y) (r .height) k y) (λ t. mask-in d e f (crossed t) p refl)
+      cond-with (MaskFits d) (coded r && covers (topOf r) (r .height) k y) (λ t. mask-in d e f (crossed t) p refl)
       (λ t. record { turns = turns-out; there = λ x a b n. absurd (n refl) })
 
-  image-in : (s d : List ℕ) → other + 3 ≤ length s → There d → covers (r .y) (r .height) k y ≡ true → (q : Start) → p ≡ q → ImageFits s d (rowIn r k y q other)
+  image-in : (s d : List ℕ) → other + 3 ≤ length s → There d → covers (topOf r) (r .height) k y ≡ true → (q : Start) → p ≡ q → ImageFits s d (rowIn r k y q other)
   unfolding rowIn
   image-in s d o f t Unread z = record { turns = turns-in Unread; there = λ x a b n. absurd (n refl); base = o }
   image-in s d o f t (From i) z = record { turns = turns-in (From i); there = λ x a b n. each-there d f t i z x (over x a b); base = o }
@@ -85,7 +85,7 @@ module _ (r : Record) (k : ℕ) (y : MainPos) (p : Start) (other : ℕ) (some : 
   pub image-fits : (s d : List ℕ) → other + 3 ≤ length s → There d → ImageFits s d (rowBy r k y p other)
   unfolding rowBy
   image-fits s d o f =
-      cond-with (ImageFits s d) (coded r && covers (r .y) (r .height) k y) (λ t. image-in s d o f (crossed t) p refl)
+      cond-with (ImageFits s d) (coded r && covers (topOf r) (r .height) k y) (λ t. image-in s d o f (crossed t) p refl)
       (λ t. record { turns = turns-out; there = λ x a b n. absurd (n refl); base = o })
 
 -- ---- the rows of a scene that is shown
@@ -95,8 +95,8 @@ module _ (v : Scene) (pl : PlaneList) (k n : ℕ) (y : MainPos) (g : Stage (v .s
     mask-depth : l % 2 ≡ 0 → depth (recordOf v l) ≡ 1
     mask-depth e = depth-mask (recordOf v l) (ap (λ (n : ℕ). n % 2) (stage-placed g l a b .layer) ∙ e)
 
-    within : (x : MainPos) → covers (recordOf v l .x) (recordOf v l .width) (ratio (mainOf v) (recordOf v l)) x ≡ true
-        → covers (recordOf v l .y) (recordOf v l .height) (ratio (mainOf v) (recordOf v l)) y ≡ true → inside (mainOf v) (recordOf v l) x y ≡ true
+    within : (x : MainPos) → covers (leftOf (recordOf v l)) (recordOf v l .width) (ratio (mainOf v) (recordOf v l)) x ≡ true
+        → covers (topOf (recordOf v l)) (recordOf v l .height) (ratio (mainOf v) (recordOf v l)) y ≡ true → inside (mainOf v) (recordOf v l) x y ≡ true
     within x p q = says-inside (mainOf v) (recordOf v l) x y .shown (p, q)
 
     ratio-small : ratio (mainOf v) (recordOf v l) < 65536

@@ -27,9 +27,10 @@ use Rattle.pixel_rules.specs.declared.Start.{Start}
 use Rattle.pixel_rules.specs.declared.Start.the-variants.{From, Unread}
 use Rattle.pixel_rules.specs.declared.Plane.{Plane}
 use Rattle.pixel_rules.specs.Planes.{planeStart}
-use Rattle.pixel_rules.specs.Place.{scale, covers}
+use Rattle.pixel_rules.specs.Place.{leftOf, topOf, areaEnd, scale, covers}
 use Rattle.pixel_rules.specs.Samples.{depth}
 use Rattle.pixel_rules.proofs.Division.{says-covers, scale-within}
+use Rattle.picture_rules.specs.Demand.{at}
 use Rattle.line_sample.specs.Factor.{factorOf, Steps}
 use Rattle.line_sample.proofs.Laws.{product-small}
 use Rattle.line_planes.specs.declared.Listing.{Listing}
@@ -40,12 +41,15 @@ use Rattle.line_rows.specs.Rows.{rowIn, rowOut, rowBy, otherOf, rowOf, r
 
 -- ---- an area
 
+pub place-made : (n x : ℕ) → n ≡ x → at n ≡ at x
+place-made n x e = ap at e
+
 pub end-small : (o n k : ℕ) → (o < 65536) × (n < 65536) × (k < 65536) → o + n * k < 4295032832
 end-small o n k h = let m = product-small n k (h .1) (h .2) in let a = h .0 in omega arith
 
-pub covers-made : (o n k to : ℕ) (y : MainPos) → to ≡ o + n * k → leb o (y .0) && ltb (y .0) to ≡ covers o n k y
+pub covers-made : (o : MainPos) (n k : ℕ) (to y : MainPos) → to ≡ areaEnd o n k → leb (o .0) (y .0) && ltb (y .0) (to .0) ≡ covers o n k y
 unfolding covers
-covers-made o n k to y e = rw e
+covers-made o n k to y e = rw e refl
 
 -- ---- the start of a row of samples
 
@@ -55,39 +59,39 @@ start-made a width each down w n ew en = ap (λ (i : ℕ). a + i) (en ∙ ap (λ
 -- ---- a layer that the line crosses
 
 module _ (r : Record) (k : ℕ) (y : MainPos) where
-  pub in-unread : (other : ℕ) (p : Start) (from w to m : ℕ) → p ≡ Unread → from ≡ r .x → w ≡ r .width → to ≡ from + w * k → m ≡ factorOf k
+  pub in-unread : (other : ℕ) (p : Start) (from to : MainPos) (w m : ℕ) → p ≡ Unread → from ≡ leftOf r → w ≡ r .width → to ≡ areaEnd from w k → m ≡ factorOf k
       → record { from = from; to = to; factor = m; read = 0; at = 0; other = other; ratio = k } ≡ rowIn r k y p other
   unfolding rowIn
-  in-unread other p from w to m e f g h em = rw (e, h, f, g, em)
+  in-unread other p from to w m e f g h em = rw (e, h, f, g, em)
 
-  pub in-read : (other : ℕ) (p : Start) (a from w to m each o at : ℕ) (q : SamplePos) → p ≡ From a → from ≡ r .x → w ≡ r .width → to ≡ from + w * k → m ≡ factorOf k
-      → (each ≡ depth r) × (each ≤ 3) → o ≡ r .y → q ≡ scale k o y → at ≡ a + q .0 * r .width * each
+  pub in-read : (other : ℕ) (p : Start) (a w m each at : ℕ) (from to o : MainPos) (q : SamplePos) → p ≡ From a → from ≡ leftOf r → w ≡ r .width → to ≡ areaEnd from w k → m ≡ factorOf k
+      → (each ≡ depth r) × (each ≤ 3) → o ≡ topOf r → q ≡ scale k o y → at ≡ a + q .0 * r .width * each
       → record { from = from; to = to; factor = m; read = each; at = at; other = other; ratio = k } ≡ rowIn r k y p other
   unfolding rowIn
-  in-read other p a from w to m each o at q e f g h em en eo eq ea = rw (e, h, f, g, em, ea, eq, eo, en .0)
+  in-read other p a w m each at from to o q e f g h em en eo eq ea = rw (e, h, f, g, em, ea, eq, eo, en .0)
 
-  pub in-steps : (o m : ℕ) → Covered r k y → m ≡ factorOf k → o ≡ r .y → Steps k m o y
+  pub in-steps : (o : MainPos) (m : ℕ) → Covered r k y → m ≡ factorOf k → o ≡ topOf r → Steps k m o y
   in-steps o m c em e =
-      let w = scale-within (r .y) (r .height) k y (c .within) in
+      let w = scale-within (topOf r) (r .height) k y (c .within) in
       let h = c .high in
       record {
         some = c .some;
         small = c .small;
         factor = em;
-        past = subst (λ (i : ℕ). i ≤ y .0) (sym e) (says-covers (r .y) (r .height) k y .told (c .within) .0);
-        near = subst (λ (i : ℕ). scale k i y .0 < 65536) (sym e) (omega arith);
+        past = subst (λ (i : MainPos). i .0 ≤ y .0) (sym e) (says-covers (topOf r) (r .height) k y .told (c .within) .0);
+        near = subst (λ (i : MainPos). scale k i y .0 < 65536) (sym e) (omega arith);
       }
 
-  pub in-down : (o : ℕ) (q : SamplePos) → Covered r k y → o ≡ r .y → q ≡ scale k o y → q .0 < 65536
+  pub in-down : (o : MainPos) (q : SamplePos) → Covered r k y → o ≡ topOf r → q ≡ scale k o y → q .0 < 65536
   in-down o q c e f =
-      let w = scale-within (r .y) (r .height) k y (c .within) in
-      let z : q .0 ≡ scale k (r .y) y .0 = ap (λ (i : SamplePos). i .0) f ∙ ap (λ (j : ℕ). scale k j y .0) e in
+      let w = scale-within (topOf r) (r .height) k y (c .within) in
+      let z : q .0 ≡ scale k (topOf r) y .0 = ap (λ (i : SamplePos). i .0) f ∙ ap (λ (j : MainPos). scale k j y .0) e in
       let h = c .high in
       omega arith
 
 -- ---- a layer
 
-pub out-made : (other m : ℕ) → m ≡ factorOf 1 → record { from = 0; to = 0; factor = m; read = 0; at = 0; other = other; ratio = 1 } ≡ rowOut other
+pub out-made : (other m : ℕ) → m ≡ factorOf 1 → record { from = record { 0 = 0 }; to = record { 0 = 0 }; factor = m; read = 0; at = 0; other = other; ratio = 1 } ≡ rowOut other
 out-made other m e = rw e
 
 module _ (r : Record) (k : ℕ) (y : MainPos) (p : Start) (other : ℕ) where
@@ -95,8 +99,8 @@ module _ (r : Record) (k : ℕ) (y : MainPos) (p : Start) (other : ℕ) where
   unfolding rowBy
   by-uncoded w e f = f ∙ simp (eq-eqb (r .len) 0 e)
 
-  module _ (b : Bool) (o n : ℕ) (d : r .len ≢ 0) (eo : o ≡ r .y) (en : n ≡ r .height) (e : b ≡ covers o n k y) where
-    covered : b ≡ covers (r .y) (r .height) k y
+  module _ (b : Bool) (o : MainPos) (n : ℕ) (d : r .len ≢ 0) (eo : o ≡ topOf r) (en : n ≡ r .height) (e : b ≡ covers o n k y) where
+    covered : b ≡ covers (topOf r) (r .height) k y
     covered = e ∙ ap₂ (λ i j. covers i j k y) eo en
 
     pub by-in : (w : Row) → b ≡ true → w ≡ rowIn r k y p other → w ≡ rowBy r k y p other
@@ -149,11 +153,11 @@ module _ (s : List ℕ) (extent : Extent) (m : ℕ) (c : Bool) (y : MainPos) (l 
   layer-turns r k g e f = subst (λ (n : ℕ). 0 < n) (sym (f ∙ ap₂ (λ (a : ℕ) (q : Record). a / q .res) (g .main) e)) (g .turns)
 
 pub stores-row : (d : List ℕ) (l : ℕ) (w : Row) → 1 ≤ l → l * rowSize ≤ length d
-    → set (set (set (set (set (set (set d ((l - 1) * rowSize) (w .from)) ((l - 1) * rowSize + 1) (w .to)) ((l - 1) * rowSize + 2) (w .factor)) ((l - 1) * rowSize + 3) (w .read)) ((l - 1) * rowSize + 4) (w .at)) ((l - 1) * rowSize + 5) (w .other)) ((l - 1) * rowSize + 6) (w .ratio)
+    → set (set (set (set (set (set (set d ((l - 1) * rowSize) (w .from .0)) ((l - 1) * rowSize + 1) (w .to .0)) ((l - 1) * rowSize + 2) (w .factor)) ((l - 1) * rowSize + 3) (w .read)) ((l - 1) * rowSize + 4) (w .at)) ((l - 1) * rowSize + 5) (w .other)) ((l - 1) * rowSize + 6) (w .ratio)
     ≡ putAt d ((l - 1) * rowSize) (numbersOf w)
 stores-row d l w g h = all d ((l - 1) * rowSize) (omega arith)
   where
-    all : (d : List ℕ) (b : ℕ) → b + rowSize ≤ length d → set (set (set (set (set (set (set d b (w .from)) (b + 1) (w .to)) (b + 2) (w .factor)) (b + 3) (w .read)) (b + 4) (w .at)) (b + 5) (w .other)) (b + 6) (w .ratio) ≡ putAt d b (numbersOf w)
+    all : (d : List ℕ) (b : ℕ) → b + rowSize ≤ length d → set (set (set (set (set (set (set d b (w .from .0)) (b + 1) (w .to .0)) (b + 2) (w .factor)) (b + 3) (w .read)) (b + 4) (w .at)) (b + 5) (w .other)) (b + 6) (w .ratio) ≡ putAt d b (numbersOf w)
     all d b h =
         let a : b + 1 ≡ suc b = omega arith in
         let c : b + 2 ≡ suc (suc b) = omega arith in
@@ -268,7 +272,7 @@ pub ruleset layering = (needs, layer-made, layer-res, layer-turns)
 
 pub ruleset filling = (needs, stores-row, filling-none, filling-layer, filling-room, filling-more, filling-end)
 
-pub ruleset areas = (needs, end-small, covers-made, product-small, start-made)
+pub ruleset areas = (needs, place-made, end-small, covers-made, product-small, start-made)
 
 pub ruleset crossing = (needs, in-unread, in-read, in-steps, in-down, out-made, by-uncoded, by-in, by-out, by-covered)
 

@@ -25,7 +25,7 @@ use Rattle.pixel_rules.specs.declared.Mask.{Mask}
 use Rattle.pixel_rules.specs.declared.Mask.the-variants.{Zero, One, Hidden}
 use Rattle.pixel_rules.specs.declared.Start.{Start}
 use Rattle.pixel_rules.specs.declared.Start.the-variants.{From, Unread}
-use Rattle.pixel_rules.specs.Place.{ratio, scale, covers, inside}
+use Rattle.pixel_rules.specs.Place.{ratio, leftOf, topOf, scale, covers, inside}
 use Rattle.pixel_rules.specs.Planes.{planeStart}
 use Rattle.pixel_rules.specs.Samples.{Scene, recordOf, mainOf, indexOf, bitOf, baseOf, virtual, colourIn, maskRead, imageRead, maskAt, imageAt, depth}
 use Rattle.sheet_rules.specs.Record.{colourAt}
@@ -66,71 +66,71 @@ and-false false = refl
 
 rowMask-out : (d : List ℕ) (other : ℕ) (x : MainPos) → across (rowOut other) x ≡ false → rowMask d (rowOut other) x ≡ bitOf other
 unfolding rowMask
-rowMask-out d other x e = ap (λ (b : Bool). cond b (cond (eqb 0 0) Hidden (bitOf (getD d (0 + scale 1 0 x .0) 0))) (bitOf other)) e
+rowMask-out d other x e = ap (λ (b : Bool). cond b (cond (eqb 0 0) Hidden (bitOf (getD d (0 + scale 1 (record { 0 = 0 }) x .0) 0))) (bitOf other)) e
 
 rowImage-out : (s d : List ℕ) (other : ℕ) (x : MainPos) → across (rowOut other) x ≡ false → rowImage s d (rowOut other) x ≡ Known (colourAt s other)
 unfolding rowImage
-rowImage-out s d other x e = ap (λ (b : Bool). cond b (cond (eqb 0 0) Unknown (Known (colourIn 0 d (0 + scale 1 0 x .0 * 0)))) (Known (colourAt s other))) e
+rowImage-out s d other x e = ap (λ (b : Bool). cond b (cond (eqb 0 0) Unknown (Known (colourIn 0 d (0 + scale 1 (record { 0 = 0 }) x .0 * 0)))) (Known (colourAt s other))) e
 
 module _ (d : List ℕ) (r : Record) (k : ℕ) (x y : MainPos) (other : ℕ) where
   abbrev area : Bool
-  area = covers (r .x) (r .width) k x && covers (r .y) (r .height) k y
+  area = covers (leftOf r) (r .width) k x && covers (topOf r) (r .height) k y
 
   -- nothing lies across a row that the line passes by
   passed : across (rowOut other) x ≡ false
   passed = ap (λ (b : Bool). leb 0 (x .0) && b) (le-ltb (x .0) 0 (omega arith)) ∙ and-false (leb 0 (x .0))
 
   mask-in : (p : Start) → depth r ≡ 1 → rowMask d (rowIn r k y p other) x
-      ≡ cond (covers (r .x) (r .width) k x) (maskRead d p (scale k (r .y) y .0 * r .width + scale k (r .x) x .0)) (bitOf other)
+      ≡ cond (covers (leftOf r) (r .width) k x) (maskRead d p (scale k (topOf r) y .0 * r .width + scale k (leftOf r) x .0)) (bitOf other)
   unfolding rowMask rowIn covers maskRead
   mask-in Unread e = refl
   mask-in (From a) e =
-      let z : a + scale k (r .y) y .0 * r .width * 1 + scale k (r .x) x .0 ≡ a + (scale k (r .y) y .0 * r .width + scale k (r .x) x .0) = omega arith in
+      let z : a + scale k (topOf r) y .0 * r .width * 1 + scale k (leftOf r) x .0 ≡ a + (scale k (topOf r) y .0 * r .width + scale k (leftOf r) x .0) = omega arith in
       rw (e, z) refl
 
   image-in : (s : List ℕ) (p : Start) → rowImage s d (rowIn r k y p other) x
-      ≡ cond (covers (r .x) (r .width) k x) (imageRead d (depth r) p (scale k (r .y) y .0 * r .width + scale k (r .x) x .0)) (Known (colourAt s other))
+      ≡ cond (covers (leftOf r) (r .width) k x) (imageRead d (depth r) p (scale k (topOf r) y .0 * r .width + scale k (leftOf r) x .0)) (Known (colourAt s other))
   unfolding rowImage rowIn covers imageRead
   image-in s Unread = refl
   image-in s (From a) =
       let n : ℕ = depth r in
-      let z : a + scale k (r .y) y .0 * r .width * n + scale k (r .x) x .0 * n ≡ a + (scale k (r .y) y .0 * r .width + scale k (r .x) x .0) * n =
-      add-assoc a _ _ ∙ ap (λ (m : ℕ). a + m) (sym (add-mul (scale k (r .y) y .0 * r .width) (scale k (r .x) x .0) n)) in
+      let z : a + scale k (topOf r) y .0 * r .width * n + scale k (leftOf r) x .0 * n ≡ a + (scale k (topOf r) y .0 * r .width + scale k (leftOf r) x .0) * n =
+      add-assoc a _ _ ∙ ap (λ (m : ℕ). a + m) (sym (add-mul (scale k (topOf r) y .0 * r .width) (scale k (leftOf r) x .0) n)) in
       let some = depth-some r in
       let e : eqb (depth r) 0 ≡ false = ne-eqb (depth r) 0 (λ q. omega arith) in
-      ap₂ (λ (b : Bool) (m : ℕ). cond (covers (r .x) (r .width) k x) (cond b Unknown (Known (colourIn n d m))) (Known (colourAt s other))) e z
+      ap₂ (λ (b : Bool) (m : ℕ). cond (covers (leftOf r) (r .width) k x) (cond b Unknown (Known (colourIn n d m))) (Known (colourAt s other))) e z
 
   pub mask-by : (p : Start) → depth r ≡ 1 → rowMask d (rowBy r k y p other) x
-      ≡ cond (coded r) (cond area (maskRead d p (scale k (r .y) y .0 * r .width + scale k (r .x) x .0)) (bitOf other)) (bitOf other)
+      ≡ cond (coded r) (cond area (maskRead d p (scale k (topOf r) y .0 * r .width + scale k (leftOf r) x .0)) (bitOf other)) (bitOf other)
   unfolding rowBy
-  mask-by p e = go (coded r) (covers (r .y) (r .height) k y) (covers (r .x) (r .width) k x) refl
+  mask-by p e = go (coded r) (covers (topOf r) (r .height) k y) (covers (leftOf r) (r .width) k x) refl
     where
       out : rowMask d (rowOut other) x ≡ bitOf other
       out = rowMask-out d other x passed
 
-      go : (a b c : Bool) → covers (r .x) (r .width) k x ≡ c
+      go : (a b c : Bool) → covers (leftOf r) (r .width) k x ≡ c
           → rowMask d (cond (a && b) (rowIn r k y p other) (rowOut other)) x
-          ≡ cond a (cond (c && b) (maskRead d p (scale k (r .y) y .0 * r .width + scale k (r .x) x .0)) (bitOf other)) (bitOf other)
+          ≡ cond a (cond (c && b) (maskRead d p (scale k (topOf r) y .0 * r .width + scale k (leftOf r) x .0)) (bitOf other)) (bitOf other)
       go false b c z = out
       go true false false z = out
       go true false true z = out
-      go true true c z = mask-in p e ∙ ap (λ (t : Bool). cond t (maskRead d p (scale k (r .y) y .0 * r .width + scale k (r .x) x .0)) (bitOf other)) z ∙ ap (λ (t : Bool). cond t (maskRead d p (scale k (r .y) y .0 * r .width + scale k (r .x) x .0)) (bitOf other)) (sym (and-true c))
+      go true true c z = mask-in p e ∙ ap (λ (t : Bool). cond t (maskRead d p (scale k (topOf r) y .0 * r .width + scale k (leftOf r) x .0)) (bitOf other)) z ∙ ap (λ (t : Bool). cond t (maskRead d p (scale k (topOf r) y .0 * r .width + scale k (leftOf r) x .0)) (bitOf other)) (sym (and-true c))
 
   pub image-by : (s : List ℕ) (p : Start) → rowImage s d (rowBy r k y p other) x
-      ≡ cond (coded r && area) (imageRead d (depth r) p (scale k (r .y) y .0 * r .width + scale k (r .x) x .0)) (Known (colourAt s other))
+      ≡ cond (coded r && area) (imageRead d (depth r) p (scale k (topOf r) y .0 * r .width + scale k (leftOf r) x .0)) (Known (colourAt s other))
   unfolding rowBy
-  image-by s p = go (coded r) (covers (r .y) (r .height) k y) (covers (r .x) (r .width) k x) refl
+  image-by s p = go (coded r) (covers (topOf r) (r .height) k y) (covers (leftOf r) (r .width) k x) refl
     where
       out : rowImage s d (rowOut other) x ≡ Known (colourAt s other)
       out = rowImage-out s d other x passed
 
-      go : (a b c : Bool) → covers (r .x) (r .width) k x ≡ c
+      go : (a b c : Bool) → covers (leftOf r) (r .width) k x ≡ c
           → rowImage s d (cond (a && b) (rowIn r k y p other) (rowOut other)) x
-          ≡ cond (a && (c && b)) (imageRead d (depth r) p (scale k (r .y) y .0 * r .width + scale k (r .x) x .0)) (Known (colourAt s other))
+          ≡ cond (a && (c && b)) (imageRead d (depth r) p (scale k (topOf r) y .0 * r .width + scale k (leftOf r) x .0)) (Known (colourAt s other))
       go false b c z = out
       go true false false z = out
       go true false true z = out
-      go true true c z = image-in s p ∙ ap (λ (t : Bool). cond t (imageRead d (depth r) p (scale k (r .y) y .0 * r .width + scale k (r .x) x .0)) (Known (colourAt s other))) (z ∙ sym (and-true c))
+      go true true c z = image-in s p ∙ ap (λ (t : Bool). cond t (imageRead d (depth r) p (scale k (topOf r) y .0 * r .width + scale k (leftOf r) x .0)) (Known (colourAt s other))) (z ∙ sym (and-true c))
 
 -- ---- what a layer gives outside its area
 

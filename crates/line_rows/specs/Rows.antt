@@ -24,7 +24,7 @@ use Rattle.pixel_rules.specs.declared.MainPos.{MainPos}
 use Rattle.pixel_rules.specs.declared.Plane.{Plane}
 use Rattle.pixel_rules.specs.declared.Start.{Start}
 use Rattle.pixel_rules.specs.declared.Start.the-variants.{From, Unread}
-use Rattle.pixel_rules.specs.Place.{ratio, scale, covers}
+use Rattle.pixel_rules.specs.Place.{ratio, leftOf, topOf, areaEnd, scale, covers}
 use Rattle.pixel_rules.specs.Planes.{planeStart}
 use Rattle.pixel_rules.specs.Samples.{depth}
 use Rattle.line_sample.specs.Factor.{factorOf}
@@ -32,17 +32,25 @@ use Rattle.line_fetch.specs.declared.Row.{Row}
 use Rattle.line_fetch.specs.Rows.{numbersOf}
 
 abbrev pub rowOut : ℕ → Row
-rowOut other = record { from = 0; to = 0; factor = factorOf 1; read = 0; at = 0; other = other; ratio = 1 }
+rowOut other = record { from = record { 0 = 0 }; to = record { 0 = 0 }; factor = factorOf 1; read = 0; at = 0; other = other; ratio = 1 }
 
 unfoldable pub rowIn : Record → ℕ → MainPos → Start → ℕ → Row
 rowIn r q y Unread other =
-    record { from = r .x; to = r .x + r .width * q; factor = factorOf q; read = 0; at = 0; other = other; ratio = q }
+    record { from = leftOf r; to = areaEnd (leftOf r) (r .width) q; factor = factorOf q; read = 0; at = 0; other = other; ratio = q }
 rowIn r q y (From a) other =
-    record { from = r .x; to = r .x + r .width * q; factor = factorOf q; read = depth r; at = a + scale q (r .y) y .0 * r .width * depth r; other = other; ratio = q }
+    record {
+      from = leftOf r;
+      to = areaEnd (leftOf r) (r .width) q;
+      factor = factorOf q;
+      read = depth r;
+      at = a + scale q (topOf r) y .0 * r .width * depth r;
+      other = other;
+      ratio = q;
+    }
 
 unfoldable pub rowBy : Record → ℕ → MainPos → Start → ℕ → Row
 unfolding rowIn
-rowBy r q y p other = cond (coded r && covers (r .y) (r .height) q y) (rowIn r q y p other) (rowOut other)
+rowBy r q y p other = cond (coded r && covers (topOf r) (r .height) q y) (rowIn r q y p other) (rowOut other)
 
 -- a base colour stands at octet 14 of its record
 unfoldable pub otherOf : Bool → Record → ℕ → ℕ → ℕ
@@ -62,7 +70,7 @@ pub record Covered (r : Record) (q : ℕ) (y : MainPos) : Type 0 where
   pub some : 0 < q
   pub small : q < 65536
   pub high : r .height < 65536
-  pub within : covers (r .y) (r .height) q y ≡ true
+  pub within : covers (topOf r) (r .height) q y ≡ true
 
 -- layer l of a stripe whose main resolution is m; c: layer 3 is coded
 pub record Layer (s : List ℕ) (extent : Extent) (m : ℕ) (c : Bool) (l : ℕ) : Type 0 where

@@ -3,7 +3,7 @@ ghost use mathlib.Core.Path.{_≡_};
 ghost use Prim.Native.Nat.{_+_, _-_, _*_, _/_, _<_, _≤_};
 ghost use lib.ListN.{length};
 ghost use Rattle.octets.specs.Octets.{putAt};
-ghost use Rattle.pixel_rules.specs.Place.{covers};
+ghost use Rattle.pixel_rules.specs.Place.{leftOf, topOf, areaEnd, covers};
 ghost use Rattle.line_planes.specs.Listing.{entriesOf};
 ghost use Rattle.line_fetch.specs.Rows.{rowSize, numbersOf};
 ghost use Rattle.line_rows.specs.Rows.{rowIn, rowOut, rowBy, otherOf, rowOf, rowsOf, Covered, Layer, Standing};
@@ -17,21 +17,35 @@ use sheet_rules::Extent;
 use sheet_rules::RECORD_SIZE;
 use sheet_rules::Record;
 
-// Where n samples of ratio main pixels each end, from an offset on.
-pub fn area_end(o: usize, n: usize, ratio: usize) -> usize
-    requires { ⌜ (o < 65536) × (n < 65536) × (ratio < 65536) ⌝ }
-    ensures { λ r. ⌜ r ≡ o + n * ratio ⌝ }
+// A layer's offset along a line, as a place.
+pub fn left_of(r: Record) -> MainPos
+    ensures { λ o. ⌜ (o ≡ leftOf r) × (o .0 < 65536) ⌝ }
 {
-    o + n * ratio
+    MainPos(octets_get::wide16(r.x))
+}
+
+// A layer's offset down its stripe, as a place.
+pub fn top_of(r: Record) -> MainPos
+    ensures { λ o. ⌜ (o ≡ topOf r) × (o .0 < 65536) ⌝ }
+{
+    MainPos(octets_get::wide16(r.y))
+}
+
+// Where n samples of ratio main pixels each end, from an offset on.
+pub fn area_end(o: MainPos, n: usize, ratio: usize) -> MainPos
+    requires { ⌜ (o .0 < 65536) × (n < 65536) × (ratio < 65536) ⌝ }
+    ensures { λ r. ⌜ r ≡ areaEnd o n ratio ⌝ }
+{
+    MainPos(o.0 + n * ratio)
 }
 
 // The line crosses the layer's area.
-pub fn line_covers(o: usize, n: usize, ratio: usize, y: MainPos) -> bool
-    requires { ⌜ (o < 65536) × (n < 65536) × (ratio < 65536) ⌝ }
+pub fn line_covers(o: MainPos, n: usize, ratio: usize, y: MainPos) -> bool
+    requires { ⌜ (o .0 < 65536) × (n < 65536) × (ratio < 65536) ⌝ }
     ensures { λ b. ⌜ b ≡ covers o n ratio y ⌝ }
 {
     let to = area_end(o, n, ratio);
-    (o <= y.0) & (y.0 < to)
+    (o.0 <= y.0) & (y.0 < to.0)
 }
 
 // Where the samples of a row start, so many rows down, of so many octets each.
@@ -48,7 +62,7 @@ pub fn row_in(r: Record, ratio: usize, y: MainPos, p: Start, other: usize) -> Ro
     requires { ⌜ Covered r ratio y ⌝ }
     ensures { λ w. ⌜ w ≡ rowIn r ratio y p other ⌝ }
 {
-    let from = octets_get::wide16(r.x);
+    let from = left_of(r);
     let to = area_end(from, octets_get::wide16(r.width), ratio);
     let factor = line_sample::factor_of(ratio);
     match p {
@@ -63,7 +77,7 @@ pub fn row_in(r: Record, ratio: usize, y: MainPos, p: Start, other: usize) -> Ro
         },
         Start::From(a) => {
             let each = line_sample::depth_of(r);
-            let down = line_sample::scale_pos(ratio, factor, octets_get::wide16(r.y), y);
+            let down = line_sample::scale_pos(ratio, factor, top_of(r), y);
             Row {
                 from: from,
                 to: to,
@@ -82,8 +96,8 @@ pub fn row_out(other: usize) -> Row
     ensures { λ w. ⌜ w ≡ rowOut other ⌝ }
 {
     Row {
-        from: 0,
-        to: 0,
+        from: MainPos(0),
+        to: MainPos(0),
         factor: line_sample::factor_of(1),
         read: 0,
         at: 0,
@@ -99,12 +113,7 @@ pub fn row_by(r: Record, ratio: usize, y: MainPos, p: Start, other: usize) -> Ro
     if r.len == 0 {
         return row_out(other);
     }
-    if line_covers(
-        octets_get::wide16(r.y),
-        octets_get::wide16(r.height),
-        ratio,
-        y,
-    ) {
+    if line_covers(top_of(r), octets_get::wide16(r.height), ratio, y) {
         row_in(r, ratio, y, p, other)
     } else {
         row_out(other)
@@ -161,8 +170,8 @@ pub fn put_row(rows: &mut [usize], l: usize, w: Row)
     ensures { λ _. ⌜ now (rows .exit) ≡ putAt (now (rows .entry)) ((l - 1) * rowSize) (numbersOf w) ⌝ }
 {
     let b = (l - 1) * ROW_SIZE;
-    rows[b] = w.from;
-    rows[b + 1] = w.to;
+    rows[b] = w.from.0;
+    rows[b + 1] = w.to.0;
     rows[b + 2] = w.factor;
     rows[b + 3] = w.read;
     rows[b + 4] = w.at;

@@ -31,19 +31,19 @@ module _ (k : ℕ) where
   unfolding factorOf
   factor-any = refl
 
-module _ (k f o : ℕ) (p : MainPos) (g : Steps k f o p) where
-  place-near : (p .0 - o) / k < 65536
+module _ (k f : ℕ) (o p : MainPos) (g : Steps k f o p) where
+  place-near : (p .0 - o .0) / k < 65536
   unfolding scale
   place-near = g .near
 
-  pub place-fits : (p .0 - o) * f < 18446744073709551616
-  place-fits = rw (g .factor) (factor-fits k (p .0 - o) (g .some) (g .small) place-near)
+  pub place-fits : (p .0 - o .0) * f < 18446744073709551616
+  place-fits = rw (g .factor) (factor-fits k (p .0 - o .0) (g .some) (g .small) place-near)
 
-  pub place-scaled : record { 0 = (p .0 - o) * f / 281474976710656 } ≡ scale k o p
+  pub place-scaled : record { 0 = (p .0 - o .0) * f / 281474976710656 } ≡ scale k o p
   unfolding scale
   place-scaled =
       ap (λ (i : ℕ). let q : SamplePos = record { 0 = i } in q)
-      (ap (λ (i : ℕ). (p .0 - o) * i / 281474976710656) (g .factor) ∙ factor-divides k (p .0 - o) (g .some) (g .small) place-near)
+      (ap (λ (i : ℕ). (p .0 - o .0) * i / 281474976710656) (g .factor) ∙ factor-divides k (p .0 - o .0) (g .some) (g .small) place-near)
 
 -- ---- a bit
 

@@ -10,9 +10,9 @@ use Rattle.pixel_rules.specs.Place.{scale}
 unfoldable pub factorOf : ℕ → ℕ
 factorOf k = (281474976710655 + k) / k
 
-pub record Steps (k f o : ℕ) (p : MainPos) : Type 0 where
+pub record Steps (k f : ℕ) (o p : MainPos) : Type 0 where
   pub some : 0 < k
   pub small : k < 65536
   pub factor : f ≡ factorOf k
-  pub past : o ≤ p .0
+  pub past : o .0 ≤ p .0
   pub near : scale k o p .0 < 65536

@@ -30,11 +30,11 @@ pub fn factor_of(k: usize) -> usize
 
 // The one step from a main place to a sample's. A division by the ratio would cost more than all else of a pixel, and with a choice among constants
 // a line took a quarter longer; the ratio is there to say what the factor divides by.
-pub fn scale_pos(ratio: usize, factor: usize, o: usize, p: MainPos) -> SamplePos
+pub fn scale_pos(ratio: usize, factor: usize, o: MainPos, p: MainPos) -> SamplePos
     requires { ⌜ Steps ratio factor o p ⌝ }
     ensures { λ r. ⌜ r ≡ scale ratio o p ⌝ }
 {
-    let d = p.0 - o;
+    let d = p.0 - o.0;
     SamplePos(d * factor / 281474976710656)
 }
 

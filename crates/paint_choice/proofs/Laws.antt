@@ -70,45 +70,45 @@ module _ (d : List ℕ) (m : Row) (x y : ℕ) (g : MaskPart d m x y) (i j : ℕ)
       omega arith
 
   pub bits-small-last : j ≤ y
-  bits-small-last = let e = q .is in let r = div-le-self (y - 1 - m .from) (m .ratio) in omega arith
+  bits-small-last = let e = q .is in let r = div-le-self (y - 1 - m .from .0) (m .ratio) in omega arith
 
-  reach : y ≤ m .from + i * m .ratio + (j - i + 1) * m .ratio
+  reach : y ≤ m .from .0 + i * m .ratio + (j - i + 1) * m .ratio
   reach = let n = span in let o = q .high in let u = mul-le-mul-right (m .ratio) read-order in let z = g .some in omega arith
 
-  pub spread-at : (l b : List ℕ) → y - x + 24 ≤ length l → Spread d (m .at + i) (m .ratio) (j - i + 1) l b → SpreadAt d m x y (length l) (x - (m .from + i * m .ratio)) b
+  pub spread-at : (l b : List ℕ) → y - x + 24 ≤ length l → Spread d (m .at + i) (m .ratio) (j - i + 1) l b → SpreadAt d m x y (length l) (x - (m .from .0 + i * m .ratio)) b
   spread-at l b r s =
       record {
         long = s .long;
-        fits = room-from x y (m .from + i * m .ratio) ((j - i + 1) * m .ratio) (length l) (g .some) (p .low) reach (bits-room (length l) r);
+        fits = room-from x y (m .from .0 + i * m .ratio) ((j - i + 1) * m .ratio) (length l) (g .some) (p .low) reach (bits-room (length l) r);
         there = λ z t.
             let w = p .low in
-            let k = past-from (i * m .ratio) (m .from + i * m .ratio) x z (m .from) (omega arith) w (omega arith) in
-            let y₁ : (x + z - m .from) / m .ratio ≡ (x - (m .from + i * m .ratio) + z) / m .ratio + i =
-            ap (λ (o : ℕ). o / m .ratio) k ∙ add-mul-div-right (x - (m .from + i * m .ratio) + z) i (g .turns .some) in
-            let q₁ : m .at + i + (x - (m .from + i * m .ratio) + z) / m .ratio ≡ m .at + (x + z - m .from) / m .ratio = omega arith in
-            s .there (x - (m .from + i * m .ratio) + z) (inside-end x z (m .from + i * m .ratio) y ((j - i + 1) * m .ratio) t reach w) ∙ ap (λ (o : ℕ). getD d o 0) q₁;
+            let k = past-from (i * m .ratio) (m .from .0 + i * m .ratio) x z (m .from .0) (omega arith) w (omega arith) in
+            let y₁ : (x + z - m .from .0) / m .ratio ≡ (x - (m .from .0 + i * m .ratio) + z) / m .ratio + i =
+            ap (λ (o : ℕ). o / m .ratio) k ∙ add-mul-div-right (x - (m .from .0 + i * m .ratio) + z) i (g .turns .some) in
+            let q₁ : m .at + i + (x - (m .from .0 + i * m .ratio) + z) / m .ratio ≡ m .at + (x + z - m .from .0) / m .ratio = omega arith in
+            s .there (x - (m .from .0 + i * m .ratio) + z) (inside-end x z (m .from .0 + i * m .ratio) y ((j - i + 1) * m .ratio) t reach w) ∙ ap (λ (o : ℕ). getD d o 0) q₁;
       }
 
 pub ruleset spreading = (needs, read-order, bits-room, bits-there, spread-at)
 
 module _ (d : List ℕ) (m : Row) (v a x y : ℕ) (g : MaskPart d m x y) (h : a ≤ x) where
-  pub read-whole : (l e : List ℕ) → m .ratio ≡ 1 → Marked (bitsFrom d (x - a) (m .at + (x - m .from))) l (x - a) (y - a) v e → Marked (maskBits d m a) l (x - a) (y - a) v e
+  pub read-whole : (l e : List ℕ) → m .ratio ≡ 1 → Marked (bitsFrom d (x - a) (m .at + (x - m .from .0))) l (x - a) (y - a) v e → Marked (maskBits d m a) l (x - a) (y - a) v e
   unfolding bitsFrom maskBits
   read-whole l e k c =
       let f = g .from in
-      marked-as (bitsFrom d (x - a) (m .at + (x - m .from))) (maskBits d m a) l e (x - a) (y - a) v
+      marked-as (bitsFrom d (x - a) (m .at + (x - m .from .0))) (maskBits d m a) l e (x - a) (y - a) v
       (λ i p q.
-      let z : m .at + (x - m .from) + (i - (x - a)) ≡ m .at + (a + i - m .from) = omega arith in
-      let w : (a + i - m .from) / m .ratio ≡ a + i - m .from = ap (λ (o : ℕ). (a + i - m .from) / o) k ∙ div-one (a + i - m .from) in
+      let z : m .at + (x - m .from .0) + (i - (x - a)) ≡ m .at + (a + i - m .from .0) = omega arith in
+      let w : (a + i - m .from .0) / m .ratio ≡ a + i - m .from .0 = ap (λ (o : ℕ). (a + i - m .from .0) / o) k ∙ div-one (a + i - m .from .0) in
       ap (λ (o : ℕ). getD d o 0) (z ∙ ap (λ (o : ℕ). m .at + o) (sym w))) c
 
-  pub whole-there : m .ratio ≡ 1 → m .at + (x - m .from) + (y - a - (x - a)) ≤ length d
+  pub whole-there : m .ratio ≡ 1 → m .at + (x - m .from .0) + (y - a - (x - a)) ≤ length d
   whole-there k =
       let f = g .from in
       let s = g .some in
       let t = g .to in
       let e = g .there (y - 1) (omega arith) (omega arith) in
-      let w : (y - 1 - m .from) / m .ratio ≡ y - 1 - m .from = ap (λ (o : ℕ). (y - 1 - m .from) / o) k ∙ div-one (y - 1 - m .from) in
+      let w : (y - 1 - m .from .0) / m .ratio ≡ y - 1 - m .from .0 = ap (λ (o : ℕ). (y - 1 - m .from .0) / o) k ∙ div-one (y - 1 - m .from .0) in
       omega arith
 
   pub spread-room : (room r : ℕ) (b : List ℕ) → SpreadAt d m x y room r b → r + (y - a - (x - a)) ≤ length b
@@ -120,6 +120,6 @@ module _ (d : List ℕ) (m : Row) (v a x y : ℕ) (g : MaskPart d m x y) (h : a 
       marked-as (bitsFrom b (x - a) r) (maskBits d m a) l e (x - a) (y - a) v
       (λ z f t.
       let k : x + (z - (x - a)) ≡ a + z = omega arith in
-      s .there (z - (x - a)) (omega arith) ∙ ap (λ (o : ℕ). getD d (m .at + (o - m .from) / m .ratio) 0) k) c
+      s .there (z - (x - a)) (omega arith) ∙ ap (λ (o : ℕ). getD d (m .at + (o - m .from .0) / m .ratio) 0) k) c
 
 pub ruleset reading = (needs, read-whole, whole-there, spread-room, read-spread)

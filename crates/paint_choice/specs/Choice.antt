@@ -33,18 +33,18 @@ pub record Spread (m : List ℕ) (i k n : ℕ) (l e : List ℕ) : Type 0 where
   pub there : (x : ℕ) → x < n * k → getD e x 0 ≡ getD m (i + x / k) 0
 
 unfoldable pub maskBits : List ℕ → Row → ℕ → ℕ → ℕ
-maskBits d m a i = getD d (m .at + (a + i - m .from) / m .ratio) 0
+maskBits d m a i = getD d (m .at + (a + i - m .from .0) / m .ratio) 0
 
 pub record MaskPart (d : List ℕ) (m : Row) (x y : ℕ) : Type 0 where
   pub some : x < y
   pub turns : Turns m
   pub few : m .ratio ≤ 12
-  pub from : m .from ≤ x
-  pub to : y ≤ m .to
+  pub from : m .from .0 ≤ x
+  pub to : y ≤ m .to .0
   pub near : y < 65536
-  pub there : (z : ℕ) → m .from ≤ z → z < m .to → m .at + (z - m .from) / m .ratio < length d
+  pub there : (z : ℕ) → m .from .0 ≤ z → z < m .to .0 → m .at + (z - m .from .0) / m .ratio < length d
 
 pub record SpreadAt (d : List ℕ) (m : Row) (x y room r : ℕ) (e : List ℕ) : Type 0 where
   pub long : length e ≡ room
   pub fits : r + (y - x) ≤ room
-  pub there : (i : ℕ) → i < y - x → getD e (r + i) 0 ≡ getD d (m .at + (x + i - m .from) / m .ratio) 0
+  pub there : (i : ℕ) → i < y - x → getD e (r + i) 0 ≡ getD d (m .at + (x + i - m .from .0) / m .ratio) 0

@@ -6,6 +6,7 @@ ghost use lib.ListN.{length};
 ghost use lib.Dec.{eqb};
 ghost use Rattle.paint_choice.specs.Choice.{Marked, ever, bitsFrom, Spread, maskBits, SpreadAt, MaskPart};
 use line_fetch::Row;
+use pixel_rules::MainPos;
 
 // Mask 0 keeps.
 pub fn pick(m: u8, low: u8, up: u8) -> u8
@@ -112,7 +113,7 @@ pub fn spread(bits: &mut [u8], d: &[u8], m: Row, x: usize, y: usize) -> usize
     let i = paint_image::sample_of(m, x);
     let n = paint_image::sample_of(m, y - 1) - i + 1;
     lay_bits(bits, d, m.at + i, n, m.ratio);
-    x - (m.from + i * m.ratio)
+    x - (m.from.0 + i * m.ratio)
 }
 
 // A mask that was read, in a part of its area: pixels from x up to y, the floors starting at pixel a.
@@ -130,7 +131,8 @@ pub fn mask_read(
     ensures { λ _. ⌜ Marked (maskBits (now (d .entry)) m a) (now (sel .entry)) (x - a) (y - a) v (now (sel .exit)) ⌝ }
 {
     if m.ratio == 1 {
-        choose(sel, x - a, y - a, d, m.at + (x - m.from), v);
+        let left: MainPos = m.from;
+        choose(sel, x - a, y - a, d, m.at + (x - left.0), v);
         return;
     }
     let i = spread(bits, d, m, x, y);

@@ -33,9 +33,9 @@ dark-layer m r a b z e k t u = layer-unread e (k t)
 pub dark-not : (m r : Row) (a b : ℕ) → false ≡ true → Darkens m r a b
 dark-not m r a b e = clash cc
 
-pub dark-mask : (m r : Row) (a b : ℕ) → (m .other ≢ 0 → ⊥) → (eqb (m .read) 0 || leb (m .to) (m .from)) ≡ true → Darkens m r a b
+pub dark-mask : (m r : Row) (a b : ℕ) → (m .other ≢ 0 → ⊥) → (eqb (m .read) 0 || leb (m .to .0) (m .from .0)) ≡ true → Darkens m r a b
 dark-mask m r a b n t = never-one (⊎-elim (λ (z : m .other ≡ 0). z) (λ (z : m .other ≡ 0 → ⊥). absurd (n z)) (says-else (says-eq (m .other) 0)))
-    (says-or (says-eq (m .read) 0) (says-le (m .to) (m .from)) .told t)
+    (says-or (says-eq (m .read) 0) (says-le (m .to .0) (m .from .0)) .told t)
 
 pub ruleset darkening = (needs, dark-layer, dark-not, dark-mask)
 
@@ -62,19 +62,19 @@ zero-bit : (n : ℕ) → n ≡ 0 → bitOf n ≢ One
 unfolding bitOf
 zero-bit n e z = let o : bitOf 0 ≡ Zero = refl in clash cc
 
-never : (d : List ℕ) (m : Row) (x : ℕ) → m .other ≡ 0 → (m .read ≡ 0) ⊎ (m .to ≤ m .from) → rowMask d m (record { 0 = x }) ≢ One
+never : (d : List ℕ) (m : Row) (x : ℕ) → m .other ≡ 0 → (m .read ≡ 0) ⊎ (m .to .0 ≤ m .from .0) → rowMask d m (record { 0 = x }) ≢ One
 never d m x o k e =
     ⊎-elim
-    (λ (z : x < m .from). zero-bit (m .other) o (mask-before d m (record { 0 = x }) (bitOf (m .other)) z refl ∙ e))
-    (λ (z : x < m .from → ⊥).
+    (λ (z : x < m .from .0). zero-bit (m .other) o (mask-before d m (record { 0 = x }) (bitOf (m .other)) z refl ∙ e))
+    (λ (z : x < m .from .0 → ⊥).
     ⊎-elim
-    (λ (w : x < m .to).
+    (λ (w : x < m .to .0).
     ⊎-elim
     (λ (u : m .read ≡ 0). let h : Hidden ≡ One = mask-unread d m (record { 0 = x }) (omega arith) w u ∙ e in clash cc)
-    (λ (u : m .to ≤ m .from). absurd (omega arith)) k)
-    (λ (w : x < m .to → ⊥). zero-bit (m .other) o (mask-after d m (record { 0 = x }) (bitOf (m .other)) (omega arith) refl ∙ e))
-    (says-else (says-lt x (m .to))))
-    (says-else (says-lt x (m .from)))
+    (λ (u : m .to .0 ≤ m .from .0). absurd (omega arith)) k)
+    (λ (w : x < m .to .0 → ⊥). zero-bit (m .other) o (mask-after d m (record { 0 = x }) (bitOf (m .other)) (omega arith) refl ∙ e))
+    (says-else (says-lt x (m .to .0))))
+    (says-else (says-lt x (m .from .0)))
 
 module _ (s d ns : List ℕ) (a b : ℕ) where
   lost-step : (j : ℕ) (m r : Row) → m ≡ rowAt ns (suc j * 2) → r ≡ rowAt ns (suc j * 2 + 1) → Darkens m r a b → Lost s d ns j a b → Lost s d ns (suc j) a b

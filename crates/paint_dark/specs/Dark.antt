@@ -14,7 +14,7 @@ use Rattle.paint_image.specs.Image.{Between}
 
 pub data Darkens (m r : Row) (a b : ℕ) : Type 0 where
   image-unread : r .read ≡ 0 → Between r a b → Darkens m r a b
-  never-one : m .other ≡ 0 → (m .read ≡ 0) ⊎ (m .to ≤ m .from) → Darkens m r a b
+  never-one : m .other ≡ 0 → (m .read ≡ 0) ⊎ (m .to .0 ≤ m .from .0) → Darkens m r a b
 
 pub record Lost (s d ns : List ℕ) (n a b : ℕ) : Type 0 where
   pub lost : (x : ℕ) → a ≤ x → x < b → decide (rowStack s d ns (record { 0 = x })) n ≡ Unknown

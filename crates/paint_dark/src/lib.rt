@@ -19,7 +19,7 @@ fn stays_dark(m: Row, r: Row, a: usize, b: usize) -> bool
     if m.other != 0 {
         return false;
     }
-    (m.read == 0) | (m.to <= m.from)
+    (m.read == 0) | (m.to.0 <= m.from.0)
 }
 
 // So it is of all pairs from f on, where nothing is known of what pair f shows.

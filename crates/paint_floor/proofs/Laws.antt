@@ -33,8 +33,8 @@ use Rattle.paint_floor.specs.Floors.{insideBits, MarkOf, Covers, all-one
 
 -- ---- a part of an area, what stands for a pair
 
-pub spans-both : (r : Row) (a b : ℕ) → r .from ≤ a → leb b (r .to) ≡ true → Between r a b
-spans-both r a b h t = let k = says-le b (r .to) .told t in record { from = λ x p q. omega arith; to = λ x p q. omega arith }
+pub spans-both : (r : Row) (a b : ℕ) → r .from .0 ≤ a → leb b (r .to .0) ≡ true → Between r a b
+spans-both r a b h t = let k = says-le b (r .to .0) .told t in record { from = λ x p q. omega arith; to = λ x p q. omega arith }
 
 pub spans-not : (r : Row) (a b : ℕ) → false ≡ true → Between r a b
 spans-not r a b e = clash cc
@@ -146,7 +146,7 @@ module _ (st : Stack) (p c c′ : ℕ) where
 
 -- ---- the pixels of a part
 
-module _ (s d ns : List ℕ) (f a b j : ℕ) (m r : Row) (em : m ≡ rowAt ns ((j + 1) * 2)) (er : r ≡ rowAt ns ((j + 1) * 2 + 1)) (x y : ℕ) (wx : Within (m .from) a b x) (wy : Within (m .to) x b y) where
+module _ (s d ns : List ℕ) (f a b j : ℕ) (m r : Row) (em : m ≡ rowAt ns ((j + 1) * 2)) (er : r ≡ rowAt ns ((j + 1) * 2 + 1)) (x y : ℕ) (wx : Within (m .from .0) a b x) (wy : Within (m .to .0) x b y) where
   abbrev stack : ℕ → Stack
   stack i = rowStack s d ns (record { 0 = a + i })
 
@@ -193,9 +193,9 @@ module _ (s d ns : List ℕ) (f a b j : ℕ) (m r : Row) (em : m ≡ rowAt ns ((
         step-hidden (stack i) (j + 1) (getD l i 0) (getD o₃ i 0) v (mask-is i Hidden (mask-unread d m (record { 0 = a + i }) from to z))
         (dark-is v i k (omega arith) (omega arith)) (e ∙ ap (λ (o : ℕ). cond (eqb o 0) (getD l i 0) v) g))
         (λ (z : m .read ≡ 0 → ⊥).
-        let g : insideBits d m v a i ≡ getD d (m .at + (a + i - m .from) / m .ratio) 0 = simp (ne-eqb (m .read) 0 z) in
-        step-known (stack i) (j + 1) (getD l i 0) (getD o₃ i 0) (getD d (m .at + (a + i - m .from) / m .ratio) 0) v
-        (mask-is i (bitOf (getD d (m .at + (a + i - m .from) / m .ratio) 0)) (mask-read d m (record { 0 = a + i }) (bitOf (getD d (m .at + (a + i - m .from) / m .ratio) 0)) (record { 0 = (a + i - m .from) / m .ratio }) from to z refl refl))
+        let g : insideBits d m v a i ≡ getD d (m .at + (a + i - m .from .0) / m .ratio) 0 = simp (ne-eqb (m .read) 0 z) in
+        step-known (stack i) (j + 1) (getD l i 0) (getD o₃ i 0) (getD d (m .at + (a + i - m .from .0) / m .ratio) 0) v
+        (mask-is i (bitOf (getD d (m .at + (a + i - m .from .0) / m .ratio) 0)) (mask-read d m (record { 0 = a + i }) (bitOf (getD d (m .at + (a + i - m .from .0) / m .ratio) 0)) (record { 0 = (a + i - m .from .0) / m .ratio }) from to z refl refl))
         (k .same) (dark-is v i k (omega arith) (omega arith)) (e ∙ ap (λ (o : ℕ). cond (eqb o 0) (getD l i 0) v) g))
         (says-else (says-eq (m .read) 0))
 
@@ -234,15 +234,15 @@ module _ (s d ns : List ℕ) (pairs j : ℕ) (g : RowsFit s d ns pairs) (h : j <
 pub mask-few : (ns : List ℕ) (pairs j : ℕ) (m : Row) → PlainRows ns pairs → j < pairs → m ≡ rowAt ns ((j + 1) * 2) → m .ratio ≤ 12
 mask-few ns pairs j m g h e = subst (λ (o : Row). o .ratio ≤ 12) (sym e) (g .mask (j + 1) (omega arith) (omega arith) .few)
 
-pub mask-between : (m : Row) (a b x y : ℕ) → Within (m .from) a b x → Within (m .to) x b y → Between m x y
+pub mask-between : (m : Row) (a b x y : ℕ) → Within (m .from .0) a b x → Within (m .to .0) x b y → Between m x y
 mask-between m a b x y p q = record { from = λ z i j. p .behind z i (let h = q .high in omega arith); to = λ z i j. q .before z i j }
 
 pub ruleset pairing = (needs, mask-room, image-room, mask-fits, mask-few, mask-between, pair-sure)
 
 -- ---- a pair that covers a part
 
-pub covers-ones : (m r : Row) (a b : ℕ) → m .other ≢ 0 → leb (m .to) (m .from) ≡ true → Covers m r a b
-covers-ones m r a b n t = all-ones n (says-le (m .to) (m .from) .told t)
+pub covers-ones : (m r : Row) (a b : ℕ) → m .other ≢ 0 → leb (m .to .0) (m .from .0) ≡ true → Covers m r a b
+covers-ones m r a b n t = all-ones n (says-le (m .to .0) (m .from .0) .told t)
 
 pub covers-dark : (m r : Row) (a b : ℕ) (y z : Bool) → m .read ≡ 0 → r .read ≡ 0 → (y ≡ true → Between m a b) → y ≡ true → (z ≡ true → Between r a b) → z ≡ true → Covers m r a b
 covers-dark m r a b y z n o k t l u = all-dark n (k t) o (l u)
@@ -277,9 +277,9 @@ module _ (s d ns : List ℕ) (pairs a b : ℕ) where
       shows-one (rowStack s d ns (record { 0 = x })) j
       (ap (λ (w : Row). rowMask d w (record { 0 = x })) (sym em)
       ∙ sym (⊎-elim
-      (λ (z : x < m .from). mask-before d m (record { 0 = x }) (bitOf (m .other)) z refl)
-      (λ (z : x < m .from → ⊥). mask-after d m (record { 0 = x }) (bitOf (m .other)) (omega arith) refl)
-      (says-else (says-lt x (m .from))))
+      (λ (z : x < m .from .0). mask-before d m (record { 0 = x }) (bitOf (m .other)) z refl)
+      (λ (z : x < m .from .0 → ⊥). mask-after d m (record { 0 = x }) (bitOf (m .other)) (omega arith) refl)
+      (says-else (says-lt x (m .from .0))))
       ∙ bit-one (m .other) n)
   shows-suc j m r em er (all-dark n g o k) x p q =
       shows-dark (rowStack s d ns (record { 0 = x })) j

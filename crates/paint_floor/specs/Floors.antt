@@ -30,7 +30,7 @@ pub record MarkOf (r : Row) (j a b v : ℕ) : Type 0 where
   pub between : v ≡ dark → Between r a b
 
 pub data Covers (m r : Row) (a b : ℕ) : Type 0 where
-  all-ones : m .other ≢ 0 → m .to ≤ m .from → Covers m r a b
+  all-ones : m .other ≢ 0 → m .to .0 ≤ m .from .0 → Covers m r a b
   all-dark : m .read ≡ 0 → Between m a b → r .read ≡ 0 → Between r a b → Covers m r a b
 
 pub record PlainRows (ns : List ℕ) (pairs : ℕ) : Type 0 where

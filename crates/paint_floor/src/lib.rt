@@ -18,8 +18,8 @@ pub const DARK: u8 = 8;
 pub fn spans(r: Row, a: usize, b: usize) -> bool
     ensures { λ z. ⌜ (z ≡ true → Between r a b) ⌝ }
 {
-    if r.from <= a {
-        return b <= r.to;
+    if r.from.0 <= a {
+        return b <= r.to.0;
     }
     false
 }
@@ -93,8 +93,8 @@ fn mask_pair(
     let p = j + 1;
     let m = line_fetch::row_at(rows, p * 2);
     let r = line_fetch::row_at(rows, p * 2 + 1);
-    let x = paint_image::within(m.from, a, b);
-    let y = paint_image::within(m.to, x, b);
+    let x = paint_image::within(m.from.0, a, b);
+    let y = paint_image::within(m.to.0, x, b);
     let v = mark(r, p as u8, x, y);
     mark_beside(sel, 0, x - a, m.other, p as u8);
     mark_inside(sel, bits, d, m, v, a, x, y);
@@ -106,7 +106,7 @@ pub fn covers(m: Row, r: Row, a: usize, b: usize) -> bool
     ensures { λ z. ⌜ (z ≡ true → Covers m r a b) ⌝ }
 {
     if m.other != 0 {
-        return m.to <= m.from;
+        return m.to.0 <= m.from.0;
     }
     if m.read == 0 {
         if r.read == 0 {

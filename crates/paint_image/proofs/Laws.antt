@@ -28,19 +28,19 @@ use Rattle.paint_image.specs.Image.{imageFrom, areaFrom, moved, Plain, S
 
 -- ---- the sample of a pixel
 
-pub row-steps : (r : Row) (x : ℕ) → Turns r → r .from ≤ x → x < 65536 → Steps (r .ratio) (r .factor) (r .from) (record { 0 = x })
+pub row-steps : (r : Row) (x : ℕ) → Turns r → r .from .0 ≤ x → x < 65536 → Steps (r .ratio) (r .factor) (r .from) (record { 0 = x })
 unfolding scale
 row-steps r x t a h =
-    let d = div-le-self (x - r .from) (r .ratio) in
+    let d = div-le-self (x - r .from .0) (r .ratio) in
     record { some = t .some; small = t .small; factor = t .factor; past = a; near = omega arith }
 
-pub sample-at : (r : Row) (x : ℕ) (p : SamplePos) → Turns r → r .from ≤ x → p ≡ scale (r .ratio) (r .from) (record { 0 = x }) → SampleAt r x (p .0)
+pub sample-at : (r : Row) (x : ℕ) (p : SamplePos) → Turns r → r .from .0 ≤ x → p ≡ scale (r .ratio) (r .from) (record { 0 = x }) → SampleAt r x (p .0)
 unfolding scale
 sample-at r x p t a e =
-    let i : p .0 ≡ (x - r .from) / r .ratio = ap (λ (q : SamplePos). q .0) e in
-    let d = div-add-mod' (x - r .from) (r .ratio) in
-    let m = mod-lt (x - r .from) (t .some) in
-    let s : p .0 * r .ratio ≡ (x - r .from) / r .ratio * r .ratio = ap (λ (q : ℕ). q * r .ratio) i in
+    let i : p .0 ≡ (x - r .from .0) / r .ratio = ap (λ (q : SamplePos). q .0) e in
+    let d = div-add-mod' (x - r .from .0) (r .ratio) in
+    let m = mod-lt (x - r .from .0) (t .some) in
+    let s : p .0 * r .ratio ≡ (x - r .from .0) / r .ratio * r .ratio = ap (λ (q : ℕ). q * r .ratio) i in
     record { is = i; low = omega arith; high = omega arith }
 
 pub ruleset placing = (needs, row-steps, sample-at)
@@ -72,7 +72,7 @@ module _ (d : List ℕ) (r : Row) (i a b : ℕ) (g : OneFits d r i a b) where
   pub one-kind : r .read ≢ 3 → r .read ≡ 1
   one-kind = g .kind
 
-  in-one : (x : ℕ) → a ≤ x → x < b → (x - r .from) / r .ratio ≡ i
+  in-one : (x : ℕ) → a ≤ x → x < b → (x - r .from .0) / r .ratio ≡ i
   in-one x p q =
       let l = g .low in
       let h = g .high in
@@ -105,8 +105,8 @@ module _ (d : List ℕ) (r : Row) (t q n f : ℕ) (l : List ℕ) where
       let h = g .start in
       coated-as (over (samplesBy (r .read) (r .ratio) d t (r .at + q * r .read))) (over (moved t f (areaFrom d r))) l e t (t + n * r .ratio)
       (λ x o p u.
-      let y : f + (x - t) - r .from ≡ x - t + q * r .ratio = omega arith in
-      let z : (f + (x - t) - r .from) / r .ratio ≡ (x - t) / r .ratio + q = ap (λ (m : ℕ). m / r .ratio) y ∙ add-mul-div-right (x - t) q (g .some) in
+      let y : f + (x - t) - r .from .0 ≡ x - t + q * r .ratio = omega arith in
+      let z : (f + (x - t) - r .from .0) / r .ratio ≡ (x - t) / r .ratio + q = ap (λ (m : ℕ). m / r .ratio) y ∙ add-mul-div-right (x - t) q (g .some) in
       let w : ((x - t) / r .ratio + q) * r .read ≡ (x - t) / r .ratio * r .read + q * r .read = add-mul ((x - t) / r .ratio) q (r .read) in
       let v : r .at + q * r .read + (x - t) / r .ratio * r .read ≡ r .at + ((x - t) / r .ratio + q) * r .read = omega arith in
       ap (fourIn (r .read) d) (v ∙ ap (λ (m : ℕ). r .at + m * r .read) (sym z)))
@@ -137,7 +137,7 @@ moved-chain f t a m b u l o e p q z c g =
 
 -- ---- from a sample's start on
 
-module _ (d : List ℕ) (r : Row) (f b q j : ℕ) (g : PartFits d r f b) (h : f ≤ b) (z : f ≡ r .from + q * r .ratio) (s : SampleAt r b j) where
+module _ (d : List ℕ) (r : Row) (f b q j : ℕ) (g : PartFits d r f b) (h : f ≤ b) (z : f ≡ r .from .0 + q * r .ratio) (s : SampleAt r b j) where
   pub from-order : q ≤ j
   from-order =
       ⊎-elim
@@ -149,7 +149,7 @@ module _ (d : List ℕ) (r : Row) (f b q j : ℕ) (g : PartFits d r f b) (h : f 
       (λ (n : j < q → ⊥). omega arith)
       (says-else (says-lt j q))
 
-  part-count : (j - q) * r .ratio ≡ r .from + j * r .ratio - f
+  part-count : (j - q) * r .ratio ≡ r .from .0 + j * r .ratio - f
   part-count =
       let o = from-order in
       let y : j - q + q ≡ j = omega arith in
@@ -157,10 +157,10 @@ module _ (d : List ℕ) (r : Row) (f b q j : ℕ) (g : PartFits d r f b) (h : f 
       let w : (j - q + q) * r .ratio ≡ j * r .ratio = ap (λ (m : ℕ). m * r .ratio) y in
       omega arith
 
-  from-past : f ≤ r .from + j * r .ratio
+  from-past : f ≤ r .from .0 + j * r .ratio
   from-past = let m = mul-le-mul-right (r .ratio) from-order in omega arith
 
-  pub from-sub : f ≤ r .from + j * r .ratio
+  pub from-sub : f ≤ r .from .0 + j * r .ratio
   from-sub = from-past
 
   from-there : 0 < j - q → r .at + (q + (j - q)) * r .read ≤ length d
@@ -175,9 +175,9 @@ module _ (d : List ℕ) (r : Row) (f b q j : ℕ) (g : PartFits d r f b) (h : f 
       let u′ : (j - 1 + 1) * r .read ≡ j * r .read = ap (λ (i : ℕ). i * r .read) k in
       let a = g .turns .some in
       let c = g .to in
-      let e : (r .from + (j - 1) * r .ratio - r .from) / r .ratio ≡ j - 1 = div-eq-of-lt-le (r .ratio) (omega arith) (omega arith) in
-      let t = g .there (r .from + (j - 1) * r .ratio) (omega arith) (omega arith) in
-      let t′ : (r .from + (j - 1) * r .ratio - r .from) / r .ratio * r .read ≡ (j - 1) * r .read = ap (λ (i : ℕ). i * r .read) e in
+      let e : (r .from .0 + (j - 1) * r .ratio - r .from .0) / r .ratio ≡ j - 1 = div-eq-of-lt-le (r .ratio) (omega arith) (omega arith) in
+      let t = g .there (r .from .0 + (j - 1) * r .ratio) (omega arith) (omega arith) in
+      let t′ : (r .from .0 + (j - 1) * r .ratio - r .from .0) / r .ratio * r .read ≡ (j - 1) * r .read = ap (λ (i : ℕ). i * r .read) e in
       let i : (q + (j - q)) * r .read ≡ j * r .read = ap (λ (i : ℕ). i * r .read) y in
       omega arith
 
@@ -190,18 +190,18 @@ module _ (d : List ℕ) (r : Row) (f b q j : ℕ) (g : PartFits d r f b) (h : f 
   pub from-room : (t len : ℕ) → (t + (b - f)) * 4 ≤ len → (t + (j - q) * r .ratio) * 4 ≤ len
   from-room t len k = let c = part-count in let p = from-past in let w = s .low in omega arith
 
-  pub from-one : r .from + j * r .ratio < b → OneFits d r j (r .from + j * r .ratio) b
+  pub from-one : r .from .0 + j * r .ratio < b → OneFits d r j (r .from .0 + j * r .ratio) b
   from-one n =
       let v = s .high in
       let c = g .to in
       let a = g .turns .some in
       let k : (j + 1) * r .ratio ≡ j * r .ratio + r .ratio = add-mul j 1 (r .ratio) ∙ ap (λ (i : ℕ). j * r .ratio + i) (one-mul (r .ratio)) in
-      let e : (r .from + j * r .ratio - r .from) / r .ratio ≡ j = div-eq-of-lt-le (r .ratio) (omega arith) (omega arith) in
-      let t = g .there (r .from + j * r .ratio) (omega arith) (omega arith) in
-      let t′ : (r .from + j * r .ratio - r .from) / r .ratio * r .read ≡ j * r .read = ap (λ (i : ℕ). i * r .read) e in
+      let e : (r .from .0 + j * r .ratio - r .from .0) / r .ratio ≡ j = div-eq-of-lt-le (r .ratio) (omega arith) (omega arith) in
+      let t = g .there (r .from .0 + j * r .ratio) (omega arith) (omega arith) in
+      let t′ : (r .from .0 + j * r .ratio - r .from .0) / r .ratio * r .read ≡ j * r .read = ap (λ (i : ℕ). i * r .read) e in
       record { some = omega arith; low = omega arith; high = omega arith; kind = from-kind; there = omega arith }
 
-  pub from-none : (t : ℕ) (l o : List ℕ) → b ≤ r .from + j * r .ratio → Coated (over (moved t f (areaFrom d r))) l t (t + (j - q) * r .ratio) o
+  pub from-none : (t : ℕ) (l o : List ℕ) → b ≤ r .from .0 + j * r .ratio → Coated (over (moved t f (areaFrom d r))) l t (t + (j - q) * r .ratio) o
       → Coated (over (moved t f (areaFrom d r))) l t (t + (b - f)) o
   from-none t l o n c =
       let k = part-count in
@@ -209,12 +209,12 @@ module _ (d : List ℕ) (r : Row) (f b q j : ℕ) (g : PartFits d r f b) (h : f 
       let y : t + (j - q) * r .ratio ≡ t + (b - f) = omega arith in
       subst (λ (i : ℕ). Coated (over (moved t f (areaFrom d r))) l t i o) y c
 
-  pub from-both : (t : ℕ) (l o e : List ℕ) → r .from + j * r .ratio < b → Coated (over (moved t f (areaFrom d r))) l t (t + (j - q) * r .ratio) o
-      → Coated (over (moved (t + (r .from + j * r .ratio - f)) (r .from + j * r .ratio) (areaFrom d r))) o (t + (r .from + j * r .ratio - f)) (t + (r .from + j * r .ratio - f) + (b - (r .from + j * r .ratio))) e
+  pub from-both : (t : ℕ) (l o e : List ℕ) → r .from .0 + j * r .ratio < b → Coated (over (moved t f (areaFrom d r))) l t (t + (j - q) * r .ratio) o
+      → Coated (over (moved (t + (r .from .0 + j * r .ratio - f)) (r .from .0 + j * r .ratio) (areaFrom d r))) o (t + (r .from .0 + j * r .ratio - f)) (t + (r .from .0 + j * r .ratio - f) + (b - (r .from .0 + j * r .ratio))) e
       → Coated (over (moved t f (areaFrom d r))) l t (t + (b - f)) e
   from-both t l o e n c k =
-      let y : t + (j - q) * r .ratio ≡ t + (r .from + j * r .ratio - f) = ap (λ (i : ℕ). t + i) part-count in
-      moved-chain (areaFrom d r) t f (r .from + j * r .ratio) b (t + (r .from + j * r .ratio - f)) l o e from-past (omega arith) refl
+      let y : t + (j - q) * r .ratio ≡ t + (r .from .0 + j * r .ratio - f) = ap (λ (i : ℕ). t + i) part-count in
+      moved-chain (areaFrom d r) t f (r .from .0 + j * r .ratio) b (t + (r .from .0 + j * r .ratio - f)) l o e from-past (omega arith) refl
       (subst (λ (i : ℕ). Coated (over (moved t f (areaFrom d r))) l t i o) y c) k
 
 pub ruleset froms = (needs, from-order, from-sub, from-whole, from-room, from-one, from-none, from-both)
@@ -227,36 +227,36 @@ module _ (d : List ℕ) (r : Row) (a b i : ℕ) (g : PartFits d r a b) (h : a < 
       let k = g .from in
       let c = g .to in
       let t = g .there a k (omega arith) in
-      let e : i * r .read ≡ (a - r .from) / r .ratio * r .read = ap (λ (m : ℕ). m * r .read) (s .is) in
+      let e : i * r .read ≡ (a - r .from .0) / r .ratio * r .read = ap (λ (m : ℕ). m * r .read) (s .is) in
       omega arith
 
   area-kind : r .read ≢ 3 → r .read ≡ 1
   area-kind n = g .plain .one (g .read) n
 
-  pub area-one : b ≤ r .from + i * r .ratio + r .ratio → OneFits d r i a b
+  pub area-one : b ≤ r .from .0 + i * r .ratio + r .ratio → OneFits d r i a b
   area-one n = record { some = omega arith; low = s .low; high = n; kind = area-kind; there = in-sample }
 
-  pub area-first : OneFits d r i a (r .from + i * r .ratio + r .ratio)
+  pub area-first : OneFits d r i a (r .from .0 + i * r .ratio + r .ratio)
   area-first = let v = s .high in record { some = omega arith; low = s .low; high = omega arith; kind = area-kind; there = in-sample }
 
-  pub area-next : r .from + i * r .ratio + r .ratio < b → PartFits d r (r .from + i * r .ratio + r .ratio) b
+  pub area-next : r .from .0 + i * r .ratio + r .ratio < b → PartFits d r (r .from .0 + i * r .ratio + r .ratio) b
   area-next n = record { turns = g .turns; plain = g .plain; read = g .read; from = omega arith; to = g .to; near = g .near; there = g .there }
 
-  pub area-start : r .from + i * r .ratio + r .ratio ≡ r .from + (i + 1) * r .ratio
+  pub area-start : r .from .0 + i * r .ratio + r .ratio ≡ r .from .0 + (i + 1) * r .ratio
   area-start =
       let k : (i + 1) * r .ratio ≡ i * r .ratio + r .ratio = add-mul i 1 (r .ratio) ∙ ap (λ (m : ℕ). i * r .ratio + m) (one-mul (r .ratio)) in
       omega arith
 
-  pub area-both : (t : ℕ) (l o e : List ℕ) → r .from + i * r .ratio + r .ratio < b
-      → Coated (over (moved t a (areaFrom d r))) l t (t + (r .from + i * r .ratio + r .ratio - a)) o
-      → Coated (over (moved (t + (r .from + i * r .ratio + r .ratio - a)) (r .from + i * r .ratio + r .ratio) (areaFrom d r))) o (t + (r .from + i * r .ratio + r .ratio - a)) (t + (r .from + i * r .ratio + r .ratio - a) + (b - (r .from + i * r .ratio + r .ratio))) e
+  pub area-both : (t : ℕ) (l o e : List ℕ) → r .from .0 + i * r .ratio + r .ratio < b
+      → Coated (over (moved t a (areaFrom d r))) l t (t + (r .from .0 + i * r .ratio + r .ratio - a)) o
+      → Coated (over (moved (t + (r .from .0 + i * r .ratio + r .ratio - a)) (r .from .0 + i * r .ratio + r .ratio) (areaFrom d r))) o (t + (r .from .0 + i * r .ratio + r .ratio - a)) (t + (r .from .0 + i * r .ratio + r .ratio - a) + (b - (r .from .0 + i * r .ratio + r .ratio))) e
       → Coated (over (moved t a (areaFrom d r))) l t (t + (b - a)) e
   area-both t l o e n c k =
       let v = s .high in
-      moved-chain (areaFrom d r) t a (r .from + i * r .ratio + r .ratio) b (t + (r .from + i * r .ratio + r .ratio - a)) l o e (omega arith) (omega arith) refl c k
+      moved-chain (areaFrom d r) t a (r .from .0 + i * r .ratio + r .ratio) b (t + (r .from .0 + i * r .ratio + r .ratio - a)) l o e (omega arith) (omega arith) refl c k
 
 pub count-small : (r : Row) (a i : ℕ) → Turns r → SampleAt r a i → i ≤ a
-count-small r a i t s = let d = div-le-self (a - r .from) (r .ratio) in let e = s .is in omega arith
+count-small r a i t s = let d = div-le-self (a - r .from .0) (r .ratio) in let e = s .is in omega arith
 
 pub ruleset areas = (needs, area-one, area-first, area-next, area-start, area-both)
 
@@ -284,8 +284,8 @@ module _ (un s d : List ℕ) (r : Row) (t a b : ℕ) where
   unfolding imageFrom shownFour seenFrom
   base-is g x p q =
       ⊎-elim
-      (λ (z : x < r .from). ap (shownFour un) (image-before s d r (record { 0 = x }) (colourAt s (r .other)) z refl))
-      (λ (z : r .to ≤ x). ap (shownFour un) (image-after s d r (record { 0 = x }) (colourAt s (r .other)) z refl))
+      (λ (z : x < r .from .0). ap (shownFour un) (image-before s d r (record { 0 = x }) (colourAt s (r .other)) z refl))
+      (λ (z : r .to .0 ≤ x). ap (shownFour un) (image-after s d r (record { 0 = x }) (colourAt s (r .other)) z refl))
       (g .out x p q)
 
   pub base-laid : (w : ℕ) (l e : List ℕ) → Beside r a b → a < b → octetsOf w ≡ seenFrom s (r .other) → Coated (over (flat (octetsOf w))) l t (t + (b - a)) e
@@ -317,18 +317,18 @@ module _ (un s d : List ℕ) (r : Row) (t a b : ℕ) where
       coated-as (over (moved t a (areaFrom d r))) (over (moved t a (imageFrom un s d r))) l e t (t + (b - a))
       (λ x o p q.
       let y : ℕ = a + (x - t) in
-      four-colour (r .read) (r .at + (a + (x - t) - r .from) / r .ratio * r .read)
+      four-colour (r .read) (r .at + (a + (x - t) - r .from .0) / r .ratio * r .read)
       ∙ ap (shownFour un)
-      (image-read s d r (record { 0 = a + (x - t) }) (colourIn (r .read) d (r .at + (a + (x - t) - r .from) / r .ratio * r .read)) (record { 0 = (a + (x - t) - r .from) / r .ratio })
+      (image-read s d r (record { 0 = a + (x - t) }) (colourIn (r .read) d (r .at + (a + (x - t) - r .from .0) / r .ratio * r .read)) (record { 0 = (a + (x - t) - r .from .0) / r .ratio })
       (g .from (a + (x - t)) (omega arith) (omega arith)) (g .to (a + (x - t)) (omega arith) (omega arith)) z refl refl)) c
 
 -- within its area, where it was read, a layer gives its sample
-pub area-is : (un s d : List ℕ) (r : Row) (y : ℕ) → r .from ≤ y → y < r .to → r .read ≢ 0 → areaFrom d r y ≡ imageFrom un s d r y
+pub area-is : (un s d : List ℕ) (r : Row) (y : ℕ) → r .from .0 ≤ y → y < r .to .0 → r .read ≢ 0 → areaFrom d r y ≡ imageFrom un s d r y
 unfolding imageFrom areaFrom scale
 area-is un s d r y f o n =
-    four-colour un s d r 0 0 0 (r .read) (r .at + (y - r .from) / r .ratio * r .read)
+    four-colour un s d r 0 0 0 (r .read) (r .at + (y - r .from .0) / r .ratio * r .read)
     ∙ ap (shownFour un)
-    (image-read s d r (record { 0 = y }) (colourIn (r .read) d (r .at + (y - r .from) / r .ratio * r .read)) (record { 0 = (y - r .from) / r .ratio }) f o n refl refl)
+    (image-read s d r (record { 0 = y }) (colourIn (r .read) d (r .at + (y - r .from .0) / r .ratio * r .read)) (record { 0 = (y - r .from .0) / r .ratio }) f o n refl refl)
 
 pub base-room : (s d : List ℕ) (r : Row) → ImageFits s d r → r .other + 3 ≤ length s
 base-room s d r g = g .base
@@ -351,7 +351,7 @@ pub ruleset laying = (needs, part-none, base-laid, unread-laid, area-laid, base-
 
 -- ---- all three
 
-module _ (r : Row) (a b f g : ℕ) (p : Within (r .from) a b f) (q : Within (r .to) f b g) where
+module _ (r : Row) (a b f g : ℕ) (p : Within (r .from .0) a b f) (q : Within (r .to .0) f b g) where
   pub beside-before : Beside r a f
   beside-before = record { out = λ x i j. inl (p .before x i j) }
 

@@ -30,7 +30,7 @@ unfoldable pub imageFrom : List ℕ → List ℕ → List ℕ → Row → ℕ �
 imageFrom un s d r x = shownFour un (rowImage s d r (record { 0 = x }))
 
 unfoldable pub areaFrom : List ℕ → Row → ℕ → List ℕ
-areaFrom d r x = fourIn (r .read) d (r .at + (x - r .from) / r .ratio * r .read)
+areaFrom d r x = fourIn (r .read) d (r .at + (x - r .from .0) / r .ratio * r .read)
 
 unfoldable pub moved : ℕ → ℕ → (ℕ → List ℕ) → ℕ → List ℕ
 moved t a f x = f (a + (x - t))
@@ -40,30 +40,30 @@ pub record Plain (r : Row) : Type 0 where
   pub one : r .read ≢ 0 → r .read ≢ 3 → r .read ≡ 1
 
 pub record SampleAt (r : Row) (x i : ℕ) : Type 0 where
-  pub is : i ≡ (x - r .from) / r .ratio
-  pub low : r .from + i * r .ratio ≤ x
-  pub high : x < r .from + i * r .ratio + r .ratio
+  pub is : i ≡ (x - r .from .0) / r .ratio
+  pub low : r .from .0 + i * r .ratio ≤ x
+  pub high : x < r .from .0 + i * r .ratio + r .ratio
 
 pub record PartFits (d : List ℕ) (r : Row) (a b : ℕ) : Type 0 where
   pub turns : Turns r
   pub plain : Plain r
   pub read : r .read ≢ 0
-  pub from : r .from ≤ a
-  pub to : b ≤ r .to
+  pub from : r .from .0 ≤ a
+  pub to : b ≤ r .to .0
   pub near : b < 65536
-  pub there : (x : ℕ) → r .from ≤ x → x < r .to → r .at + (x - r .from) / r .ratio * r .read + r .read ≤ length d
+  pub there : (x : ℕ) → r .from .0 ≤ x → x < r .to .0 → r .at + (x - r .from .0) / r .ratio * r .read + r .read ≤ length d
 
 pub record OneFits (d : List ℕ) (r : Row) (i a b : ℕ) : Type 0 where
   pub some : a ≤ b
-  pub low : r .from + i * r .ratio ≤ a
-  pub high : b ≤ r .from + i * r .ratio + r .ratio
+  pub low : r .from .0 + i * r .ratio ≤ a
+  pub high : b ≤ r .from .0 + i * r .ratio + r .ratio
   pub kind : r .read ≢ 3 → r .read ≡ 1
   pub there : r .at + i * r .read + r .read ≤ length d
 
 pub record WholeFits (d : List ℕ) (r : Row) (q n f : ℕ) : Type 0 where
   pub some : 0 < r .ratio
   pub kind : r .read ≢ 3 → r .read ≡ 1
-  pub start : f ≡ r .from + q * r .ratio
+  pub start : f ≡ r .from .0 + q * r .ratio
   pub there : 0 < n → r .at + (q + n) * r .read ≤ length d
 
 pub record Within (x a b r : ℕ) : Type 0 where
@@ -73,8 +73,8 @@ pub record Within (x a b r : ℕ) : Type 0 where
   pub behind : (y : ℕ) → r ≤ y → y < b → x ≤ y
 
 pub record Between (r : Row) (a b : ℕ) : Type 0 where
-  pub from : (x : ℕ) → a ≤ x → x < b → r .from ≤ x
-  pub to : (x : ℕ) → a ≤ x → x < b → x < r .to
+  pub from : (x : ℕ) → a ≤ x → x < b → r .from .0 ≤ x
+  pub to : (x : ℕ) → a ≤ x → x < b → x < r .to .0
 
 pub record Beside (r : Row) (a b : ℕ) : Type 0 where
-  pub out : (x : ℕ) → a ≤ x → x < b → (x < r .from) ⊎ (r .to ≤ x)
+  pub out : (x : ℕ) → a ≤ x → x < b → (x < r .from .0) ⊎ (r .to .0 ≤ x)

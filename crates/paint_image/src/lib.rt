@@ -27,7 +27,7 @@ pub fn within(x: usize, a: usize, b: usize) -> usize
 
 // The sample of a pixel.
 pub fn sample_of(r: Row, x: usize) -> usize
-    requires { ⌜ Turns r × (r .from ≤ x) × (x < 65536) ⌝ }
+    requires { ⌜ Turns r × (r .from .0 ≤ x) × (x < 65536) ⌝ }
     ensures { λ i. ⌜ SampleAt r x i ⌝ }
 {
     let p = line_sample::scale_pos(r.ratio, r.factor, r.from, MainPos(x));
@@ -67,11 +67,11 @@ fn lay_whole(out: &mut [u8], t: usize, d: &[u8], r: Row, q: usize, n: usize, f: 
 
 // From pixel f, where sample q starts, up to b.
 fn lay_from(out: &mut [u8], t: usize, d: &[u8], r: Row, q: usize, f: usize, b: usize)
-    requires { ⌜ PartFits (now d) r f b × (f ≤ b) × (f ≡ r .from + q * r .ratio) × ((t + (b - f)) * 4 ≤ length (now out)) ⌝ }
+    requires { ⌜ PartFits (now d) r f b × (f ≤ b) × (f ≡ r .from .0 + q * r .ratio) × ((t + (b - f)) * 4 ≤ length (now out)) ⌝ }
     ensures { λ _. ⌜ Coated (over (moved t f (areaFrom (now (d .entry)) r))) (now (out .entry)) t (t + (b - f)) (now (out .exit)) ⌝ }
 {
     let j = sample_of(r, b);
-    let e = r.from + j * r.ratio;
+    let e = r.from.0 + j * r.ratio;
     lay_whole(out, t, d, r, q, j - q, f);
     if e < b {
         lay_one(out, t + (e - f), d, r, j, e, b);
@@ -84,7 +84,7 @@ fn lay_area(out: &mut [u8], t: usize, d: &[u8], r: Row, a: usize, b: usize)
     ensures { λ _. ⌜ Coated (over (moved t a (areaFrom (now (d .entry)) r))) (now (out .entry)) t (t + (b - a)) (now (out .exit)) ⌝ }
 {
     let i = sample_of(r, a);
-    let s = r.from + i * r.ratio;
+    let s = r.from.0 + i * r.ratio;
     if s == a {
         lay_from(out, t, d, r, i, a, b);
         return;
@@ -130,8 +130,8 @@ pub fn lay_image(out: &mut [u8], t: usize, s: &[u8], d: &[u8], r: Row, a: usize,
     requires { ⌜ ImageFits (now s) (now d) r × Plain r × (b < 65536) × (a ≤ b) × ((t + (b - a)) * 4 ≤ length (now out)) ⌝ }
     ensures { λ _. ⌜ Coated (over (moved t a (imageFrom (octetsOf u) (now (s .entry)) (now (d .entry)) r))) (now (out .entry)) t (t + (b - a)) (now (out .exit)) ⌝ }
 {
-    let f = within(r.from, a, b);
-    let g = within(r.to, f, b);
+    let f = within(r.from.0, a, b);
+    let g = within(r.to.0, f, b);
     lay_base(out, t, s, d, r, a, f, u);
     lay_inside(out, t + (f - a), s, d, r, f, g, u);
     lay_base(out, t + (g - a), s, d, r, g, b, u);

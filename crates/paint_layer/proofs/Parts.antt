@@ -34,29 +34,29 @@ pub no-dark : (r : Row) (x y : ℕ) → false ≡ true → Dark r x y
 no-dark r x y e = absurd (false≢true e)
 
 -- the last of its samples is there
-pub last-there : (s d : List ℕ) (r : Row) (x y : ℕ) → ImageFits s d r → x < y → r .read ≡ 3 → r .ratio ≡ 1 → r .from ≤ x → y ≤ r .to
-    → r .at + (y - 1 - r .from) * 3 + 3 ≤ length d
+pub last-there : (s d : List ℕ) (r : Row) (x y : ℕ) → ImageFits s d r → x < y → r .read ≡ 3 → r .ratio ≡ 1 → r .from .0 ≤ x → y ≤ r .to .0
+    → r .at + (y - 1 - r .from .0) * 3 + 3 ≤ length d
 unfolding scale
 last-there s d r x y g h t o f k =
     let n : r .read ≢ 0 = λ (e : r .read ≡ 0). omega arith in
     let e = g .there (record { 0 = y - 1 }) (omega arith) (omega arith) n in
-    let z : (y - 1 - r .from) / r .ratio ≡ y - 1 - r .from = ap (λ (i : ℕ). (y - 1 - r .from) / i) o ∙ div-one (y - 1 - r .from) in
-    let w : (y - 1 - r .from) / r .ratio * r .read ≡ (y - 1 - r .from) * 3 = ap₂ (λ (i j : ℕ). i * j) z t in
+    let z : (y - 1 - r .from .0) / r .ratio ≡ y - 1 - r .from .0 = ap (λ (i : ℕ). (y - 1 - r .from .0) / i) o ∙ div-one (y - 1 - r .from .0) in
+    let w : (y - 1 - r .from .0) / r .ratio * r .read ≡ (y - 1 - r .from .0) * 3 = ap₂ (λ (i j : ℕ). i * j) z t in
     omega arith
 
-pub is-span : (d : List ℕ) (r : Row) (x y : ℕ) → x < y → r .read ≡ 3 → r .ratio ≡ 1 → r .from ≤ x → y ≤ r .to → ltb (r .at + (y - 1 - r .from) * 3 + 3) (length d) ≡ true
+pub is-span : (d : List ℕ) (r : Row) (x y : ℕ) → x < y → r .read ≡ 3 → r .ratio ≡ 1 → r .from .0 ≤ x → y ≤ r .to .0 → ltb (r .at + (y - 1 - r .from .0) * 3 + 3) (length d) ≡ true
     → Span d r x y
 is-span d r x y h t o f k e =
-    let v = says-lt (r .at + (y - 1 - r .from) * 3 + 3) (length d) .told e in
+    let v = says-lt (r .at + (y - 1 - r .from .0) * 3 + 3) (length d) .told e in
     record { three = t; single = o; from = f; to = k; more = omega arith }
 
-pub is-base : (r : Row) (x y : ℕ) → leb y (r .from) || leb (r .to) x ≡ true → Beside r x y
+pub is-base : (r : Row) (x y : ℕ) → leb y (r .from .0) || leb (r .to .0) x ≡ true → Beside r x y
 is-base r x y e =
     record {
       out = λ p a b. ⊎-elim
-          (λ (k : y ≤ r .from). inl (omega arith))
-          (λ (k : r .to ≤ x). inr (omega arith))
-          (says-or (says-le y (r .from)) (says-le (r .to) x) .told e);
+          (λ (k : y ≤ r .from .0). inl (omega arith))
+          (λ (k : r .to .0 ≤ x). inr (omega arith))
+          (says-or (says-le y (r .from .0)) (says-le (r .to .0) x) .told e);
     }
 
 pub ruleset testing = (needs, no-span, no-dark, is-base)
@@ -79,12 +79,12 @@ module _ (un s d : List ℕ) (r : Row) (x y : ℕ) where
   base-shows w g e =
       record {
         same = λ p a b. e ∙ ⊎-elim
-            (λ (z : p < r .from). ap (shownFour un) (image-before s d r (record { 0 = p }) (colourAt s (r .other)) z refl))
-            (λ (z : r .to ≤ p). ap (shownFour un) (image-after s d r (record { 0 = p }) (colourAt s (r .other)) z refl))
+            (λ (z : p < r .from .0). ap (shownFour un) (image-before s d r (record { 0 = p }) (colourAt s (r .other)) z refl))
+            (λ (z : r .to .0 ≤ p). ap (shownFour un) (image-after s d r (record { 0 = p }) (colourAt s (r .other)) z refl))
             (g .out p a b);
       }
 
-  pub three-shows : Span d r x y → Shows (samplesBy 3 1 d x (r .at + (x - r .from) * 3)) (imageFrom un s d r) x y
+  pub three-shows : Span d r x y → Shows (samplesBy 3 1 d x (r .at + (x - r .from .0) * 3)) (imageFrom un s d r) x y
   unfolding samplesBy areaFrom
   three-shows g =
       let f = g .from in
@@ -92,11 +92,11 @@ module _ (un s d : List ℕ) (r : Row) (x y : ℕ) where
       let h = g .three in
       record {
         same = λ p a b.
-            let v : r .at + (x - r .from) * 3 + (p - x) / 1 * 3 ≡ r .at + (p - r .from) * 3 = omega arith in
-            let w : (p - r .from) / r .ratio ≡ p - r .from = ap (λ (i : ℕ). (p - r .from) / i) (g .single) ∙ div-one (p - r .from) in
+            let v : r .at + (x - r .from .0) * 3 + (p - x) / 1 * 3 ≡ r .at + (p - r .from .0) * 3 = omega arith in
+            let w : (p - r .from .0) / r .ratio ≡ p - r .from .0 = ap (λ (i : ℕ). (p - r .from .0) / i) (g .single) ∙ div-one (p - r .from .0) in
             let n : r .read ≢ 0 = λ (e : r .read ≡ 0). omega arith in
             ap (fourIn 3 d) v ∙ ap (λ (i : ℕ). fourIn 3 d (r .at + i * 3)) (sym w)
-            ∙ ap (λ (i : ℕ). fourIn i d (r .at + (p - r .from) / r .ratio * i)) (sym h)
+            ∙ ap (λ (i : ℕ). fourIn i d (r .at + (p - r .from .0) / r .ratio * i)) (sym h)
             ∙ area-is un s d r p (omega arith) (omega arith) n;
       }
 
@@ -145,17 +145,17 @@ mask-as m n low up l e x y s c =
     coated-as (chosenBy m low up) (chosenBy n low up) l e x y (λ p o a b. ap (λ (i : ℕ). cond (eqb i 0) (low p o) (up p o)) (s p a b)) c
 
 module _ (d : List ℕ) (m : Row) (x y : ℕ) (g : MaskPart d m x y) (low up : ℕ → List ℕ → List ℕ) (l e : List ℕ) where
-  pub mask-whole : m .ratio ≡ 1 → m .at + (x - m .from) ≤ length d
-      → Coated (chosenBy (bitsFrom (take (length d - (m .at + (x - m .from))) (drop (m .at + (x - m .from)) d)) x 0) low up) l x y e
+  pub mask-whole : m .ratio ≡ 1 → m .at + (x - m .from .0) ≤ length d
+      → Coated (chosenBy (bitsFrom (take (length d - (m .at + (x - m .from .0))) (drop (m .at + (x - m .from .0)) d)) x 0) low up) l x y e
       → Coated (chosenBy (maskAt d m) low up) l x y e
   unfolding bitsFrom maskAt
   mask-whole k h c =
       let f = g .from in
-      mask-as (bitsFrom (take (length d - (m .at + (x - m .from))) (drop (m .at + (x - m .from)) d)) x 0) (maskAt d m) low up l e x y
+      mask-as (bitsFrom (take (length d - (m .at + (x - m .from .0))) (drop (m .at + (x - m .from .0)) d)) x 0) (maskAt d m) low up l e x y
       (λ p a b.
-      let z : m .at + (x - m .from) + (0 + (p - x)) ≡ m .at + (p - m .from) = omega arith in
-      let w : (p - m .from) / m .ratio ≡ p - m .from = ap (λ (i : ℕ). (p - m .from) / i) k ∙ div-one (p - m .from) in
-      part-octet d (m .at + (x - m .from)) (0 + (p - x)) h ∙ ap (λ (i : ℕ). getD d i 0) (z ∙ ap (λ (i : ℕ). m .at + i) (sym w))) c
+      let z : m .at + (x - m .from .0) + (0 + (p - x)) ≡ m .at + (p - m .from .0) = omega arith in
+      let w : (p - m .from .0) / m .ratio ≡ p - m .from .0 = ap (λ (i : ℕ). (p - m .from .0) / i) k ∙ div-one (p - m .from .0) in
+      part-octet d (m .at + (x - m .from .0)) (0 + (p - x)) h ∙ ap (λ (i : ℕ). getD d i 0) (z ∙ ap (λ (i : ℕ). m .at + i) (sym w))) c
 
   pub mask-spread : (room at : ℕ) (b : List ℕ) → SpreadAt d m x y room at b → Coated (chosenBy (bitsFrom (take (length b - at) (drop at b)) x 0) low up) l x y e
       → Coated (chosenBy (maskAt d m) low up) l x y e
@@ -167,21 +167,21 @@ module _ (d : List ℕ) (m : Row) (x y : ℕ) (g : MaskPart d m x y) (low up : �
       (λ p i j.
       let z : x + (0 + (p - x)) ≡ p = omega arith in
       part-octet b at (0 + (p - x)) (omega arith) ∙ s .there (0 + (p - x)) (omega arith)
-      ∙ ap (λ (k : ℕ). getD d (m .at + (k - m .from) / m .ratio) 0) z) c
+      ∙ ap (λ (k : ℕ). getD d (m .at + (k - m .from .0) / m .ratio) 0) z) c
 
 module _ (d : List ℕ) (m : Row) (x y : ℕ) (g : MaskPart d m x y) (k : m .ratio ≡ 1) where
   -- the mask's last octet is there
-  pub whole-long : m .at + (x - m .from) + (y - x) ≤ length d
+  pub whole-long : m .at + (x - m .from .0) + (y - x) ≤ length d
   whole-long =
       let f = g .from in
       let s = g .some in
       let t = g .to in
       let e = g .there (y - 1) (omega arith) (omega arith) in
-      let w : (y - 1 - m .from) / m .ratio ≡ y - 1 - m .from = ap (λ (i : ℕ). (y - 1 - m .from) / i) k ∙ div-one (y - 1 - m .from) in
+      let w : (y - 1 - m .from .0) / m .ratio ≡ y - 1 - m .from .0 = ap (λ (i : ℕ). (y - 1 - m .from .0) / i) k ∙ div-one (y - 1 - m .from .0) in
       omega arith
 
-  pub whole-room : y - x ≤ length (take (length d - (m .at + (x - m .from))) (drop (m .at + (x - m .from)) d))
-  whole-room = let h = whole-long in let a = part-long d (m .at + (x - m .from)) (omega arith) in omega arith
+  pub whole-room : y - x ≤ length (take (length d - (m .at + (x - m .from .0))) (drop (m .at + (x - m .from .0)) d))
+  whole-room = let h = whole-long in let a = part-long d (m .at + (x - m .from .0)) (omega arith) in omega arith
 
 pub spread-room : (d : List ℕ) (m : Row) (x y room at : ℕ) (b : List ℕ) → SpreadAt d m x y room at b → y - x ≤ length (take (length b - at) (drop at b))
 spread-room d m x y room at b s = let n = s .long in let f = s .fits in let a = part-long b at (omega arith) in omega arith

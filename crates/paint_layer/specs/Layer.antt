@@ -20,7 +20,7 @@ unfoldable pub wordsFrom : List ℕ → ℕ → ℕ → List ℕ
 wordsFrom row a x = fourFrom row ((x - a) * 4)
 
 unfoldable pub maskAt : List ℕ → Row → ℕ → ℕ
-maskAt d m x = getD d (m .at + (x - m .from) / m .ratio) 0
+maskAt d m x = getD d (m .at + (x - m .from .0) / m .ratio) 0
 
 unfoldable pub sameFour : List ℕ → List ℕ → Bool
 sameFour v w =
@@ -35,11 +35,11 @@ agrees up un x old = agreed (up x) un old
 pub record Span (d : List ℕ) (r : Row) (x y : ℕ) : Type 0 where
   pub three : r .read ≡ 3
   pub single : r .ratio ≡ 1
-  pub from : r .from ≤ x
-  pub to : y ≤ r .to
-  pub more : r .at + (y - r .from) * 3 + 1 ≤ length d
+  pub from : r .from .0 ≤ x
+  pub to : y ≤ r .to .0
+  pub more : r .at + (y - r .from .0) * 3 + 1 ≤ length d
 
 pub record Dark (r : Row) (x y : ℕ) : Type 0 where
   pub unread : r .read ≡ 0
-  pub from : r .from ≤ x
-  pub to : y ≤ r .to
+  pub from : r .from .0 ≤ x
+  pub to : y ≤ r .to .0

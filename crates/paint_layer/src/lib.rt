@@ -122,13 +122,13 @@ fn spans_three(s: &[u8], d: &[u8], r: Row, x: usize, y: usize) -> bool
     if r.ratio != 1 {
         return false;
     }
-    if x < r.from {
+    if x < r.from.0 {
         return false;
     }
-    if r.to < y {
+    if r.to.0 < y {
         return false;
     }
-    r.at + (y - 1 - r.from) * 3 + 3 < d.len()
+    r.at + (y - 1 - r.from.0) * 3 + 3 < d.len()
 }
 
 // It was not read, and has all of them in its area.
@@ -138,17 +138,17 @@ fn spans_dark(r: Row, x: usize, y: usize) -> bool
     if r.read != 0 {
         return false;
     }
-    if x < r.from {
+    if x < r.from.0 {
         return false;
     }
-    y <= r.to
+    y <= r.to.0
 }
 
 // None of the pixels is in its area: it shows its base colour.
 fn spans_base(r: Row, x: usize, y: usize) -> bool
     ensures { λ z. ⌜ (z ≡ true → Beside r x y) ⌝ }
 {
-    (y <= r.from) | (r.to <= x)
+    (y <= r.from.0) | (r.to.0 <= x)
 }
 
 // A step of n, or of what is left.
@@ -207,7 +207,7 @@ fn pick_image(
         return;
     }
     if spans_three(s, d, r, x, y) {
-        pick_three(out, x, m, d, r.at + (x - r.from) * 3, y - x);
+        pick_three(out, x, m, d, r.at + (x - r.from.0) * 3, y - x);
         return;
     }
     pick_laid(out, row, m, s, d, r, x, y, u);
@@ -254,7 +254,7 @@ pub fn agree_under(
         return;
     }
     if spans_three(s, d, r, x, y) {
-        agree_three(out, x, d, r.at + (x - r.from) * 3, y - x, u);
+        agree_three(out, x, d, r.at + (x - r.from.0) * 3, y - x, u);
         return;
     }
     agree_laid(out, row, s, d, r, x, y, u);
@@ -277,7 +277,7 @@ pub fn pick_under(
     ensures { λ _. ⌜ Coated (chosenBy (maskAt (now (d .entry)) m) kept (over (imageFrom (octetsOf u) (now (s .entry)) (now (d .entry)) r))) (now (out .entry)) x y (now (out .exit)) ⌝ }
 {
     if m.ratio == 1 {
-        let at = m.at + (x - m.from);
+        let at = m.at + (x - m.from.0);
         pick_image(out, row, &d[at..], s, d, r, x, y, u);
         return;
     }
@@ -303,9 +303,9 @@ fn two_masked(
 {
     let n = y - x;
     if spans_three(s, d, low, x, y) {
-        let i = low.at + (x - low.from) * 3;
+        let i = low.at + (x - low.from.0) * 3;
         if spans_three(s, d, up, x, y) {
-            paint_two::two_images(out, x, m, d, i, up.at + (x - up.from) * 3, n);
+            paint_two::two_images(out, x, m, d, i, up.at + (x - up.from.0) * 3, n);
             return;
         }
         if spans_dark(up, x, y) {
@@ -315,7 +315,7 @@ fn two_masked(
     }
     if spans_dark(low, x, y) {
         if spans_three(s, d, up, x, y) {
-            paint_two::image_above(out, x, m, u, d, up.at + (x - up.from) * 3, n);
+            paint_two::image_above(out, x, m, u, d, up.at + (x - up.from.0) * 3, n);
             return;
         }
         paint_image::lay_image(out, x, s, d, up, x, y, u);
@@ -343,7 +343,7 @@ pub fn two_under(
     ensures { λ _. ⌜ Coated (chosenBy (maskAt (now (d .entry)) m) (over (imageFrom (octetsOf u) (now (s .entry)) (now (d .entry)) low)) (over (imageFrom (octetsOf u) (now (s .entry)) (now (d .entry)) up))) (now (out .entry)) x y (now (out .exit)) ⌝ }
 {
     if m.ratio == 1 {
-        let at = m.at + (x - m.from);
+        let at = m.at + (x - m.from.0);
         two_masked(out, row, &d[at..], s, d, low, up, x, y, u);
         return;
     }

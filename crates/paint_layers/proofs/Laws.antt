@@ -37,13 +37,13 @@ use Rattle.paint_layers.proofs.Fours.{shown-is, agreed-four}
 -- ---- the mask of a row
 
 module _ (d : List ℕ) (m : Row) (x : ℕ) where
-  out-bit : (x < m .from) ⊎ (m .to ≤ x) → rowMask d m (record { 0 = x }) ≡ bitOf (m .other)
+  out-bit : (x < m .from .0) ⊎ (m .to .0 ≤ x) → rowMask d m (record { 0 = x }) ≡ bitOf (m .other)
   out-bit k =
       ⊎-elim
-      (λ (z : x < m .from). sym (mask-before d m (record { 0 = x }) (bitOf (m .other)) z refl))
-      (λ (z : m .to ≤ x). sym (mask-after d m (record { 0 = x }) (bitOf (m .other)) z refl)) k
+      (λ (z : x < m .from .0). sym (mask-before d m (record { 0 = x }) (bitOf (m .other)) z refl))
+      (λ (z : m .to .0 ≤ x). sym (mask-after d m (record { 0 = x }) (bitOf (m .other)) z refl)) k
 
-  in-bit : m .from ≤ x → x < m .to → m .read ≢ 0 → rowMask d m (record { 0 = x }) ≡ bitOf (maskAt d m x)
+  in-bit : m .from .0 ≤ x → x < m .to .0 → m .read ≢ 0 → rowMask d m (record { 0 = x }) ≡ bitOf (maskAt d m x)
   unfolding maskAt scale
   in-bit a b n = sym (mask-read d m (record { 0 = x }) (bitOf (maskAt d m x)) (scale (m .ratio) (m .from) (record { 0 = x })) a b n refl refl)
 
@@ -102,7 +102,7 @@ module _ (un s d : List ℕ) (m r : Row) where
       sym (ap (λ (o : Mask). stepFour un o (imageFrom un s d r p) old) (in-bit d m p (k .from p g j) (k .to p g j) n) ∙ bit-step un (imageFrom un s d r p) old (maskAt d m p))) c
 
   -- before the area, in it, behind it
-  pub step-three : (l o p e : List ℕ) (a b x y : ℕ) → Within (m .from) a b x → Within (m .to) x b y → Coated (stepping un s d m r) l a x o → Coated (stepping un s d m r) o x y p
+  pub step-three : (l o p e : List ℕ) (a b x y : ℕ) → Within (m .from .0) a b x → Within (m .to .0) x b y → Coated (stepping un s d m r) l a x o → Coated (stepping un s d m r) o x y p
       → Coated (stepping un s d m r) p y b e → Coated (stepping un s d m r) l a b e
   step-three l o p e a b x y w v f g h =
       let i = w .low in
@@ -115,13 +115,13 @@ pub step-as : (un s d l e : List ℕ) (m n r q : Row) (a b : ℕ) → m ≡ n �
 step-as un s d l e m n r q a b i j c = subst (λ (w : Row). Coated (stepping un s d w q) l a b e) i (subst (λ (w : Row). Coated (stepping un s d m w) l a b e) j c)
 
 module _ (m : Row) (a b x y : ℕ) where
-  pub beside-before : Within (m .from) a b x → Beside m a x
+  pub beside-before : Within (m .from .0) a b x → Beside m a x
   beside-before w = record { out = λ p h g. inl (w .before p h g) }
 
-  pub beside-behind : Within (m .from) a b x → Within (m .to) x b y → Beside m y b
+  pub beside-behind : Within (m .from .0) a b x → Within (m .to .0) x b y → Beside m y b
   beside-behind w v = record { out = λ p h g. inr (v .behind p h g) }
 
-  pub between-both : Within (m .from) a b x → Within (m .to) x b y → Between m x y
+  pub between-both : Within (m .from .0) a b x → Within (m .to .0) x b y → Between m x y
   between-both w v =
       let k = v .high in
       record { from = λ p h g. w .behind p h (omega arith); to = λ p h g. v .before p h g }

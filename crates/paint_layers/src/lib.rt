@@ -71,8 +71,8 @@ fn layer_pair(
     let p = j + 1;
     let m = line_fetch::row_at(rows, p * 2);
     let r = line_fetch::row_at(rows, p * 2 + 1);
-    let x = paint_image::within(m.from, a, b);
-    let y = paint_image::within(m.to, x, b);
+    let x = paint_image::within(m.from.0, a, b);
+    let y = paint_image::within(m.to.0, x, b);
     lay_beside(out, s, d, m, r, a, x, u);
     lay_inside(out, row, bits, s, d, m, r, x, y, u);
     lay_beside(out, s, d, m, r, y, b, u);

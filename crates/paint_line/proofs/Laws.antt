@@ -53,21 +53,21 @@ zero-hidden n e = by (eqb n 0) e
     by false z = clash cc
 
 -- a mask that was read, or has no samples, is known everywhere
-mask-known : (d : List ℕ) (m : Row) (x : ℕ) → (m .read ≢ 0) ⊎ (m .to ≤ m .from) → rowMask d m (record { 0 = x }) ≢ Hidden
+mask-known : (d : List ℕ) (m : Row) (x : ℕ) → (m .read ≢ 0) ⊎ (m .to .0 ≤ m .from .0) → rowMask d m (record { 0 = x }) ≢ Hidden
 mask-known d m x k e =
     ⊎-elim
-    (λ (z : x < m .from). zero-hidden (m .other) (mask-before d m (record { 0 = x }) (bitOf (m .other)) z refl ∙ e))
-    (λ (z : x < m .from → ⊥).
+    (λ (z : x < m .from .0). zero-hidden (m .other) (mask-before d m (record { 0 = x }) (bitOf (m .other)) z refl ∙ e))
+    (λ (z : x < m .from .0 → ⊥).
     ⊎-elim
-    (λ (w : x < m .to).
+    (λ (w : x < m .to .0).
     ⊎-elim
     (λ (n : m .read ≢ 0).
     zero-hidden (getD d (m .at + scale (m .ratio) (m .from) (record { 0 = x }) .0) 0)
     (mask-read d m (record { 0 = x }) (bitOf (getD d (m .at + scale (m .ratio) (m .from) (record { 0 = x }) .0) 0)) (scale (m .ratio) (m .from) (record { 0 = x })) (omega arith) w n refl refl ∙ e))
-    (λ (n : m .to ≤ m .from). absurd (omega arith)) k)
-    (λ (w : x < m .to → ⊥). zero-hidden (m .other) (mask-after d m (record { 0 = x }) (bitOf (m .other)) (omega arith) refl ∙ e))
-    (says-else (says-lt x (m .to))))
-    (says-else (says-lt x (m .from)))
+    (λ (n : m .to .0 ≤ m .from .0). absurd (omega arith)) k)
+    (λ (w : x < m .to .0 → ⊥). zero-hidden (m .other) (mask-after d m (record { 0 = x }) (bitOf (m .other)) (omega arith) refl ∙ e))
+    (says-else (says-lt x (m .to .0))))
+    (says-else (says-lt x (m .from .0)))
 
 pub record Telling (ns : List ℕ) (f pairs j : ℕ) : Type 0 where
   pub from : f ≤ j
@@ -88,7 +88,7 @@ mask-told read from to e =
     (λ (z : read ≡ 0 → ⊥). inl z)
     (says-else (says-eq read 0))
 
-pub telling-more : (ns : List ℕ) (f pairs j : ℕ) (m : Row) → Telling ns f pairs j → j < pairs → m ≡ rowAt ns ((j + 1) * 2) → (eqb (m .read) 0 && ltb (m .from) (m .to)) ≡ false → Telling ns f pairs (j + 1)
+pub telling-more : (ns : List ℕ) (f pairs j : ℕ) (m : Row) → Telling ns f pairs j → j < pairs → m ≡ rowAt ns ((j + 1) * 2) → (eqb (m .read) 0 && ltb (m .from .0) (m .to .0)) ≡ false → Telling ns f pairs (j + 1)
 telling-more ns f pairs j m c h em e =
     let p = c .from in
     record {
@@ -99,8 +99,8 @@ telling-more ns f pairs j m c h em e =
             (λ (z : i ≤ j). c .told .told i a z)
             (λ (z : i ≤ j → ⊥).
             let y : j + 1 ≡ i = omega arith in
-            subst (λ (k : ℕ). (rowAt ns (k * 2) .read ≢ 0) ⊎ (rowAt ns (k * 2) .to ≤ rowAt ns (k * 2) .from)) y
-            (subst (λ (w : Row). (w .read ≢ 0) ⊎ (w .to ≤ w .from)) em (mask-told (m .read) (m .from) (m .to) e)))
+            subst (λ (k : ℕ). (rowAt ns (k * 2) .read ≢ 0) ⊎ (rowAt ns (k * 2) .to .0 ≤ rowAt ns (k * 2) .from .0)) y
+            (subst (λ (w : Row). (w .read ≢ 0) ⊎ (w .to .0 ≤ w .from .0)) em (mask-told (m .read) (m .from .0) (m .to .0) e)))
             (says-else (says-le i j));
       };
     }

@@ -17,7 +17,7 @@ use Rattle.sheet_rules.specs.Judge.{coded}
 use Rattle.pixel_rules.specs.declared.MainPos.{MainPos}
 use Rattle.pixel_rules.specs.declared.Start.{Start}
 use Rattle.pixel_rules.specs.declared.Start.the-variants.{From, Unread}
-use Rattle.pixel_rules.specs.Place.{ratio, covers}
+use Rattle.pixel_rules.specs.Place.{ratio, topOf, covers}
 use Rattle.pixel_rules.specs.Planes.{PlaneList, planeStart}
 use Rattle.pixel_rules.specs.Samples.{Scene, recordOf, mainOf, depth, pairsOf}
 use Rattle.picture_rules.proofs.Scenes.{Stage, stage-layers, ratio-most, scene-ratio}
@@ -43,7 +43,7 @@ module _ (r : Record) (q : ℕ) (y : MainPos) (other : ℕ) (few : q ≤ 12) whe
   plain-by : (p : Start) → Plain (rowBy r q y p other)
   unfolding rowBy
   plain-by p =
-      cond-with Plain (coded r && covers (r .y) (r .height) q y) (λ t. plain-in p) (λ t. record { few = omega arith; one = λ n m. absurd (n refl) })
+      cond-with Plain (coded r && covers (topOf r) (r .height) q y) (λ t. plain-in p) (λ t. record { few = omega arith; one = λ n m. absurd (n refl) })
 
 module _ (v : Scene) (pl : PlaneList) (k n : ℕ) (y : MainPos) (g : Stage (v .sheet) pl (v .samples) k n v) where
   plain-row : (l : ℕ) → 1 ≤ l → l ≤ v .extent .layers → Plain (rowOf (v .sheet) (v .extent) (v .planes) y l)

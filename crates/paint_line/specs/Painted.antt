@@ -7,4 +7,4 @@ use mathlib.Core.List.{List}
 use Rattle.line_fetch.specs.Rows.{rowAt}
 
 pub record MasksTold (ns : List ℕ) (f pairs : ℕ) : Type 0 where
-  pub told : (j : ℕ) → f < j → j ≤ pairs → (rowAt ns (j * 2) .read ≢ 0) ⊎ (rowAt ns (j * 2) .to ≤ rowAt ns (j * 2) .from)
+  pub told : (j : ℕ) → f < j → j ≤ pairs → (rowAt ns (j * 2) .read ≢ 0) ⊎ (rowAt ns (j * 2) .to .0 ≤ rowAt ns (j * 2) .from .0)

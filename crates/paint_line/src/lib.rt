@@ -85,7 +85,7 @@ fn few_layers(
     while j < pairs {
         j += 1;
         let m = line_fetch::row_at(rows, j * 2);
-        if (m.read == 0) & (m.from < m.to) {
+        if (m.read == 0) & (m.from.0 < m.to.0) {
             return true;
         }
     }
@@ -233,7 +233,7 @@ fn cut(x: usize, a: usize, b: usize) -> usize
 
 // Neither layer was read, and both reach up to b: from where both have begun, nothing below them shows.
 fn veils(m: Row, r: Row, b: usize) -> bool {
-    (m.read == 0) & (r.read == 0) & (b <= m.to) & (b <= r.to)
+    (m.read == 0) & (r.read == 0) & (b <= m.to.0) & (b <= r.to.0)
 }
 
 // Pixels of a margin that is not worth two parts.
@@ -265,19 +265,19 @@ fn part_end(s: &[u8], d: &[u8], rows: &[usize], pairs: usize, a: usize, b: usize
         let m = line_fetch::row_at(rows, j * 2);
         let r = line_fetch::row_at(rows, j * 2 + 1);
         if veils(m, r, b) {
-            let c = paint_image::within(m.from, a, b);
-            let hid = paint_image::within(r.from, c, b);
+            let c = paint_image::within(m.from.0, a, b);
+            let hid = paint_image::within(r.from.0, c, b);
             return margin_end(hid, left, right, a, b);
         }
-        left = paint_image::within(m.from, left, b);
-        right = cut(m.to, a, right);
-        left = paint_image::within(r.from, left, b);
-        right = cut(r.to, a, right);
+        left = paint_image::within(m.from.0, left, b);
+        right = cut(m.to.0, a, right);
+        left = paint_image::within(r.from.0, left, b);
+        right = cut(r.to.0, a, right);
         j -= 1;
     }
     let r = line_fetch::row_at(rows, 1);
-    left = paint_image::within(r.from, left, b);
-    right = cut(r.to, a, right);
+    left = paint_image::within(r.from.0, left, b);
+    right = cut(r.to.0, a, right);
     cut(left, a, right)
 }
 

@@ -30,12 +30,12 @@ module _ (each : ℕ) (d : List ℕ) (r : Row) (k a b : ℕ) where
   pub not-ready : false ≡ true → Ready each d r k a b
   not-ready e = clash cc
 
-  module _ (s : List ℕ) (i : ℕ) (f : ImageFits s d r) (some : 1 ≤ each) (read : r .read ≡ each) (from : r .from ≤ a) (h : a < b) (to : b ≤ r .to) (g : SampleAt r (b - 1) i) where
+  module _ (s : List ℕ) (i : ℕ) (f : ImageFits s d r) (some : 1 ≤ each) (read : r .read ≡ each) (from : r .from .0 ≤ a) (h : a < b) (to : b ≤ r .to .0) (g : SampleAt r (b - 1) i) where
     last-there : r .at + i * each + each ≤ length d
     unfolding scale
     last-there =
         let x = f .there (record { 0 = b - 1 }) (omega arith) (omega arith) (λ (z : r .read ≡ 0). omega arith) in
-        let z : r .at + i * each + each ≡ r .at + (b - 1 - r .from) / r .ratio * r .read + r .read = ap₂ (λ (m n : ℕ). r .at + m * n + n) (g .is) (sym read) in
+        let z : r .at + i * each + each ≡ r .at + (b - 1 - r .from .0) / r .ratio * r .read + r .read = ap₂ (λ (m n : ℕ). r .at + m * n + n) (g .is) (sym read) in
         omega arith
 
     pub last-fits : length d < 18446744073709551616 → Fits w64 (i * each)
@@ -85,9 +85,9 @@ module _ (each : ℕ) (d : List ℕ) (r : Row) (k a b : ℕ) (g : Ready each d r
       let f = g .from in
       let w = g .wide in
       let z = e .is in
-      let m : (a + j - r .from) / r .ratio ≤ (b - 1 - r .from) / r .ratio = quotients (a + j - r .from) (b - 1 - r .from) (r .ratio) (g .turns .some) (omega arith) in
-      let p = mul-le-mul-right {m = (a + j - r .from) / r .ratio} {n = (b - 1 - r .from) / r .ratio} each m in
-      let q : i * each ≡ (a + j - r .from) / r .ratio * each = ap (λ (n : ℕ). n * each) z in
+      let m : (a + j - r .from .0) / r .ratio ≤ (b - 1 - r .from .0) / r .ratio = quotients (a + j - r .from .0) (b - 1 - r .from .0) (r .ratio) (g .turns .some) (omega arith) in
+      let p = mul-le-mul-right {m = (a + j - r .from .0) / r .ratio} {n = (b - 1 - r .from .0) / r .ratio} each m in
+      let q : i * each ≡ (a + j - r .from .0) / r .ratio * each = ap (λ (n : ℕ). n * each) z in
       omega arith
 
   pub place-fits : length d < 18446744073709551616 → Fits w64 (i * each)
@@ -123,7 +123,7 @@ module _ (each : ℕ) (l : List ℕ) (c : ℕ) (r : Row) (a : ℕ) where
           here = λ m q. ⊎-elim
               (λ (z : m ≡ j).
               ap (λ (x : ℕ). getD (set t (j * 16 + c) (r .at + i * each)) (x * 16 + c) 0) z ∙ set-there t (j * 16 + c) (r .at + i * each) (omega arith)
-              ∙ ap (λ (x : ℕ). r .at + x * each) (e .is) ∙ ap (λ (x : ℕ). r .at + (a + x - r .from) / r .ratio * each) (sym z))
+              ∙ ap (λ (x : ℕ). r .at + x * each) (e .is) ∙ ap (λ (x : ℕ). r .at + (a + x - r .from .0) / r .ratio * each) (sym z))
               (λ (z : m ≡ j → ⊥). set-other t (j * 16 + c) (m * 16 + c) (r .at + i * each) (λ (y : m * 16 + c ≡ j * 16 + c). z (omega arith)) ∙ p .here m (omega arith))
               (says-else (says-eq m j));
           kept = λ m q x y z. set-other t (j * 16 + c) (m * 16 + q) (r .at + i * each) (λ (u : m * 16 + q ≡ j * 16 + c). z (omega arith)) ∙ p .kept m q x y z;

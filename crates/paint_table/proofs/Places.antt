@@ -28,17 +28,17 @@ whole n g k h z =
     ap (λ (m : ℕ). (n + m) / k) c ∙ add-mul-div-right n (g * (12 / k)) h
 
 module _ (each : ℕ) (d t : List ℕ) (c : ℕ) (r : Row) (k a b step : ℕ) (g : Ready each d r k a b) (l : Lined each t c r a) (z : 12 % k ≡ 0) (e : step ≡ 12 / k * each) where
-  pub line-place : (i : ℕ) → placeIn t step i c ≡ r .at + (a + i - r .from) / r .ratio * each
+  pub line-place : (i : ℕ) → placeIn t step i c ≡ r .at + (a + i - r .from .0) / r .ratio * each
   unfolding placeIn placeOf
   line-place i =
       let f = g .from in
-      let q : a + i - r .from ≡ a + i % 12 - r .from + i / 12 * 12 = omega arith in
+      let q : a + i - r .from .0 ≡ a + i % 12 - r .from .0 + i / 12 * 12 = omega arith in
       let ez : 12 % r .ratio ≡ 0 = subst (λ (m : ℕ). 12 % m ≡ 0) (sym (g .ratio)) z in
-      let w : (a + i - r .from) / r .ratio ≡ (a + i % 12 - r .from) / r .ratio + i / 12 * (12 / r .ratio) = ap (λ (m : ℕ). m / r .ratio) q ∙ whole (a + i % 12 - r .from) (i / 12) (r .ratio) (g .turns .some) ez in
-      let o : entry t (i % 12) c ≡ r .at + (a + i % 12 - r .from) / r .ratio * each = l .there (i % 12) (omega arith) in
+      let w : (a + i - r .from .0) / r .ratio ≡ (a + i % 12 - r .from .0) / r .ratio + i / 12 * (12 / r .ratio) = ap (λ (m : ℕ). m / r .ratio) q ∙ whole (a + i % 12 - r .from .0) (i / 12) (r .ratio) (g .turns .some) ez in
+      let o : entry t (i % 12) c ≡ r .at + (a + i % 12 - r .from .0) / r .ratio * each = l .there (i % 12) (omega arith) in
       let s : step ≡ 12 / r .ratio * each = e ∙ ap (λ (m : ℕ). 12 / m * each) (sym (g .ratio)) in
       let u : i / 12 * step ≡ i / 12 * (12 / r .ratio) * each = ap (λ (m : ℕ). i / 12 * m) s ∙ sym (mul-assoc (i / 12) (12 / r .ratio) each) in
-      let v : (a + i - r .from) / r .ratio * each ≡ (a + i % 12 - r .from) / r .ratio * each + i / 12 * (12 / r .ratio) * each = ap (λ (m : ℕ). m * each) w ∙ add-mul ((a + i % 12 - r .from) / r .ratio) (i / 12 * (12 / r .ratio)) each in
+      let v : (a + i - r .from .0) / r .ratio * each ≡ (a + i % 12 - r .from .0) / r .ratio * each + i / 12 * (12 / r .ratio) * each = ap (λ (m : ℕ). m * each) w ∙ add-mul ((a + i % 12 - r .from .0) / r .ratio) (i / 12 * (12 / r .ratio)) each in
       omega arith
 
   pub line-reach : (i : ℕ) → i < b - a → placeIn t step i c + 4 ≤ length d
@@ -46,8 +46,8 @@ module _ (each : ℕ) (d t : List ℕ) (c : ℕ) (r : Row) (k a b step : ℕ) (g
       let f = g .from in
       let p = line-place i in
       let w = g .wide in
-      let m = quotients (a + i - r .from) (b - 1 - r .from) (r .ratio) (g .turns .some) (omega arith) in
-      let v = mul-le-mul-right {m = (a + i - r .from) / r .ratio} {n = (b - 1 - r .from) / r .ratio} each m in
+      let m = quotients (a + i - r .from .0) (b - 1 - r .from .0) (r .ratio) (g .turns .some) (omega arith) in
+      let v = mul-le-mul-right {m = (a + i - r .from .0) / r .ratio} {n = (b - 1 - r .from .0) / r .ratio} each m in
       omega arith
 
   pub line-shown : (un s : List ℕ) (i : ℕ) → 1 ≤ each → i < b - a → imageFrom un s d r (a + i) ≡ fourIn each d (placeIn t step i c)
@@ -58,7 +58,7 @@ module _ (each : ℕ) (d t : List ℕ) (c : ℕ) (r : Row) (k a b step : ℕ) (g
       let read = g .read in
       let n : r .read ≢ 0 = λ (m : r .read ≡ 0). omega arith in
       sym (area-is un s d r (a + i) (omega arith) (omega arith) n)
-      ∙ ap (λ (m : ℕ). fourIn m d (r .at + (a + i - r .from) / r .ratio * m)) read
+      ∙ ap (λ (m : ℕ). fourIn m d (r .at + (a + i - r .from .0) / r .ratio * m)) read
       ∙ ap (fourIn each d) (sym (line-place i))
 
 module _ (each : ℕ) (d ns t lit : List ℕ) (pairs f a b step : ℕ) (g : Tabled each d ns t lit pairs f a b step) where

@@ -21,15 +21,15 @@ use Rattle.paint_rules.specs.Floor.{dark}
 use Rattle.paint_gather.specs.Gather.{entry}
 
 unfoldable pub placeOf : ℕ → Row → ℕ → ℕ → ℕ
-placeOf each r a j = r .at + (a + j - r .from) / r .ratio * each
+placeOf each r a j = r .at + (a + j - r .from .0) / r .ratio * each
 
 pub record Ready (each : ℕ) (d : List ℕ) (r : Row) (k a b : ℕ) : Type 0 where
   pub turns : Turns r
   pub read : r .read ≡ each
   pub ratio : r .ratio ≡ k
-  pub from : r .from ≤ a
-  pub to : b ≤ r .to
-  pub wide : r .at + (b - 1 - r .from) / r .ratio * each + 4 ≤ length d
+  pub from : r .from .0 ≤ a
+  pub to : b ≤ r .to .0
+  pub wide : r .at + (b - 1 - r .from .0) / r .ratio * each + 4 ≤ length d
 
 pub record Lined (each : ℕ) (t : List ℕ) (c : ℕ) (r : Row) (a : ℕ) : Type 0 where
   pub there : (j : ℕ) → j < 12 → entry t j c ≡ placeOf each r a j

@@ -25,10 +25,10 @@ fn ready(s: &[u8], d: &[u8], r: Row, each: usize, k: usize, a: usize, b: usize) 
     if r.ratio != k {
         return false;
     }
-    if a < r.from {
+    if a < r.from.0 {
         return false;
     }
-    if r.to < b {
+    if r.to.0 < b {
         return false;
     }
     let i = paint_image::sample_of(r, b - 1);

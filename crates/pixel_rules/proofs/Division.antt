@@ -17,17 +17,17 @@ use Rattle.sheet_rules.specs.declared.Record.{Record}
 use Rattle.sheet_rules.specs.Record.{isGrey}
 use Rattle.pixel_rules.specs.declared.MainPos.{MainPos}
 use Rattle.pixel_rules.specs.declared.SamplePos.{SamplePos}
-use Rattle.pixel_rules.specs.Place.{ratio, scale, covers, inside, alongOf, downOf}
+use Rattle.pixel_rules.specs.Place.{ratio, leftOf, topOf, areaEnd, scale, covers, inside, alongOf, downOf}
 use Rattle.pixel_rules.specs.Samples.{indexOf, depth, planeSpan, greyOf, colourIn}
 
 -- ---- along one side
 
-pub says-covers : (o n k : ℕ) (p : MainPos) → Says (covers o n k p) ((o ≤ p .0) × (p .0 < o + n * k))
+pub says-covers : (o : MainPos) (n k : ℕ) (p : MainPos) → Says (covers o n k p) ((o .0 ≤ p .0) × (p .0 < o .0 + n * k))
 unfolding covers
-says-covers o n k p = says-and (says-le o (p .0)) (says-lt (p .0) (o + n * k))
+says-covers o n k p = says-and (says-le (o .0) (p .0)) (says-lt (p .0) (o .0 + n * k))
 
 -- nothing is covered by samples of no main pixel
-pub covers-ratio : (o n k : ℕ) (p : MainPos) → covers o n k p ≡ true → 0 < k
+pub covers-ratio : (o : MainPos) (n k : ℕ) (p : MainPos) → covers o n k p ≡ true → 0 < k
 covers-ratio o n k p e =
     let c = says-covers o n k p .told e in
     let a = c .0 in
@@ -35,14 +35,14 @@ covers-ratio o n k p e =
     ⊎-elim (λ (z : k ≡ 0). let m : n * k ≡ 0 = ap (λ (j : ℕ). n * j) z ∙ mul-zero n in absurd (omega arith)) (λ (z : k ≡ 0 → ⊥). omega arith) (says-else (says-eq k 0))
 
 -- an area ends where no 32-bit sum overflows
-pub area-most : (o n k : ℕ) → o ≤ 65535 → n ≤ 65535 → k ≤ 12 → o + n * k ≤ 851955
+pub area-most : (o : MainPos) (n k : ℕ) → o .0 ≤ 65535 → n ≤ 65535 → k ≤ 12 → areaEnd o n k .0 ≤ 851955
 area-most o n k a b c =
     let m : k * n ≤ 12 * n = mul-le-mul-right n c in
     let e = mul-comm n k in
     omega arith
 
 -- a covered place has its sample within the layer
-pub scale-within : (o n k : ℕ) (p : MainPos) → covers o n k p ≡ true → scale k o p .0 < n
+pub scale-within : (o : MainPos) (n k : ℕ) (p : MainPos) → covers o n k p ≡ true → scale k o p .0 < n
 unfolding scale
 scale-within o n k p e =
     let c = says-covers o n k p .told e in
@@ -51,24 +51,30 @@ scale-within o n k p e =
     div-lt-iff-lt-mul (covers-ratio o n k p e) .1 (omega arith)
 
 -- at the main resolution only the offset is taken away
-pub scale-one : (o : ℕ) (p : MainPos) → scale 1 o p ≡ record { 0 = p .0 - o }
+pub scale-one : (o p : MainPos) → scale 1 o p ≡ record { 0 = p .0 - o .0 }
 unfolding scale
-scale-one o p = ap (λ (i : ℕ). let q : SamplePos = record { 0 = i } in q) (div-one (p .0 - o))
+scale-one o p = ap (λ (i : ℕ). let q : SamplePos = record { 0 = i } in q) (div-one (p .0 - o .0))
 
 -- the k main pixels from the offset plus i times k on have sample i
-pub scale-block : (k o i j : ℕ) → j < k → scale k o (record { 0 = o + (i * k + j) }) ≡ record { 0 = i }
+pub scale-block : (k : ℕ) (o : MainPos) (i j : ℕ) → j < k → scale k o (record { 0 = o .0 + (i * k + j) }) ≡ record { 0 = i }
 unfolding scale
 scale-block k o i j h =
-    let z : o + (i * k + j) - o ≡ i * k + j = omega arith in
+    let z : o .0 + (i * k + j) - o .0 ≡ i * k + j = omega arith in
     let m : (i + 1) * k ≡ i * k + k = add-mul i 1 k ∙ ap (λ (n : ℕ). i * k + n) (one-mul k) in
     let d : (i * k + j) / k ≡ i = div-eq-of-lt-le k (omega arith) (omega arith) in
     ap (λ (n : ℕ). let q : SamplePos = record { 0 = n } in q) (ap (λ (n : ℕ). n / k) z ∙ d)
 
 -- ---- in a layer's area
 
-pub says-inside : (main : ℕ) (r : Record) (x y : MainPos) → Says (inside main r x y) ((covers (r .x) (r .width) (ratio main r) x ≡ true) × (covers (r .y) (r .height) (ratio main r) y ≡ true))
+pub says-inside : (main : ℕ) (r : Record) (x y : MainPos) → Says (inside main r x y) ((covers (leftOf r) (r .width) (ratio main r) x ≡ true) × (covers (topOf r) (r .height) (ratio main r) y ≡ true))
 unfolding inside
 says-inside main r x y = says-and (record { told = λ e. e; shown = λ e. e }) (record { told = λ e. e; shown = λ e. e })
+
+-- which offset belongs to which side, in the record's own numbers
+pub inside-told : (main : ℕ) (r : Record) (x y : MainPos)
+    → Says (inside main r x y) (((r .x ≤ x .0) × (x .0 < r .x + r .width * ratio main r)) × ((r .y ≤ y .0) × (y .0 < r .y + r .height * ratio main r)))
+unfolding inside
+inside-told main r x y = says-and (says-covers (leftOf r) (r .width) (ratio main r) x) (says-covers (topOf r) (r .height) (ratio main r) y)
 
 -- sample i of row j, of rows of w samples
 pub index-below : (w h i j : ℕ) → i < w → j < h → j * w + i < w * h
@@ -83,8 +89,8 @@ unfolding indexOf
 index-within main r x y e =
     let c = says-inside main r x y .told e in
     index-below (r .width) (r .height) (alongOf main r x .0) (downOf main r y .0)
-    (scale-within (r .x) (r .width) (ratio main r) x (c .0))
-    (scale-within (r .y) (r .height) (ratio main r) y (c .1))
+    (scale-within (leftOf r) (r .width) (ratio main r) x (c .0))
+    (scale-within (topOf r) (r .height) (ratio main r) y (c .1))
 
 -- ---- in a layer's octets
 

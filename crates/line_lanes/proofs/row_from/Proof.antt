@@ -25,20 +25,20 @@ scale-pos-requires c κs =
 
 steps-down-requires : tie.Need-steps-down-requires
 steps-down-requires c κs = (
-  c .before .before .before .before .before .before .before .pre .start,
+  c .before .before .before .before .before .before .before .before .before .pre .start,
   lane-down _ _ _
-      (c .before .before .before .before .before .before .before .pre)
-      (c .before .before .before .before .if1 .left)
-      (c .before .if2 .left) (c .scale-pos .ensures),
-  c .before .before .before .before .before .before .before .pre .step,
+      (c .before .before .before .before .before .before .before .before .before .pre)
+      (c .before .before .before .before .before .before .if1 .left)
+      (c .before .before .before .if2 .left) (c .before .before .scale-pos .ensures),
+  c .before .before .before .before .before .before .before .before .before .pre .step,
 )
 
 returns-3 : tie.Need-returns-3
 returns-3 c =
     row-crossed _ _ _ _
-    (c .before .before .before .before .before .if1 .left)
-    (c .before .before .if2 .left)
-    (c .before .scale-pos .ensures)
+    (c .before .before .before .before .before .before .before .if1 .left)
+    (c .before .before .before .before .if2 .left)
+    (c .before .before .before .scale-pos .ensures)
     (c .steps-down .ensures)
 
 pub row-from-spec : {M : Type 1} → statement M

@@ -8,11 +8,11 @@ row-out-requires c κs = search crossing
 returns : tie.Need-returns
 returns c = search crossing
 
+top-of-requires : tie.Need-top-of-requires
+top-of-requires c κs = search crossing
+
 wide16-requires : tie.Need-wide16-requires
 wide16-requires c κs = search crossing
-
-wide16-requires-2 : tie.Need-wide16-requires-2
-wide16-requires-2 c κs = search crossing
 
 line-covers-requires : tie.Need-line-covers-requires
 line-covers-requires c κs = search crossing
@@ -35,8 +35,8 @@ row-by-spec =
     (tie.spec
     row-out-requires
     returns
+    top-of-requires
     wide16-requires
-    wide16-requires-2
     line-covers-requires
     row-in-requires
     row-out-requires-2

@@ -3,11 +3,11 @@ use borrow.Author.Needs.{needs}
 use Rattle.line_rows.proofs.row_in.Statement.{statement}
 use Rattle.line_rows.proofs.row_in.Tie as tie
 
+left-of-requires : tie.Need-left-of-requires
+left-of-requires c κs = search needs
+
 wide16-requires : tie.Need-wide16-requires
 wide16-requires c κs = search needs
-
-wide16-requires-2 : tie.Need-wide16-requires-2
-wide16-requires-2 c κs = search needs
 
 area-end-requires : tie.Need-area-end-requires
 area-end-requires c κs = search needs
@@ -24,8 +24,8 @@ enum-known-p c = search needs
 depth-of-requires : tie.Need-depth-of-requires
 depth-of-requires c κs = search needs
 
-wide16-requires-3 : tie.Need-wide16-requires-3
-wide16-requires-3 c κs = search needs
+top-of-requires : tie.Need-top-of-requires
+top-of-requires c κs = search needs
 
 scale-pos-requires : tie.Need-scale-pos-requires
 scale-pos-requires c κs = search crossing
@@ -43,14 +43,14 @@ pub row-in-spec : {M : Type 1} → statement M
 row-in-spec =
     tie.close
     (tie.spec
+    left-of-requires
     wide16-requires
-    wide16-requires-2
     area-end-requires
     factor-of-requires
     enum-told
     enum-known-p
     depth-of-requires
-    wide16-requires-3
+    top-of-requires
     scale-pos-requires
     row-start-requires
     returns

@@ -14,7 +14,7 @@ sub-choose-3 : tie.Need-sub-choose-3
 sub-choose-3 c = search needs
 
 add-choose : tie.Need-add-choose
-add-choose c = let h = whole-there _ _ 0 _ _ _ (c .before .before .before .before .before .before .before .before .pre .0) (c .before .before .before .before .before .before .before .before .pre .1) (c .before .before .before .if1 .taken) in omega arith
+add-choose c = let h = whole-there _ _ 0 _ _ _ (c .before .before .before .before .before .before .before .before .before .pre .0) (c .before .before .before .before .before .before .before .before .before .pre .1) (c .before .before .before .before .if1 .taken) in omega arith
 
 choose-requires : tie.Need-choose-requires
 choose-requires c κs = search reading

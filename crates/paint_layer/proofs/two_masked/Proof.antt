@@ -66,7 +66,7 @@ mul-image-above : tie.Need-mul-image-above
 mul-image-above c = search needs
 
 add-image-above : tie.Need-add-image-above
-add-image-above c = let g = c .before .before .before .before .spans-three3 .ensures (c .before .before .before .if5 .taken) in let f = g .from in let h = g .more in omega arith
+add-image-above c = let g = c .before .before .before .before .spans-three3 .ensures (c .before .before .before .if5 .taken) in let f = g .from in let h = g .more in let n = c .before .before .before .before .before .before .before .before .before .before .before .before .before .before .good .1 .1 .1 .1 .0 .0 in let q = c .before .before .before .before .before .before .before .before .before .before .before .before .before .before .pre .4 in omega arith
 
 image-above-requires : tie.Need-image-above-requires
 image-above-requires c κs = let g = c .before .before .before .before .spans-three3 .ensures (c .before .before .before .if5 .taken) in let f = g .from in let h = g .more in (omega arith, omega arith, omega arith)
