@@ -35,7 +35,7 @@ use Rattle.pixel_rules.specs.declared.SamplePos.{SamplePos}
 use Rattle.pixel_rules.specs.declared.Plane.{Plane}
 use Rattle.pixel_rules.specs.declared.Start.{Start}
 use Rattle.pixel_rules.specs.declared.Start.the-variants.{From, Unread}
-use Rattle.pixel_rules.specs.Place.{ratio, inside, alongOf, downOf}
+use Rattle.pixel_rules.specs.Place.{leftOf, ratio, inside, alongOf, downOf}
 use Rattle.pixel_rules.specs.Planes.{PlaneList, wholeList, planeStart}
 use Rattle.pixel_rules.specs.Samples.{Scene, recordOf, mainOf, indexOf, depth, planeSpan}
 use Rattle.pixel_rules.specs.Content.{Content, CanHold, shade, three, Possible}
@@ -103,7 +103,7 @@ module _ (v : Scene) (w : Content) (l : ℕ) (x z : MainPos) (u : inside (mainOf
       let r : Record = recordOf v l in
       let c = says-inside (mainOf v) r x z .told u in
       let a = parts (indexOf (mainOf v) r x z) (depth r) j h in
-      let b = parts (downOf (mainOf v) r z .0) (r .width) (alongOf (mainOf v) r x .0) (scale-within (r .x) (r .width) (ratio (mainOf v) r) x (c .0)) in
+      let b = parts (downOf (mainOf v) r z .0) (r .width) (alongOf (mainOf v) r x .0) (scale-within (leftOf r) (r .width) (ratio (mainOf v) r) x (c .0)) in
       ap₂ (λ (t i : ℕ). rowOctet w l (r .width) t i) (a .0) (a .1) ∙ ap₂ (λ (m n : ℕ). valueOctet w l (place m) (place n) j) (b .1) (b .0)
 
 -- what a layer can hold is octets
