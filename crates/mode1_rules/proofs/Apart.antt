@@ -69,113 +69,38 @@ second =
 
 -- ---- the records
 
+-- the fields in the sheet's order, octets 26 and 27 being 0
+abbrev recordWith : ℕ → ℕ → ℕ → ℕ → ℕ → ℕ → ℕ → ℕ → ℕ → ℕ → ℕ → ℕ → ℕ → ℕ → Record
+recordWith stripe layer coder x y width height res base0 base1 base2 octet17 start len =
+    record {
+      stripe = stripe;
+      layer = layer;
+      coder = coder;
+      x = x;
+      y = y;
+      width = width;
+      height = height;
+      res = res;
+      base0 = base0;
+      base1 = base1;
+      base2 = base2;
+      octet17 = octet17;
+      start = start;
+      len = len;
+      octets26 = 0;
+    }
+
 abbrev pub first-records : List Record
 first-records =
-    record {
-      stripe = 0;
-      layer = 1;
-      coder = 1;
-      x = 2;
-      y = 3;
-      width = 8;
-      height = 16;
-      res = 200;
-      base0 = 11;
-      base1 = 12;
-      base2 = 13;
-      octet17 = 1;
-      start = 66;
-      len = 40;
-      octets26 = 0;
-    }
-    ∷ record {
-      stripe = 0;
-      layer = 2;
-      coder = 8;
-      x = 0;
-      y = 0;
-      width = 100;
-      height = 40;
-      res = 400;
-      base0 = 0;
-      base1 = 0;
-      base2 = 0;
-      octet17 = 0;
-      start = 61;
-      len = 5;
-      octets26 = 0;
-    }
-    ∷ record {
-      stripe = 0;
-      layer = 3;
-      coder = 1;
-      x = 4;
-      y = 5;
-      width = 7;
-      height = 12;
-      res = 100;
-      base0 = 14;
-      base1 = 15;
-      base2 = 16;
-      octet17 = 0;
-      start = 106;
-      len = 34;
-      octets26 = 0;
-    } ∷ []
+    recordWith 0 1 1 2 3 8 16 200 11 12 13 1 66 40
+    ∷ recordWith 0 2 8 0 0 100 40 400 0 0 0 0 61 5
+    ∷ recordWith 0 3 1 4 5 7 12 100 14 15 16 0 106 34 ∷ []
 
 abbrev pub second-records : List Record
 second-records =
-    record {
-      stripe = 1;
-      layer = 1;
-      coder = 0;
-      x = 0;
-      y = 0;
-      width = 0;
-      height = 0;
-      res = 400;
-      base0 = 21;
-      base1 = 22;
-      base2 = 23;
-      octet17 = 0;
-      start = 0;
-      len = 0;
-      octets26 = 0;
-    }
-    ∷ record {
-      stripe = 1;
-      layer = 2;
-      coder = 0;
-      x = 0;
-      y = 0;
-      width = 100;
-      height = 30;
-      res = 400;
-      base0 = 0;
-      base1 = 0;
-      base2 = 0;
-      octet17 = 0;
-      start = 0;
-      len = 0;
-      octets26 = 0;
-    }
-    ∷ record {
-      stripe = 1;
-      layer = 3;
-      coder = 1;
-      x = 262;
-      y = 519;
-      width = 8;
-      height = 16;
-      res = 200;
-      base0 = 24;
-      base1 = 25;
-      base2 = 26;
-      octet17 = 1;
-      start = 179;
-      len = 40;
-      octets26 = 0;
-    } ∷ []
+    recordWith 1 1 0 0 0 0 0 400 21 22 23 0 0 0
+    ∷ recordWith 1 2 0 0 0 100 30 400 0 0 0 0 0 0
+    ∷ recordWith 1 3 1 262 519 8 16 200 24 25 26 1 179 40 ∷ []
 
 -- ---- the two JPEG layers, by the walk, which is tied to their grammar
 
