@@ -6,7 +6,7 @@
 -- Assumes nothing.
 use Prim.Native.Nat.{ℕ}
 use mathlib.Core.Path.{_≡_, refl}
-use mathlib.Core.List.{List, [], _∷_, _++_}
+use mathlib.Core.List.{List, [], _∷_}
 use lib.ListN.{take}
 use Rattle.octets.specs.Octets.{be16At, be32At, begins, standsAt, putAt}
 use Rattle.answers.specs.declared.Answer.the-variants.{Short, BadLength, BadRes, BadType, BadStripe, BadLayer}
@@ -17,7 +17,7 @@ use Rattle.segment_rules.specs.Rules.{mode1}
 use Rattle.body_rules.specs.Body.{Item}
 use Rattle.mode1_rules.specs.Kinds.{typeOk}
 use Rattle.mode1_rules.specs.Reading.{stripeTable, stripeRead, faultOf}
-use Rattle.mode1_rules.proofs.Apart.{grey, coloured, coded-mask, first, second, head}
+use Rattle.mode1_rules.proofs.Apart.{first, second, head}
 
 unfoldable pub with : ℕ → List ℕ → Res Item
 unfolding putAt first

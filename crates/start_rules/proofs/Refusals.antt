@@ -6,7 +6,7 @@
 -- Assumes nothing.
 use Prim.Native.Nat.{ℕ}
 use mathlib.Core.Path.{_≡_, refl}
-use mathlib.Core.List.{List, [], _∷_, _++_}
+use mathlib.Core.List.{List, [], _∷_}
 use lib.ListN.{take}
 use Rattle.octets.specs.Octets.{be16At, be32At, begins, standsAt, putAt}
 use Rattle.answers.specs.declared.Answer.the-variants.{Short, BadMark, BadLength, BadVersion, BadMode, BadCoder, BadRes, BadWidth}
