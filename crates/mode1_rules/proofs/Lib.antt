@@ -8,3 +8,4 @@ pub mod Parts
 pub mod Accepted
 pub mod Coded
 pub mod Apart
+pub mod Refusals

@@ -9,3 +9,4 @@ pub mod Samples
 pub mod Many
 pub mod Apart
 pub mod Examples
+pub mod Refusals

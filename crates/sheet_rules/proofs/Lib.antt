@@ -12,3 +12,4 @@ pub mod Theorems
 pub mod Table
 pub mod Examples
 pub mod Make
+pub mod Edges

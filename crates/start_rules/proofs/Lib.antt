@@ -3,3 +3,4 @@ pub mod Start
 pub mod Faults
 pub mod Exactly
 pub mod Named
+pub mod Refusals

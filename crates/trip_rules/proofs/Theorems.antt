@@ -1,11 +1,11 @@
 -- What is proved of exported calls one after the other, of their promises alone. The statements are for the reader.
 -- Assumes nothing.
-use Prim.Native.Nat.{ℕ, _+_, _*_, _/_, _≤_}
+use Prim.Native.Nat.{ℕ, _+_, _*_, _/_, _≤_, _<_}
 use native.Mathlib.Omega.{arith}
 use mathlib.Core.Path.{_≡_, sym, ap, ap₂, subst, _∙_}
-use mathlib.Core.List.{List, map}
-use lib.ListN.{length, take, drop, length-take}
-use Rattle.octets.specs.Octets.{Octets, putAt}
+use mathlib.Core.List.{List, _++_, map}
+use lib.ListN.{length, take, drop, take-append-drop, length-take}
+use Rattle.octets.specs.Octets.{Octets, be32At, putAt}
 use Rattle.octets.proofs.Laws.{put-back, put-rest}
 use Rattle.octets.proofs.Entries.{joined-length}
 use Rattle.answers.specs.declared.Answer.{Answer}
@@ -16,7 +16,7 @@ use Rattle.answers_report.specs.Report.{reportOf}
 use Rattle.field_rules.specs.Field.{ok}
 use Rattle.segment_rules.specs.Rules.{longestPage}
 use Rattle.sheet_rules.specs.declared.Record.{Record}
-use Rattle.sheet_rules.specs.Record.{recordSize, sheetOf, records}
+use Rattle.sheet_rules.specs.Record.{recordSize, recordAt, sheetOf, records}
 use Rattle.sheet_rules.proofs.Cut.{record-entry, sheet-octets}
 use Rattle.page_rules.specs.Reading.{pageOf, readOf}
 use Rattle.page_rules.proofs.Exactly.{page-there}
@@ -145,3 +145,19 @@ module _ (p buf : List ℕ) (r : Report) (buf′ : List ℕ) (c : ReadCall p buf
           back .report ∙ ap done h ∙ sym (reports-done (readOf p (length buf)) r (r .count) (c .reports) answered),
           subst (λ (j : ℕ). Returned (take (r .count * recordSize) buf′) p (take (w .count) out′) q (take j lent′)) l back,
         )
+
+-- ---- what is said of a page that comes back leaves nothing open: the report, and each octet of the buffer
+
+pub restored-once : (p out : List ℕ) (q r : Report) (a b : List ℕ) → Restored p q out a → Restored p r out b → (q ≡ r) × (a ≡ b)
+restored-once p out q r a b x y = (
+  x .report ∙ sym (y .report),
+  let front : take (length p) a ≡ take (length p) b = x .page ∙ sym (y .page) in
+      let behind : drop (length p) a ≡ drop (length p) b = x .behind ∙ sym (y .behind) in
+      sym (take-append-drop (length p) a) ∙ ap₂ (λ (f e : List ℕ). f ++ e) front behind ∙ take-append-drop (length p) b,
+)
+
+-- and of a sheet that comes back: by octets 18 to 25 of each record, the last too, the data that it names
+pub returned-octets : (s d p : List ℕ) (q : Report) (t : List ℕ) → Returned s d p q t → (i : ℕ) → i < length s / 28
+    → take (be32At t (i * 28 + 22)) (drop (be32At t (i * 28 + 18)) p) ≡ take (be32At s (i * 28 + 22)) (drop (be32At s (i * 28 + 18)) d)
+unfolding recordAt
+returned-octets s d p q t x i h = x .layers i h

@@ -14,7 +14,7 @@ use Rattle.jpeg_rules.specs.Marker.{classOf, markerOf}
 use Rattle.jpeg_rules.specs.Walk.{segOf, scanOf, tagOf, frameBodyOf, frameOf, scanStepOf, segmentOf, turnOf, walkOf}
 use Rattle.jpeg_rules.specs.Walk as W
 use Rattle.mode1_rules.specs.declared.Fields.{Fields}
-use Rattle.segment_rules.specs.Rules.{mode1, longestPage}
+use Rattle.segment_rules.specs.Rules.{mode1}
 use Rattle.sheet_rules.specs.declared.Colour.{Colour}
 use Rattle.start_rules.specs.Grammar.{startOf}
 use Rattle.mode1_rules.specs.Grammar.{colourOf, fieldsOf}
@@ -63,10 +63,10 @@ pub bad-sheet : writeOf (take 83 example) buffer 70 ≡ BadSheet 2
 unfolding writeOf buffer example counted matches sizeAnswer judgeOf judge walk onStep stepOf keeps after after1 after2 after3 endOf records recordAt be16At be32At answerOf
 bad-sheet = refl
 
--- too long is said before the room
-pub too-long : sizeAnswer 0 (longestPage + 1) ≡ TooLong
+-- 16,777,216 octets are too long, which is said before the room, and 16,777,215 are not
+pub too-long : (sizeAnswer 0 16777216 ≡ TooLong) × (sizeAnswer 16777215 16777215 ≡ Done 16777215) × (sizeAnswer 16777214 16777215 ≡ NoRoom)
 unfolding sizeAnswer
-too-long = refl
+too-long = (refl, refl, refl)
 
 -- ---- all three layers coded, the two image layers from the same octets, of one component; `grey` is octet 17 of layer 1
 
@@ -115,6 +115,11 @@ pub mismatch : (writeOf (sheetOf (layers 1 9 8)) picture 193 ≡ Mismatch 0) × 
     × (writeOf (sheetOf (layers 1 8 4)) (picture ++ coded-mask) 193 ≡ Mismatch 4)
 unfolding writeOf octets16 octets32 joined encode layers picture counted matches agrees judgeOf judge walk onStep stepOf keeps after after1 after2 after3 endOf records recordAt be16At be32At walkOf turnOf markerOf classOf segOf scanOf tagOf frameOf frameBodyOf scanStepOf segmentOf W.endOf standsAt begins
 mismatch = (refl, refl, refl)
+
+-- an image layer that is cut is Short, although its walk fails too
+pub short-image : writeOf (sheetOf (layers 1 8 8)) (take 39 picture) 193 ≡ Short 0
+unfolding writeOf octets16 octets32 joined encode layers picture counted matches agrees judgeOf judge walk onStep stepOf keeps after after1 after2 after3 endOf records recordAt be16At be32At
+short-image = refl
 
 -- a fifth layer
 pub bad-mode : writeOf (sheetOf (layers 1 8 8 ++ (layer 1 4 0 0 0 0 0 400 none 0 0 ∷ layer 1 5 0 0 0 0 0 400 white 0 0 ∷ []))) [] 0 ≡ BadMode 6
