@@ -4,7 +4,7 @@
 --   due            idents 1 to 3 may stand there, 2 is one too many, and 1 has a body of two octets
 --   segment ..     the reading of a segment whose length and ident end so, with a body of three octets
 -- Assumes nothing.
-use Prim.Native.Nat.{ℕ}
+use Prim.Native.Nat.{ℕ, _+_, _*_}
 use mathlib.Core.Path.{_≡_, refl}
 use mathlib.Core.Bool.{cond}
 use mathlib.Core.List.{[], _∷_}
@@ -14,6 +14,7 @@ use Rattle.octets.specs.Octets.{be16At, begins, standsAt}
 use Rattle.answers.specs.declared.Answer.the-variants.{Short, BadMark, BadLength, BadStripe}
 use Rattle.field_rules.specs.Field.{Res, ok, no, fields}
 use Rattle.segment_rules.specs.declared.Version.the-variants.{Base}
+use Rattle.segment_rules.specs.Rules.{longestPage}
 use Rattle.segment_rules.specs.Segment.{passed, sized, Due, openTable, segmentOf}
 
 abbrev pub due : Due
@@ -33,3 +34,7 @@ pub segment-refused : (segmentOf Base due (0xFF ∷ 0xEE ∷ 0x00 ∷ 8 ∷ []) 
     × (segment 99 2 ≡ no (BadStripe 4)) × (segment 9 1 ≡ no (BadLength 2)) × (segment 10 3 ≡ no (Short 8))
 unfolding segmentOf openTable fields be16At standsAt begins
 segment-refused = (refl, refl, refl, refl, refl, refl, refl, refl)
+
+-- ---- the longest page is the longest whose length three octets can tell; what becomes of a longer one stands in page_rules (`longest`)
+pub longest-page : longestPage + 1 ≡ 256 * 256 * 256
+longest-page = refl
