@@ -171,7 +171,9 @@ def check_counts(tally, coders, rng):
     """A page of components other than one and three is refused at the octet that counts them."""
     octets = some_page(coders, rng, (1,)).octets()
     path = coders.path("counts.page")
-    for mark in (octets.index(b"\xff\xc0"), octets.rindex(b"\xff\xc0")):
+    # a frame's marker with its length and precision: the mask's coded data may hold FF C0 by chance
+    one, three = (b"\xff\xc0" + bytes([0, 8 + 3 * count, 8]) for count in (1, 3))
+    for mark in (octets.index(one), octets.index(three)):
         at = mark + COUNT_AT
         tally.check(octets[at] in (1, 3), "no frame at %d" % mark)
         for count in (0, 2, 4, 255):
