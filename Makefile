@@ -42,7 +42,6 @@ faults:
 	@python3 tests/faults_sheet.py
 	@python3 tests/faults_page.py
 	@python3 tests/faults_write.py
-	@python3 tests/faults_versions.py
 	@python3 tests/faults_line.py
 	@python3 tests/faults_band.py
 	@python3 tests/faults_data.py
@@ -50,7 +49,7 @@ faults:
 
 # FUZZ_SECONDS of changed pages, sheets and plane lists, the library beside the reference; what differs is kept in tests/cases.
 # Then the tests that try random cases, SPIREROOK_TRIALS times as many as in make test; times and sizes are then the full ones.
-RANDOM_TESTS = boundary valgrind pages_reference versions writes_reference writes_as lines_reference bands_reference data_reference grey listing view view_versions view_unseen view_bands view_damage view_limits fill make files
+RANDOM_TESTS = boundary valgrind pages_reference writes_reference lines_reference bands_reference data_reference grey listing view view_unseen view_bands view_damage view_limits fill make files
 fuzz: export SPIREROOK_TRIALS ?= 5
 fuzz: build/libspirerook.a build/spirerook-view build/spirerook-make
 	@python3 tests/fuzz.py

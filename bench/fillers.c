@@ -3,6 +3,13 @@
 
 #include <string.h>
 
+size_t nothing(uint8_t *octets, size_t at, size_t size)
+{
+    (void)octets;
+    (void)size;
+    return at;
+}
+
 // One octet again and again.
 static size_t same(uint8_t *octets, size_t at, size_t size, int octet)
 {
@@ -118,9 +125,4 @@ size_t tables_of_9(uint8_t *octets, size_t at, size_t size)
 size_t optional_segments(uint8_t *octets, size_t at, size_t size)
 {
     return repeated(octets, at, size, "\xff\xed\0\6MRC\3", 8);
-}
-
-size_t long_segments(uint8_t *octets, size_t at, size_t size)
-{
-    return repeated(octets, at, size, "\xff\xed\0\0MRC\3\0\0\0\12", 12);
 }

@@ -9,7 +9,7 @@
 typedef size_t filler(uint8_t *octets, size_t at, size_t size);
 #define MOST_PAST 64
 
-filler zero_octets;
+filler nothing, zero_octets;
 
 // Scan data: any octets; FF 00 only.
 filler random_scan, stuffed_scan;
@@ -21,7 +21,7 @@ filler fill_octets, dense_restarts, sparse_restarts;
 // Segments of a layer, and scans, one every so many octets.
 filler segments_of_4, segments_of_32, segments_of_64, scans_of_4, scans_of_32, scans_of_64;
 
-// Tables of a layer, and segments of a page that a reader skips; in long form they are version 01's.
-filler tables_of_9, optional_segments, long_segments;
+// Tables of a layer, and segments of a page that a reader skips.
+filler tables_of_9, optional_segments;
 
 #endif

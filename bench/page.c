@@ -1,7 +1,6 @@
 // Reading a page as C would have it: one pass, fields read where they are tested, out at the first
 // fault. Records stand in a scratch and reach the sheet when all is judged and fits, as the proved
-// call has it. The version octet picks the rule of lengths behind the start. Compiled twice, as
-// layer.c is, whose walk it uses.
+// call has it. Compiled twice, as layer.c is, whose walk it uses.
 #include "page.h"
 
 #include <string.h>
@@ -9,8 +8,6 @@
 #define MOST_OCTETS 16777215
 #define MOST_STRIPES 64
 #define STRIPE_RECORDS (3 * RECORD_SIZE)
-#define HEAD 8       // octets of a segment before its body
-#define LONG_HEAD 12 // with the four of a long length
 
 #ifdef BY_MEMCHR
 #define READ c_read_by_memchr
@@ -24,7 +21,6 @@ struct reader {
     const uint8_t *page;
     size_t size, at; // at: the first octet not read, never past size
     struct fault fault;
-    uint32_t version; // 0 until it is read
     uint32_t mask_coder, image_coder, main, width;
     uint32_t left; // of the page's height
     unsigned stripes;
@@ -143,16 +139,15 @@ static inline bool marker(struct reader *r, uint32_t due)
     return p != NULL && (be16(p) == due || fail(r, SPIREROOK_BAD_MARK, r->at - 2));
 }
 
-// The length and the ident of a segment whose marker is at `at`; n is the ident's last octet. In
-// version 01 a length of 0 is one: four octets behind the ident have it.
+// The length and the ident of a segment whose marker is at `at`; n is the ident's last octet.
 static inline bool head(struct reader *r, size_t at, uint32_t *length, uint32_t *n)
 {
     if (r->size - at < 4)
         return fail(r, SPIREROOK_SHORT, at + 2);
     *length = be16(r->page + at + 2);
-    if (*length < 6 && (*length != 0 || r->version == 0))
+    if (*length < 6)
         return fail(r, SPIREROOK_BAD_LENGTH, at + 2);
-    if (r->size - at < HEAD)
+    if (r->size - at < 8)
         return fail(r, SPIREROOK_SHORT, at + 4);
     *n = r->page[at + 7];
     return memcmp(r->page + at + 4, "MRC", 3) == 0 || fail(r, SPIREROOK_BAD_MARK, at + 4);
@@ -168,7 +163,7 @@ static bool number(struct reader *r, unsigned octets, uint32_t *value)
 
 static bool start(struct reader *r)
 {
-    uint32_t length, n, mode;
+    uint32_t length, n, version, mode;
     if (!marker(r, 0xFFD8) || !marker(r, 0xFFED) || !head(r, 2, &length, &n))
         return false;
     if (n != 0)
@@ -176,7 +171,7 @@ static bool start(struct reader *r)
     if (length != 16)
         return fail(r, SPIREROOK_BAD_LENGTH, 4);
     r->at = 10;
-    if (!number(r, 1, &r->version) || (r->version > 1 && !fail(r, SPIREROOK_BAD_VERSION, 10)))
+    if (!number(r, 1, &version) || (version != 0 && !fail(r, SPIREROOK_BAD_VERSION, 10)))
         return false;
     if (!number(r, 1, &mode) || (mode != 1 && !fail(r, SPIREROOK_BAD_MODE, 11)))
         return false;
@@ -193,47 +188,15 @@ static bool start(struct reader *r)
     return marker(r, 0xFFD9);
 }
 
-// The long length of a segment whose marker is at `at`, behind its ident; it counts itself too.
-static inline bool long_length(struct reader *r, size_t at, uint32_t *length)
-{
-    if (r->size - at < LONG_HEAD)
-        return fail(r, SPIREROOK_SHORT, at + HEAD);
-    *length = be32(r->page + at + HEAD);
-    return *length >= LONG_HEAD - 2 || fail(r, SPIREROOK_BAD_LENGTH, at + HEAD);
-}
-
-// A stripe whose marker is at `at`, and whose length of two octets this is.
+// A stripe whose marker is at `at`.
 static bool stripe_at(struct reader *r, size_t at, uint32_t length)
 {
     if (r->stripes == MOST_STRIPES)
         return fail(r, SPIREROOK_BAD_STRIPE, at + 4);
-    if (length == 0) {
-        if (!long_length(r, at, &length))
-            return false;
-        if (length != 41)
-            return fail(r, SPIREROOK_BAD_LENGTH, at + HEAD);
-        r->at = at + LONG_HEAD;
-    } else {
-        if (length != 37)
-            return fail(r, SPIREROOK_BAD_LENGTH, at + 2);
-        r->at = at + HEAD;
-    }
+    if (length != 37)
+        return fail(r, SPIREROOK_BAD_LENGTH, at + 2);
+    r->at = at + 8;
     return stripe(r);
-}
-
-// Passes an optional segment whose marker is at `at`, and whose length of two octets this is.
-static inline bool skip(struct reader *r, size_t *at, uint32_t length)
-{
-    size_t body = *at + HEAD;
-    if (length == 0) {
-        if (!long_length(r, *at, &length))
-            return false;
-        body = *at + LONG_HEAD;
-    }
-    if (r->size - *at - 2 < length)
-        return fail(r, SPIREROOK_SHORT, body);
-    *at += 2 + (size_t)length;
-    return true;
 }
 
 // Optional segments and stripes, up to the first FF D9 of the end.
@@ -257,8 +220,10 @@ static bool body(struct reader *r)
             at = r->at;
         } else if (n < 3 || n == 0xFF || r->stripes != 0) {
             return fail(r, SPIREROOK_BAD_MARK, at + 4);
-        } else if (!skip(r, &at, length)) {
-            return false;
+        } else if (r->size - at - 2 < length) {
+            return fail(r, SPIREROOK_SHORT, at + 8);
+        } else {
+            at += 2 + length;
         }
     }
 }
@@ -280,7 +245,6 @@ spirerook_answer READ(const uint8_t *page, size_t page_len, uint8_t *sheet, size
     r.size = page_len;
     r.at = 0;
     r.fault = (struct fault){SPIREROOK_DONE, 0};
-    r.version = 0;
     r.left = 65535;
     r.stripes = 0;
     if (!start(&r) || !body(&r) || !marker(&r, 0xFFD9) || !zeros(&r))

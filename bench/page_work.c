@@ -3,8 +3,7 @@
 
 #include <string.h>
 
-#define ENDS 256      // octets of a page besides what fills it
-#define VERSION_AT 10 // of a page
+#define ENDS 256 // octets of a page besides what fills it
 
 static void add(struct page *p, const void *octets, size_t size)
 {
@@ -12,49 +11,30 @@ static void add(struct page *p, const void *octets, size_t size)
     p->size += size;
 }
 
-static void add_start(struct page *p, unsigned version)
+static void add_start(struct page *p)
 {
     static const uint8_t start[] = {0xFF, 0xD8, 0xFF, 0xED, 0,    16, 'M', 'R',  'C',  0,    0,
                                     1,    4,    1,    0x01, 0x90, 0,  0,   0x13, 0x60, 0xFF, 0xD9};
     p->size = 0;
     p->layers = 0;
     add(p, start, sizeof start);
-    p->octets[VERSION_AT] = (uint8_t)version;
 }
 
-// The head of a segment: its marker, its length, short or long, and its ident.
-static void add_head(struct page *p, unsigned ident, unsigned body, bool is_long)
+static void add_stripe(struct page *p, unsigned type, uint32_t mask)
 {
-    uint8_t head[12] = {0xFF, 0xED, 0, 0, 'M', 'R', 'C', (uint8_t)ident};
-    if (is_long)
-        put32(head + 8, body + 10);
-    else
-        put16(head + 2, body + 6);
-    add(p, head, is_long ? 12 : 8);
-}
-
-static void add_any(struct page *p, uint32_t size)
-{
-    for (; size != 0; size--)
-        p->octets[p->size++] = (uint8_t)any(256);
-}
-
-static void add_stripe(struct page *p, unsigned type, uint32_t mask, bool is_long)
-{
-    uint8_t s[31] = {(uint8_t)type, 255, 128, 96, 0, 128, 96};
-    for (int i = 7; i < 23; i += 4)
+    uint8_t s[39] = {0xFF, 0xED, 0, 37, 'M', 'R', 'C', 1, (uint8_t)type, 255, 128, 96, 0, 128, 96};
+    for (int i = 15; i < 31; i += 4)
         put32(s + i, any(1000));
-    put32(s + 23, 1 + any(1000));
-    put32(s + 27, mask);
-    add_head(p, 1, sizeof s, is_long);
+    put32(s + 31, 1 + any(1000));
+    put32(s + 35, mask);
     add(p, s, sizeof s);
-    add_any(p, mask);
+    for (; mask != 0; mask--)
+        p->octets[p->size++] = (uint8_t)any(256);
 }
 
 static void put(struct page *p, filler *f, size_t size)
 {
-    if (f != NULL)
-        p->size = f(p->octets, p->size, size);
+    p->size = f(p->octets, p->size, size);
 }
 
 static void add_resolution(struct page *p)
@@ -79,23 +59,24 @@ static void add_scan(struct page *p)
     add(p, "\xff\xda\0\10\1\1\0\0\77\0", 10);
 }
 
-void make_large(struct page *p, const struct filled *with)
+void make_large(struct page *p, size_t size, filler *optionals, filler *segments, filler *data,
+                filler *behind)
 {
-    size_t full = with->size - ENDS;
-    add_start(p, with->version);
-    put(p, with->optionals, full);
-    add_stripe(p, 1, 0, false);
+    size_t full = size - ENDS;
+    add_start(p);
+    put(p, optionals, full);
+    add_stripe(p, 1, 0);
     p->start = p->size;
     add(p, "\xff\xd8", 2);
     add_resolution(p);
-    put(p, with->segments, full);
+    put(p, segments, full);
     add_frame(p);
     add_scan(p);
-    put(p, with->data, full);
+    put(p, data, full);
     add(p, "\xff\xd9", 2);
     p->end = p->size;
     add(p, "\xff\xd9\xff\xd9", 4);
-    put(p, with->behind, full);
+    put(p, behind, full);
 }
 
 // Before a third of the markers.
@@ -123,22 +104,15 @@ static void add_layer(struct page *p, bool filled)
     add(p, "\xff\xd9", 2);
 }
 
-static void add_optional(struct page *p, bool is_long)
-{
-    uint32_t body = any(2) == 0 ? 0 : any(20);
-    add_head(p, 3 + any(252), body, is_long);
-    add_any(p, body);
-}
-
-void make_small(struct page *p, unsigned stripes, bool filled, unsigned version)
+void make_small(struct page *p, unsigned stripes, bool filled)
 {
     static const uint8_t types[] = {1, 2, 3, 4, 6, 7};
-    add_start(p, version);
+    add_start(p);
     for (uint32_t k = any(3); k != 0; k--)
-        add_optional(p, version == 1 && any(2) == 0);
+        put(p, optional_segments, p->size + 1);
     while (stripes-- != 0) {
         unsigned type = types[any(6)];
-        add_stripe(p, type, type & 2 ? 1 + any(40) : 0, version == 1 && any(2) == 0);
+        add_stripe(p, type, type & 2 ? 1 + any(40) : 0);
         for (unsigned layers = (type & 1) + (type >> 2); layers != 0; layers--)
             add_layer(p, filled);
     }

@@ -19,19 +19,13 @@ struct page {
     unsigned layers;
 };
 
-// What a large page is filled with, up to its size: in one of four places, the others are null.
-struct filled {
-    size_t size;
-    filler *optionals, *segments, *data, *behind;
-    unsigned version; // of the page
-};
+// One stripe with a background alone; one of the four places of the page is filled, the others get
+// `nothing`.
+void make_large(struct page *p, size_t size, filler *optionals, filler *segments, filler *data,
+                filler *behind);
 
-// One stripe with a background alone.
-void make_large(struct page *p, const struct filled *with);
-
-// A few stripes of small layers, as most damage wants them; with fill, some of them grey. In version
-// 01 some segments are in long form.
-void make_small(struct page *p, unsigned stripes, bool filled, unsigned version);
+// A few stripes of small layers, as most damage wants them; with fill, some of them grey.
+void make_small(struct page *p, unsigned stripes, bool filled);
 
 // A layer is grey by its count alone: a reader passes over what stands behind it.
 void make_grey(struct page *p, unsigned layer);

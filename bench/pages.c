@@ -1,7 +1,7 @@
 // Times the proved reading of a page beside two readers in C, and with BEFORE beside an earlier
 // library, on the same pages in one run. First all must agree, answer and sheet octet for octet, on
 // the pages that are timed, and all but the earlier one on damaged ones: a fast wrong answer is no
-// result. The earlier library is left out of pages of version 01, which it may not know.
+// result.
 #include "kit.h"
 #include "page.h"
 #include "page_work.h"
@@ -24,12 +24,11 @@
 typedef spirerook_answer reader(const uint8_t *page, size_t page_len, uint8_t *sheet,
                                 size_t sheet_len);
 
-#define OWN_SIDES 3 // without the library before
 #ifdef BEFORE
 reader before_read; // the call of that library, renamed
-#define SIDES (OWN_SIDES + 1)
+#define SIDES 4
 #else
-#define SIDES OWN_SIDES
+#define SIDES 3
 #endif
 
 static reader *const readers[SIDES] = {
@@ -71,10 +70,10 @@ static spirerook_answer agreed(const char *what, const struct page *p, size_t ro
 }
 
 // Against what the maker knows, so that wrong readers do not pass together.
-static void expect(const char *what, const struct page *p, size_t sides)
+static void expect(const char *what, const struct page *p)
 {
     uint8_t sheet[SHEET_SIZE];
-    spirerook_answer a = agreed(what, p, SHEET_SIZE, sheet, sides);
+    spirerook_answer a = agreed(what, p, SHEET_SIZE, sheet, SIDES);
     if (a.number != SPIREROOK_DONE || a.count != 3 || be32(sheet + 18) != p->start ||
         be32(sheet + 22) != p->end - p->start) {
         fprintf(stderr, "bench: %s: not the records that were made\n", what);
@@ -89,7 +88,7 @@ static void expect_small(const struct page *p, uint32_t stripes, size_t room,
     uint32_t number = stripes > 64                   ? SPIREROOK_BAD_STRIPE
                       : room < records * RECORD_SIZE ? SPIREROOK_NO_ROOM
                                                      : SPIREROOK_DONE;
-    spirerook_answer a = agreed("a small page", p, room, sheet, OWN_SIDES);
+    spirerook_answer a = agreed("a small page", p, room, sheet, 3);
     if (a.number != number || a.count != (number == SPIREROOK_DONE ? records : 0))
         differ("a small page, against what was made", 0, a, (spirerook_answer){number, 0, records});
     unsigned layers = 0;
@@ -109,11 +108,11 @@ static void agree_on_damaged(struct page *p)
     for (int i = 0; i < DAMAGED; i++) {
         uint32_t stripes = 1 + any(any(16) == 0 ? 65 : 3);
         size_t room = any(2) == 0 ? SHEET_SIZE : any(600);
-        make_small(p, stripes, any(2) == 0, any(2));
+        make_small(p, stripes, any(2) == 0);
         expect_small(p, stripes, room, sheet);
         for (uint32_t times = 1 + any(2); times != 0 && p->size != 0; times--)
             damage(p);
-        good += agreed("a damaged page", p, SHEET_SIZE, sheet, OWN_SIDES).number == SPIREROOK_DONE;
+        good += agreed("a damaged page", p, SHEET_SIZE, sheet, 3).number == SPIREROOK_DONE;
     }
     printf(
         "Rattle and both in C agree on %d pages and on each once damaged: %u still good, %u refused\n\n",
@@ -165,34 +164,31 @@ static void print_ratio(double ratio, double limit)
 
 struct row {
     const char *name;
-    struct filled page;
-    double octets_limit, memchr_limit, before_limit; // 0: none
+    size_t size;
+    filler *optionals, *segments, *data, *behind;
+    double octets_limit, memchr_limit;
 };
 
-// clang-format off
 static const struct row rows[] = {
-    {"random scan data, 1 MB", {.size = MB, .data = random_scan}, 0.5, 2.0, 0},
-    {"random scan data, 4 MB", {.size = 4 * MB, .data = random_scan}, 0.5, 2.0, 0},
-    {"random scan data, 16 MB", {.size = LONGEST, .data = random_scan}, 0.5, 2.0, 0},
-    {"FF before the end of image, 4 MB", {.size = 4 * MB, .data = fill_octets}, 1.2, 0, 0},
-    {"FF before the end of image, 16 MB", {.size = LONGEST, .data = fill_octets}, 1.2, 0, 0},
-    {"FF before the frame, 4 MB", {.size = 4 * MB, .segments = fill_octets}, 1.2, 0, 0},
-    {"FF before the frame, 16 MB", {.size = LONGEST, .segments = fill_octets}, 1.2, 0, 0},
-    {"fill and restart every 6 to 20", {.size = LONGEST, .data = dense_restarts}, 1.2, 0, 0},
-    {"fill and restart every 200", {.size = LONGEST, .data = sparse_restarts}, 1.2, 0, 0},
-    {"FF 00 throughout", {.size = LONGEST, .data = stuffed_scan}, 0, 0.3, 0},
-    {"a segment every 4 octets", {.size = LONGEST, .segments = segments_of_4}, 2.0, 0, 0},
-    {"a segment every 32 octets", {.size = LONGEST, .segments = segments_of_32}, 2.0, 0, 0},
-    {"a segment every 64 octets", {.size = LONGEST, .segments = segments_of_64}, 2.0, 0, 0},
-    {"a scan every 4 octets", {.size = LONGEST, .data = scans_of_4}, 2.0, 0, 0},
-    {"a scan every 32 octets", {.size = LONGEST, .data = scans_of_32}, 2.0, 0, 0},
-    {"a scan every 64 octets", {.size = LONGEST, .data = scans_of_64}, 2.0, 0, 0},
-    {"2,097,000 optional segments", {.size = LONGEST, .optionals = optional_segments}, 2.0, 0, 1.1},
-    {"2,097,000 of version 01", {.size = LONGEST, .optionals = optional_segments, .version = 1}, 2.0, 0, 0},
-    {"1,398,000 of version 01, long form", {.size = LONGEST, .optionals = long_segments, .version = 1}, 1.3, 0, 0},
-    {"zeros behind the end", {.size = LONGEST, .behind = zero_octets}, 2.0, 0, 0},
+    {"random scan data, 1 MB", MB, nothing, nothing, random_scan, nothing, 0.5, 2.0},
+    {"random scan data, 4 MB", 4 * MB, nothing, nothing, random_scan, nothing, 0.5, 2.0},
+    {"random scan data, 16 MB", LONGEST, nothing, nothing, random_scan, nothing, 0.5, 2.0},
+    {"FF before the end of image, 4 MB", 4 * MB, nothing, nothing, fill_octets, nothing, 1.2, 0},
+    {"FF before the end of image, 16 MB", LONGEST, nothing, nothing, fill_octets, nothing, 1.2, 0},
+    {"FF before the frame, 4 MB", 4 * MB, nothing, fill_octets, nothing, nothing, 1.2, 0},
+    {"FF before the frame, 16 MB", LONGEST, nothing, fill_octets, nothing, nothing, 1.2, 0},
+    {"fill and restart every 6 to 20", LONGEST, nothing, nothing, dense_restarts, nothing, 1.2, 0},
+    {"fill and restart every 200", LONGEST, nothing, nothing, sparse_restarts, nothing, 1.2, 0},
+    {"FF 00 throughout", LONGEST, nothing, nothing, stuffed_scan, nothing, 0, 0.3},
+    {"a segment every 4 octets", LONGEST, nothing, segments_of_4, nothing, nothing, 2.0, 0},
+    {"a segment every 32 octets", LONGEST, nothing, segments_of_32, nothing, nothing, 2.0, 0},
+    {"a segment every 64 octets", LONGEST, nothing, segments_of_64, nothing, nothing, 2.0, 0},
+    {"a scan every 4 octets", LONGEST, nothing, nothing, scans_of_4, nothing, 2.0, 0},
+    {"a scan every 32 octets", LONGEST, nothing, nothing, scans_of_32, nothing, 2.0, 0},
+    {"a scan every 64 octets", LONGEST, nothing, nothing, scans_of_64, nothing, 2.0, 0},
+    {"2,097,000 optional segments", LONGEST, optional_segments, nothing, nothing, nothing, 2.0, 0},
+    {"zeros behind the end", LONGEST, nothing, nothing, nothing, zero_octets, 2.0, 0},
 };
-// clang-format on
 
 #define ROWS (sizeof rows / sizeof rows[0])
 
@@ -201,12 +197,6 @@ enum { RANDOM, FILL_IN_SCAN = 3, FILL_OUTSIDE = 5 };
 
 static double best[ROWS + 1][SIDES]; // of each side; the last row is the small page
 static size_t sizes[ROWS + 1];
-
-// How many sides read the page of a row.
-static size_t sides_of(size_t row)
-{
-    return row < ROWS && rows[row].page.version != 0 ? OWN_SIDES : SIDES;
-}
 
 static void time_page(size_t row, const struct page *p)
 {
@@ -219,7 +209,7 @@ static void time_page(size_t row, const struct page *p)
 #endif
     };
     sizes[row] = p->size;
-    take_turns(sides, sides_of(row), p, ROUND_NS, ROUNDS, best[row]);
+    take_turns(sides, SIDES, p, ROUND_NS, ROUNDS, best[row]);
 }
 
 // ---- grey layers beside coloured ones
@@ -242,54 +232,39 @@ static void time_all(struct page *p)
 {
     for (size_t i = 0; i < ROWS; i++) {
         const struct row *r = &rows[i];
-        make_large(p, &r->page);
-        expect(r->name, p, sides_of(i));
+        make_large(p, r->size, r->optionals, r->segments, r->data, r->behind);
+        expect(r->name, p);
         time_page(i, p);
     }
-    make_small(p, 64, false, 0);
+    make_small(p, 64, false);
     time_page(ROWS, p);
     time_pair(p, best_of_pair[0]);
-    make_large(p, &(struct filled){.size = MB, .data = random_scan});
+    make_large(p, MB, nothing, nothing, random_scan, nothing);
     time_pair(p, best_of_pair[1]);
 }
 
-#ifdef BEFORE
-// Beside the library before, of which a row that it does not read has none.
-static void print_beside(size_t row, double limit)
-{
-    if (sides_of(row) == SIDES)
-        print_ratio(best[row][0] / best[row][SIDES - 1], limit);
-    else
-        printf(" %9s       ", "-");
-}
-
-static void print_before(void)
-{
-    double worst = 0;
-    size_t count = 0;
-    for (size_t i = 0; i <= ROWS; i++) {
-        if (sides_of(i) == SIDES) {
-            double ratio = best[i][0] / best[i][SIDES - 1];
-            worst = ratio > worst ? ratio : worst;
-            count++;
-        }
-    }
-    printf("reading beside the library before: of %zu rows the worst is %.2f\n", count, worst);
-}
-#endif
-
-static void print_row(size_t row, const struct row *limits)
+static void print_row(size_t row, const char *name, double octets_limit, double memchr_limit)
 {
     const double *t = best[row];
-    printf("%-34s %10.1f %10.1f %10.1f", limits->name, t[0] / 1e3, t[1] / 1e3, t[2] / 1e3);
-    print_ratio(t[0] / t[1], limits->octets_limit);
-    print_ratio(t[0] / t[2], limits->memchr_limit);
+    printf("%-34s %10.1f %10.1f %10.1f", name, t[0] / 1e3, t[1] / 1e3, t[2] / 1e3);
+    print_ratio(t[0] / t[1], octets_limit);
+    print_ratio(t[0] / t[2], memchr_limit);
     printf(" %7.2f", (double)sizes[row] / t[0]);
 #ifdef BEFORE
-    print_beside(row, limits->before_limit);
+    printf(" %9.2f", t[0] / t[SIDES - 1]);
 #endif
     putchar('\n');
 }
+
+#ifdef BEFORE
+static void print_before(void)
+{
+    double worst = 0;
+    for (size_t i = 0; i <= ROWS; i++)
+        worst = best[i][0] / best[i][SIDES - 1] > worst ? best[i][0] / best[i][SIDES - 1] : worst;
+    printf("reading beside the library before: of %zu rows the worst is %.2f\n", ROWS + 1, worst);
+}
+#endif
 
 // Fill is walked once: an octet of it takes as long in 16 MB as in 4 MB, as far as the machine's
 // memory lets it, which the C side shows too.
@@ -315,10 +290,10 @@ int main(void)
         time_all(&p);
     printf("%-34s %10s %10s %10s %17s %17s %6s %s\n", "best of many rounds, microseconds", "Rattle",
            "C octets", "C memchr", "/ octets  limit", "/ memchr  limit", "GB/s",
-           SIDES > OWN_SIDES ? "  / before  limit" : "");
+           SIDES > 3 ? " / before" : "");
     for (size_t i = 0; i < ROWS; i++)
-        print_row(i, &rows[i]);
-    print_row(ROWS, &(struct row){.name = "64 stripes of small layers"});
+        print_row(i, rows[i].name, rows[i].octets_limit, rows[i].memchr_limit);
+    print_row(ROWS, "64 stripes of small layers", 0, 0);
     printf("\nrandom scan data: 4 MB take %.2f times what 1 MB takes, 16 MB %.2f times\n",
            best[RANDOM + 1][0] / best[RANDOM][0], best[RANDOM + 2][0] / best[RANDOM][0]);
     print_growth("FF before the end of image", FILL_IN_SCAN);

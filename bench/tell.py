@@ -66,20 +66,13 @@ def tell_lines(lines, begin, *words):
 GREY = ": grey layers take "
 
 
-def beside(cell):
-    """A ratio, and its limit where it has one."""
-    words = cell.replace("!", " ").split()
-    return words[0] if len(words) == 1 else "%s (limit %s)" % tuple(words)
-
-
 def pages(lines):
     rows, begin = [], "/ octets  limit"
     for line in block(lines, begin):
-        name, numbers = line[:34].strip(), line[67:]
-        rows.append((name, beside(numbers[:17]), beside(numbers[17:34]), *((beside(numbers[42:]),) if has_before(lines) else ())))
+        name, numbers = line[:36].strip(), line[36:].replace("!", " ")
+        rows.append((name, numbers[33:42].strip(), numbers[49:60].strip(), *(numbers.split()[-1:] if has_before(lines) else ())))
     columns = ("page", "beside C by octets", "beside C by memchr", BEFORE)
-    said = "Beside C that looks at each octet, and C that finds FF by memchr, with the limits that the project asks for."
-    table("Reading a page", said + " The library before reads no version 01." * has_before(lines), columns[:len(rows[0])], rows)
+    table("Reading a page", "Beside C that looks at each octet, and C that finds FF by memchr.", columns[:len(rows[0])], rows)
     tell_lines(lines, begin, ": an octet of 16 MB takes ")
     tell_lines(lines, begin, GREY)
 

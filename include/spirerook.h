@@ -1,5 +1,4 @@
-/* Spirerook reads a mixed raster page (ITU-T T.44, versions 00 and 01, Mode 1) into a table of its
- * layers, the sheet;
+/* Spirerook reads a mixed raster page (ITU-T T.44, Mode 1) into a table of its layers, the sheet;
  * writes a page from a sheet; judges a sheet; hands out the coded data of a layer; and composes
  * decoded layers into lines and bands of pixels.  docs/C-API.md is the manual, with an example.
  *
@@ -40,9 +39,8 @@ extern "C" {
  *        JPEG data of components other than one and three was read, and is BadLayer.
  *        A sheet of before has octet 17 = 0 over one component too: it is kept, samples of that layer
  *        stay three octets, and writing it is Mismatch.
- * 2.1.0: spirerook_band.
- * 2.2.0: pages of version 01 are read, which were BadVersion; spirerook_write_as. */
-#define SPIREROOK_VERSION "2.2.0"
+ * 2.1.0: spirerook_band. */
+#define SPIREROOK_VERSION "2.1.0"
 
 /* ---- Bounds ---- */
 
@@ -92,7 +90,7 @@ extern "C" {
     X(1, SHORT, "Short", "octets end before a field or coded data does") \
     X(2, BAD_MARK, "BadMark", "another marker or ident is due here") \
     X(3, BAD_LENGTH, "BadLength", "the length of a segment is not one it may have") \
-    X(4, BAD_VERSION, "BadVersion", "the version must be 0 or 1") \
+    X(4, BAD_VERSION, "BadVersion", "the version must be 0") \
     X(5, BAD_MODE, "BadMode", "the mode must be 1, and a page that is written has no layer above 3") \
     X(6, BAD_CODER, "BadCoder", "no coder has this octet") \
     X(7, BAD_RES, "BadRes", "a resolution is none of the six, or does not divide the page's") \
@@ -176,18 +174,13 @@ enum { SPIREROOK_FROM_PAGE = 0, SPIREROOK_FROM_PENCIL = 1 };
  *     layer's first, and its place is the first of them.  The page's own markers have none.  A
  *     frame of components other than one and three is BadLayer at the octet that counts them, which is
  *     judged behind height and width.
- *     The version octet picks the rule of the page's own segments behind the start of page.  In version
- *     01 a length of 0 means that four octets behind the ident are the length, which count what the
- *     short one counts and themselves; lengths of 1 to 5 are BadLength at once, and a long one below
- *     10 at its four octets.
  *   NoRoom, place 0: 28 octets a record do not fit.
- *   Done.  Octets behind the records stay as they were.  spirerook_page_version and
- *     spirerook_page_mode tell the page's version and mode. */
+ *   Done.  Octets behind the records stay as they were. */
 spirerook_answer spirerook_read(const uint8_t *page, size_t page_len, uint8_t *sheet,
                                 size_t sheet_len);
 
-/* Writes the page of a sheet, of version 00 and Mode 1; count tells how many octets: 26, 39 a stripe,
- * and the coded data.  There are no optional segments and no padding.
+/* Writes the page of a sheet; count tells how many octets: 26, 39 a stripe, and the coded data.
+ * There are no optional segments and no padding.
  * Lent: the sheet and the data that the starts of its records point into, both for reading; room
  * for the page, for writing.  Records may share data.
  * Numbers, in this order; places are records, from 0:
@@ -204,17 +197,6 @@ spirerook_answer spirerook_read(const uint8_t *page, size_t page_len, uint8_t *s
  * page.  Records that share long data are walked each, even where the page turns out too long. */
 spirerook_answer spirerook_write(const uint8_t *sheet, size_t sheet_len, const uint8_t *data,
                                  size_t data_len, uint8_t *page, size_t page_len);
-
-/* Writes the page of a sheet as a version and a mode have it: version 0 or 1, mode 1.  No segment of
- * such a page needs the long form, so that the page of version 01 is that of version 00 but for its
- * octet 10.
- * Lent, counted and answered as by spirerook_write, and two numbers more behind BadSheet, both whole
- * numbers, so that 256 is not 0:
- *   BadVersion, place 0: the version is above 1.
- *   BadMode, place 0: the mode is not 1.  At a record it is as of spirerook_write. */
-spirerook_answer spirerook_write_as(const uint8_t *sheet, size_t sheet_len, const uint8_t *data,
-                                    size_t data_len, uint32_t version, uint32_t mode, uint8_t *page,
-                                    size_t page_len);
 
 /* Composes a line of a stripe, both counted from 0, out of decoded layers; count tells how many
  * octets: four a pixel of the page's width, left to right.
@@ -292,16 +274,6 @@ spirerook_part spirerook_data(const uint8_t *sheet, size_t sheet_len, const uint
  *     records where one more was due.  A sheet of no octets is refused, at 0.
  *   Done. */
 spirerook_answer spirerook_judge(const uint8_t *sheet, size_t sheet_len);
-
-/* ---- Pages ---- */
-
-/* What the octets of a page say of it that spirerook_read answered with Done, or that was written: its
- * version, 0 or 1, and its mode, 1.  They are octets 10 and 11; spirerook_write_as takes them as they
- * are.  No other page is to be lent. */
-/* clang-format off */
-static inline uint32_t spirerook_page_version(const uint8_t *page) { return page[10]; }
-static inline uint32_t spirerook_page_mode(const uint8_t *page) { return page[11]; }
-/* clang-format on */
 
 /* ---- Records ---- */
 

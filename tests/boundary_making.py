@@ -61,24 +61,13 @@ def good_judge(rng):
     return (bytes(sheet_random.good_sheet(rng, stripes, None if stripes < 9 else 3)),)
 
 
-def good_form(rng):
-    """The version and the mode of a page that can be written."""
-    return rng.randrange(2), 1
-
-
-def and_told(make, numbers):
-    """The cases of a call's sibling, which is told these numbers behind all else."""
-    return lambda rng: (*make(rng), *numbers(rng))
-
-
 def and_unseen(make):
-    """The same of one that is told the unseen colour."""
-    return and_told(make, line_random.some_unseen)
+    """The cases of a call's sibling, which is told the unseen colour behind all else."""
+    return lambda rng: (*make(rng), *line_random.some_unseen(rng))
 
 
 GOOD = {"read": good_read, "write": good_write, "line": good_line, "data": good_data,
-        "judge": good_judge, "line_unseen": and_unseen(good_line), "band": good_band,
-        "write_as": and_told(good_write, good_form)}
+        "judge": good_judge, "line_unseen": and_unseen(good_line), "band": good_band}
 
 
 # Damaged cases
@@ -93,8 +82,6 @@ START_FIELDS = {"length": (4, 2), "ident": (9, 1), "version": (10, 1), "mode": (
                 "mask": (12, 1), "image": (13, 1), "main": (14, 2), "width": (16, 4)}
 STRIPE_FIELDS = {"length": (-5, 2), "ident": (0, 1), "type": (1, 1), "height": (24, 4),
                  "mask": (28, 4)}
-LONG_STRIPE_FIELDS = {"length": (-5, 2), "ident": (0, 1), "long": (1, 4), "type": (5, 1),
-                      "height": (28, 4), "mask": (32, 4)}
 
 
 def faulty_field(rng):
@@ -102,11 +89,10 @@ def faulty_field(rng):
     page, room = good_read(rng)
     page, at, fields = bytearray(page), 0, START_FIELDS
     if rng.random() < 0.3:
-        at = page.index(b"MRC\1") + 3
-        fields = STRIPE_FIELDS if any(page[at - 5:at - 3]) else LONG_STRIPE_FIELDS
+        at, fields = page.index(b"MRC\1") + 3, STRIPE_FIELDS
     offset, size = rng.choice([*sorted(fields.values()), max(fields.values())])
     old = int.from_bytes(page[at + offset:at + offset + size], "big")
-    new = rng.choice([old + 1, old - 1, 0, 1, 3, 5, 7, 16, 37, 41, 50, 300, 32769, 65536, 2 ** 31])
+    new = rng.choice([old + 1, old - 1, 0, 1, 3, 5, 7, 16, 37, 50, 300, 32769, 65536, 2 ** 31])
     page[at + offset:at + offset + size] = (new % 256 ** size).to_bytes(size, "big")
     return bytes(page), room
 
@@ -135,13 +121,6 @@ def too_long(rng):
                  record(number, 2, 4, 0, 0, 9, 9, 200, (0, 0, 0), 0, least),
                  record(number, 3, 0, 0, 0, 0, 0, 200, (4, 5, 6), 0, 0)]
     return bytes(bytearray().join(rows)), data
-
-
-def some_form(rng):
-    """A version and a mode, either of which may be none."""
-    number = rng.choice([2, 3, 4, rng.choice(EDGES)])
-    return rng.choice([good_form(rng), good_form(rng), (number, 1), (rng.randrange(2), number),
-                       (rng.choice(EDGES), rng.choice(EDGES))])
 
 
 def damaged_write(rng):
@@ -193,11 +172,7 @@ def damaged_judge(rng):
 
 DAMAGED = {"read": damaged_read, "write": damaged_write, "line": damaged_line,
            "data": damaged_data, "judge": damaged_judge, "line_unseen": and_unseen(damaged_line),
-           "band": damaged_band, "write_as": and_told(damaged_write, some_form)}
-
-
-# what a call that writes a page is told behind the room, where a fault stands elsewhere
-FORMS = {"write": lambda rng: (), "write_as": good_form}
+           "band": damaged_band}
 
 
 # Changes without regard to meaning
@@ -310,14 +285,11 @@ def batches(call, rng, count, lengths):
     yield "damaged", [DAMAGED[name](rng) for _ in range(count)]
     yield "changed", [mutated(rng, name, GOOD[name](rng)) for _ in range(count // 3)]
     yield "random", [random_case(rng, GOOD[name](rng)) for _ in range(count // 5)]
-    if name in FORMS:
-        def written(work):
-            return (*work, *FORMS[name](rng))
-        yield "faulty layers", [written((*write_random.faulty_layer(rng), MOST_ROOM))
+    if name == "write":
+        yield "faulty layers", [(*write_random.faulty_layer(rng), MOST_ROOM)
                                 for _ in range(count // 2)]
-        yield "layers", [written(added_layers(rng)) for _ in range(count // 12)]
-        yield "too long", [written((*too_long(rng), rng.choice([0, 100])))
-                           for _ in range(count // 20)]
+        yield "layers", [added_layers(rng) for _ in range(count // 12)]
+        yield "too long", [(*too_long(rng), rng.choice([0, 100])) for _ in range(count // 20)]
     if name == "read":
         yield "faulty layers", [(page_random.faulty_layer(rng), page_making.ROOM)
                                 for _ in range(count)]

@@ -57,7 +57,7 @@ ALL = {call.name: call for call in (
     Call("read", (0,), 1, None, read_answers), Call("write", (0, 1), 2, 0),
     Call("line", (0, 1, 2), 3, 0, share=0.5), Call("data", (0, 1, 2), None, 0),
     Call("judge", (0,), None, 0), Call("line_unseen", (0, 1, 2), 3, 0, unseen=6, share=0.5),
-    Call("band", (0, 1, 2), 3, 0, unseen=5, share=0.5), Call("write_as", (0, 1), 2, 0, share=0.5))}
+    Call("band", (0, 1, 2), 3, 0, unseen=5, share=0.5))}
 # in the words of tests/driver/any_call.h
 NUMBERS = {name: k for k, name in enumerate(ALL)}
 MOST_NUMBERS = 5

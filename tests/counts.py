@@ -21,7 +21,6 @@ NAMES = ("Done", "Short", "BadMark", "BadLength", "BadVersion", "BadMode", "BadC
 GIVEN = {"read": (*range(14), 18), "write": (0, 1, 5, 13, 14, 16, 18),
          "line": (0, 13, 14, 15, 17), "data": (0, 1, 14, 17), "judge": (0, 14)}
 GIVEN["line_unseen"] = GIVEN["band"] = GIVEN["line"]
-GIVEN["write_as"] = (*GIVEN["write"][:2], 4, *GIVEN["write"][2:])
 LEAST_DONE, LEAST = 400, 40
 LEAST_OF = {18: 15}      # TooLong takes the most octets and tells the least
 

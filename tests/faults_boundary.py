@@ -17,18 +17,16 @@ import faults_fill
 import faults_grey
 import faults_painting
 import faults_unseen
-import faults_versions
 import fuzz
 import planting
 import reference_run
 
 SEED = 20
 COUNT = reference_run.trials(200)    # good cases, and as many damaged
-READ, WRITE, LINE, DATA, JUDGE, LINE_UNSEEN, BAND, WRITE_AS = (
+READ, WRITE, LINE, DATA, JUDGE, LINE_UNSEEN, BAND = (
     "    return same;", "    return told;", "    return shown;", "    return handed;",
-    "    return judged;", "    return given;", "    return painted;", "    return put_as;")
+    "    return judged;", "    return given;", "    return painted;")
 LINE_INPUTS = [("sheet", "sheet_len"), ("planes", "planes_len"), ("samples", "samples_len")]
-WRITE_INPUTS = [("sheet", "sheet_len"), ("data", "data_len")]
 
 
 def before(answer, code):
@@ -91,15 +89,12 @@ FAULTS = [
         READ, "for (size_t k = 28 * same.count; !same.number && k < sheet_len; k++) sheet[k] = 0;")),
     ("read", "TooLong an octet early", "page.c", "16777215", "16777214"),
     ("read", "TooLong an octet late", "page.c", "16777215", "16777216"),
-    *lent("write", WRITE, "page", "page_len", WRITE_INPUTS),
+    *lent("write", WRITE, "page", "page_len", [("sheet", "sheet_len"), ("data", "data_len")]),
     *answered("write", WRITE),
     ("write", "octets past the page 0", *before(
         WRITE, "for (size_t k = told.count; !told.number && k < page_len; k++) page[k] = 0;")),
     ("write", "TooLong not told", *before(WRITE, "if (told.number == 18) told.number = 13;")),
     ("write", "an octet of the page", *before(WRITE, "if (told.count > 40) page[40] ^= 1;")),
-    *lent("write_as", WRITE_AS, "page", "page_len", WRITE_INPUTS),
-    *answered("write_as", WRITE_AS),
-    *faults_versions.OF_CALLS,
     *lent("line", LINE, "out", "out_len", LINE_INPUTS),
     *answered("line", LINE),
     *lent("line_unseen", LINE_UNSEEN, "out", "out_len", LINE_INPUTS),

@@ -36,14 +36,6 @@ PLANS = [
     ("width 99999999999999999999\n", 1, "not '99999999999999999999'"),
     ("width -5\n", 1, "not '-5'"),
     ("width 5\nwidth 5\n", 2, "'width' is given twice"),
-    ("version\n", 1, "'version' needs a number from 0 to 1"),
-    ("version 2\n", 1, "'version' must be a number from 0 to 1, not '2'"),
-    ("version 256\n", 1, "'version' must be a number from 0 to 1, not '256'"),
-    ("version -1\n", 1, "not '-1'"),
-    ("version one\n", 1, "not 'one'"),
-    ("version 1 0\n", 1, "'0' is a word too many"),
-    ("version 0\nversion 0\n", 2, "'version' is given twice"),
-    (HEAD + "version 1\n", 5, "'version' must stand before the first stripe"),
     ("colour red\n", 1, "unknown word 'colour'"),
     ("background i.ppm\n", 1, "'background' stands before the first 'stripe'"),
     ("height 5\n", 1, "'height' stands before the first 'stripe'"),
@@ -376,10 +368,9 @@ def mended(octets):
 
 def originals(rng):
     """(file name, octets) of what is damaged: the plan and its pictures."""
-    plan = "version 1\n" + HEAD + (
-        "mask pic.m # note\nbackground pic.i half resolution 200 at 3 4 quality 40\n"
-        "foreground none base 102030\npencil-mask \"pic.m\" coder t85 at 1 2\n"
-        "pencil-image pic.i progressive lab 1 2 3\nstripe\nheight 3\nforeground pic.i\n")
+    plan = HEAD + ("mask pic.m # note\nbackground pic.i half resolution 200 at 3 4 quality 40\n"
+                   "foreground none base 102030\npencil-mask \"pic.m\" coder t85 at 1 2\n"
+                   "pencil-image pic.i progressive lab 1 2 3\nstripe\nheight 3\nforeground pic.i\n")
     image = [make_kit.ppm(10, 6, make_kit.gradient(10, 6)), b"P3 2 2 255 1 2 3 4 5 6 7 8 9 1 2 3 ",
              b"P5 3 2 65535 " + rng.randbytes(12), b"P1 3 2 010 111", b"P2 # c\n3 1 99 1 2 3",
              png(9, 5, 2, 8, lambda x, y: (x, y, 9)), png(9, 5, 6, 16, lambda x, y: (x, y, 9, 70)),

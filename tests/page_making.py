@@ -40,25 +40,6 @@ def stripe(length=37, n=1, type=2, x1=16, y1=8, x3=32, y3=4, height=100, mask=No
             + big(x1, 4) + big(y1, 4) + big(x3, 4) + big(y3, 4) + big(height, 4) + big(mask, 4))
 
 
-def lengthened(octets, at=0):
-    """The octets with the segment at a place in the long form: a length of 0, and behind the ident
-    four octets that count what the two did, and themselves."""
-    length = int.from_bytes(octets[at + 2:at + 4], "big")
-    return octets[:at + 2] + b"\0\0" + octets[at + 4:at + 8] + big(length + 4, 4) + octets[at + 8:]
-
-
-def long_optional(n=3, length=0, long=10, body=None):
-    """`longoptional`"""
-    size = max(0, long - 10) if body is None else body
-    return b"\xff\xed" + big(length, 2) + b"MRC" + bytes([n]) + big(long, 4) + b"\x5a" * size
-
-
-def long_stripe(length=0, long=41, **settings):
-    """`longstripe`: settings go to the stripe."""
-    octets = stripe(length=length, **settings)
-    return octets[:8] + big(long, 4) + octets[8:]
-
-
 def fax(r=200, length=12, body=None, version=b"\x07\xca"):
     return b"\xff\xe1" + big(length, 2) + sized(b"G3FAX\0" + version + big(r, 2), length, body)
 
@@ -87,17 +68,15 @@ back, fore = picture(200, 20, 50), picture(100, 10, 30)
 BACK, FORE = back(), fore()
 
 
-def whole_stripe(kind, data, segment_of=stripe):
-    """`s1` to `s7`, and `l1` to `l7`: settings go to the stripe, the coded layers stay."""
-    return lambda **settings: segment_of(**{"type": kind, **settings}) + data
+def whole_stripe(kind, data):
+    """`s1` to `s7`: settings go to the stripe, the coded layers stay."""
+    return lambda **settings: stripe(**{"type": kind, **settings}) + data
 
 
 MASK = b"\x5a" * 5
-CODED = {1: BACK, 2: MASK, 3: MASK + BACK, 4: FORE, 6: MASK + FORE, 7: MASK + BACK + FORE}
 PARTS = {
     "nothing": lambda: b"",
     "start": start,
-    "start1": lambda **settings: start(**{"version": 1, **settings}),
     "optional": optional,
     "stripe": stripe,
     "mask": lambda octets=5: b"\x5a" * octets,
@@ -112,12 +91,14 @@ PARTS = {
     "scan": scan,
     "back": back,
     "fore": fore,
+    "s1": whole_stripe(1, BACK),
+    "s2": whole_stripe(2, MASK),
+    "s3": whole_stripe(3, MASK + BACK),
+    "s4": whole_stripe(4, FORE),
+    "s6": whole_stripe(6, MASK + FORE),
+    "s7": whole_stripe(7, MASK + BACK + FORE),
     "head1": lambda: start() + stripe(type=1),
-    "longoptional": long_optional,
-    "longstripe": long_stripe,
 }
-PARTS.update({"s%d" % kind: whole_stripe(kind, data) for kind, data in CODED.items()})
-PARTS.update({"l%d" % kind: whole_stripe(kind, data, long_stripe) for kind, data in CODED.items()})
 
 
 def number(words):

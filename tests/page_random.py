@@ -7,7 +7,7 @@ and scan data too, where they mean nothing.
 import random
 import re
 
-from page_making import big, fax, lengthened, start, stripe
+from page_making import big, fax, start, stripe
 from sheet_random import LISTED, heights
 from sheet_random import number as number_between
 
@@ -133,37 +133,27 @@ def faulty_picture(rng, main):
 
 
 def faulty_layer(rng):
-    """A page of either version, of one stripe and one image layer, which may be faulty."""
-    main, kind, version = rng.choice(LISTED), rng.choice([1, 4]), rng.randrange(2)
-    head = stripe(type=kind) if version == 0 or rng.random() < 0.5 else lengthened(stripe(type=kind))
-    page = start(version=version, main=main) + head + faulty_picture(rng, main)[0]
+    """A page of one stripe and one image layer, which may be faulty."""
+    main, kind = rng.choice(LISTED), rng.choice([1, 4])
+    page = start(main=main) + stripe(type=kind) + faulty_picture(rng, main)[0]
     return page if rng.random() < 0.2 else page + rng.choice([b"", b"\xff"]) + END
 
 
 class PageInTheMaking:
-    """A page's octets, the listing that reading it must give, and where its segments stand behind
-    the start of page."""
+    """A page's octets and the listing that reading it must give."""
 
-    def __init__(self, rng, often, version, long):
-        self.rng, self.often, self.long = rng, often, long
-        self.of_forms = random.Random(rng.getrandbits(32))
-        self.version = self.of_forms.randrange(2) if version is None else version
+    def __init__(self, rng, often):
+        self.rng, self.often = rng, often
         self.coders = rng.choice([(m, i) for m in (0, 1, 2, 4, 8) for i in (0, 1) if m or i])
         self.main = rng.choice(LISTED)
         self.width = number_between(rng, 1, 32768)
-        self.octets = start(version=self.version, mask=self.coders[0], image=self.coders[1],
-                            main=self.main, width=self.width)
-        self.lines, self.segments = "", []
+        self.octets = start(mask=self.coders[0], image=self.coders[1], main=self.main,
+                            width=self.width)
+        self.lines = ""
 
     def add_record(self, stripe_number, layer, coder, box, resolution, colour, data, grey):
         fields = [stripe_number, layer, coder, *box, resolution, *colour, *data, grey]
         self.lines += " ".join(map(str, fields)) + "\n"
-
-    def add_segment(self, octets):
-        """A segment in the short form, or in version 01 in the long one, which none needs."""
-        is_long = self.of_forms.random() < self.long and self.version == 1
-        self.segments.append(len(self.octets))
-        self.octets += lengthened(octets) if is_long else octets
 
     def types(self):
         return [t for t in (1, 2, 3, 4, 6, 7)
@@ -187,8 +177,8 @@ class PageInTheMaking:
             most = 65535 if kind & bit else 2 ** 32 - 1
             offsets.append((number_between(rng, 0, most), number_between(rng, 0, most)))
         mask = random_octets(rng, rng.choice([1, 5, 300, rng.randint(1, 60)]) if kind & 2 else 0)
-        self.add_segment(stripe(type=kind, colours=colours, x1=offsets[0][0], y1=offsets[0][1],
-                                x3=offsets[1][0], y3=offsets[1][1], height=height, mask=len(mask)))
+        self.octets += stripe(type=kind, colours=colours, x1=offsets[0][0], y1=offsets[0][1],
+                              x3=offsets[1][0], y3=offsets[1][1], height=height, mask=len(mask))
         mask_data = (len(self.octets), len(mask)) if mask else (0, 0)
         self.octets += mask
         layers = [self.add_image(kind, 1, offsets[0]), self.add_image(kind, 4, offsets[1])]
@@ -199,25 +189,19 @@ class PageInTheMaking:
             self.add_record(stripe_number, layer, coder, box, resolution, colour, data, grey)
 
 
-def page_in_full(rng, stripes=None, often=0.5, version=None, long=0.4):
-    """A page that keeps every rule. `often` is how often a layer has fill, and `long` how often a
-    segment of version 01 has the long form; these, and the version, change nothing else in it."""
-    page = PageInTheMaking(rng, often, version, long)
+def random_page(rng, stripes=None, often=0.5):
+    """A page that keeps every rule, and the lines that a reader of it prints. `often` is how often
+    a layer has fill, and changes nothing else in the page."""
+    page = PageInTheMaking(rng, often)
     for _ in range(rng.choice([0, 0, 1, 2, 3])):
         octets = random_octets(rng, random_size(rng))
-        page.add_segment(b"\xff\xed" + big(len(octets) + 6, 2) + b"MRC"
-                         + bytes([rng.randint(3, 0xFE)]) + octets)
+        page.octets += (b"\xff\xed" + big(len(octets) + 6, 2) + b"MRC"
+                        + bytes([rng.randint(3, 0xFE)]) + octets)
     if stripes is None:
         stripes = rng.choice([1, 1, 1, 2, 2, 3, 5]) if rng.random() < 0.98 else 64
     for stripe_number, height in enumerate(heights(rng, stripes)):
         page.add_stripe(stripe_number, height)
     page.octets += END + bytes(rng.choice([0, 0, 1, 2, rng.randrange(200)]))
-    return page
-
-
-def random_page(rng, stripes=None, **settings):
-    """The octets of such a page, and the lines that a reader of it prints."""
-    page = page_in_full(rng, stripes, **settings)
     return page.octets, page.lines
 
 
@@ -246,43 +230,6 @@ def change_length(rng, page):
         old = int.from_bytes(page[at:at + 2], "big")
         new = rng.choice([0, 1, 2, 5, 6, 7, 8, 12, 16, 37, old + 1, old - 1, rng.randrange(65536)])
         page[at:at + 2] = big(new % 65536, 2)
-    return page
-
-
-def segments_in(page):
-    """Where what looks like a segment of the page stands."""
-    return [found.start() for found in re.finditer(rb"\xff\xed..MRC", page, re.S)]
-
-
-def change_long_length(rng, page):
-    """Another number in the four octets of a long length, or where they would be."""
-    places = [at + 8 for at in segments_in(page) if page[at + 2:at + 4] == b"\0\0"]
-    places = [at for at in places or [at + 8 for at in segments_in(page)] if at + 4 <= len(page)]
-    if places:
-        at = rng.choice(places)
-        old = int.from_bytes(page[at:at + 4], "big")
-        new = rng.choice([0, 1, 5, 6, 9, 10, 11, 37, 40, 41, 42, old + 1, old - 1, old - 4, old + 4,
-                          65535, 65536, old + 65536, 2 ** 24, 2 ** 31, 2 ** 32 - 1,
-                          rng.randrange(2 ** 32)])
-        page[at:at + 4] = big(new % 2 ** 32, 4)
-    return page
-
-
-def change_form(rng, page):
-    """A segment in the other form: the start of page too, and whatever the version allows."""
-    places = [at for at in segments_in(page) if at + 12 <= len(page)]
-    if not places:
-        return page
-    at = rng.choice(places)
-    if page[at + 2:at + 4] != b"\0\0":
-        return lengthened(page, at)
-    short = (int.from_bytes(page[at + 8:at + 12], "big") - 4) % 65536
-    return page[:at + 2] + big(short, 2) + page[at + 4:at + 8] + page[at + 12:]
-
-
-def change_version(rng, page):
-    if len(page) > 10:
-        page[10] = rng.choice([*[1 - page[10] % 2] * 3, 2, 128, 255])
     return page
 
 
@@ -363,8 +310,7 @@ def extend(rng, page):
 
 CHANGES = [change_octet, change_octet, change_code, change_code, change_length, change_length,
            change_field, change_field, change_field, change_field, drop, drop, double, swap, insert,
-           extend, pad, pad, pad_zero, end_in_run, change_components, change_components,
-           change_long_length, change_long_length, change_form, change_form, change_version]
+           extend, pad, pad, pad_zero, end_in_run, change_components, change_components]
 
 
 def damaged(rng, page):

@@ -49,19 +49,17 @@ def read_calls():
             "0 0 3 0 0 " + sheet.hex() + "00")
 
 
-def write_calls(name, numbers, start_of):
-    """`start_of` is how the page begins, in the words of tests/pages.md."""
+def write_calls():
     sheet, data = bytes(write_making.sheet_of("t7")), bytes(write_making.octets_of("all"))
-    page = bytes(write_making.octets_of(start_of + " w7 end"))
+    page = bytes(write_making.octets_of("start w7 end"))
     due = "0 0 %d 0 0 %s" % (len(page), page.hex())
     for size in (TOP, TOP + 1, TOP + 93):
-        yield "%s, data of %d octets" % (name, size), words(
-            name, [sheet, (data, size)], len(page), numbers, len(page)), due
-        yield "%s, a page in room %d" % (name, size), words(
-            name, [sheet, data], size, numbers, len(page)), due
+        yield "data of %d octets" % size, words("write", [sheet, (data, size)], len(page),
+                                                shown=len(page)), due
+        yield "a page in room %d" % size, words("write", [sheet, data], size, shown=len(page)), due
         # the record behind the sheet is all zeros: stripe 0, layer 0
-        yield "%s, a sheet of %d octets" % (name, size), words(
-            name, [(sheet, size), data], 200, numbers), "14 3 0 0 0 "
+        yield "a sheet of %d octets" % size, words("write", [(sheet, size), data], 200), (
+            "14 3 0 0 0 ")
 
 
 def line_calls(name, unseen):
@@ -146,8 +144,7 @@ def judge_calls():
 
 
 def check(tally, told, program):
-    works = [*read_calls(), *write_calls("write", (), "start"),
-             *write_calls("write_as", (1, 1), "start(version=1)"), *line_calls("line", None),
+    works = [*read_calls(), *write_calls(), *line_calls("line", None),
              *line_calls("line_unseen", UNSEEN), *band_calls(), *data_calls(), *judge_calls()]
     printed, wrong, signal = reference_run.ended(program, b"".join(each[1] for each in works),
                                                  ["many"])

@@ -2,7 +2,7 @@
 reference, and each mistake has its message and status.
 
 make_kit.py has the pictures and decoders, make_kinds.py the kinds of files, make_notes.py what is
-noted, make_versions.py the page's version, make_mistakes.py the mistakes and the damaged files.
+noted, make_mistakes.py the mistakes and the damaged files.
 SEED makes a run again.
 """
 
@@ -17,7 +17,6 @@ import tempfile
 import make_kit
 import make_mistakes
 import make_notes
-import make_versions
 import reference_run
 from make_kinds import GREY, kinds
 from make_kit import CODERS, SHOWN, make, read, write
@@ -388,7 +387,6 @@ def main():
             check_stripes(tally, reader, folder)
             check_pencil(tally, folder, reader, finder)
             make_notes.check_all(tally, folder, seed)
-            make_versions.check_all(tally, folder)
         make_mistakes.check_all(tally, random.Random(seed))
     return tally.end()
 

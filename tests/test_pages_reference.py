@@ -82,8 +82,7 @@ def check_table(tally, reader, cases):
         if case.lines() is not None:
             tally.check(lines == case.lines(), "%s: other records\n%s" % (case.told(), lines))
         if case.answer.startswith("done"):
-            tally.check(lines[:1].isdigit() and inside(case.page, lines),
-                        "%s: data outside the page" % case.told())
+            tally.check(inside(case.page, lines), "%s: data outside the page" % case.told())
 
 
 def runs(works):

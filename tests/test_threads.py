@@ -49,8 +49,6 @@ def largest():
     yield "read", (page + b"\1", ROOM)
     yield "write", (sheet_of(rows), page, len(page_of(rows, page)))
     yield "write", (sheet_of(rows), page, 0)
-    for version, mode in ((0, 1), (1, 1), (2, 1), (1, 2)):
-        yield "write_as", (sheet_of(rows), page, len(page_of(rows, page)), version, mode)
     work = Wide(random.Random(1), 63, range(1, 16))
     unread = Wide(random.Random(1), 63, range(1, 16, 2))
     for name, unseen in (("line", None), ("line_unseen", (1, 2, 3))):

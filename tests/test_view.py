@@ -1,7 +1,7 @@
 """The viewer's pictures, pixel for pixel, beside tests/view_reference.py.
 
-Random pages of both versions and all types, coders, resolutions and places, with pencil sheets and unread
-layers, half of them with a plain colour for unseen, and half with no memory for most bands; stored layers of outside coders; colours. SEED repeats a run,
+Random pages of all types, coders, resolutions and places, with pencil sheets and unread layers, half
+of them with a plain colour for unseen, and half with no memory for most bands; stored layers of outside coders; colours. SEED repeats a run,
 PAGES sets how many pages it has.
 """
 
@@ -117,8 +117,6 @@ def check_page(results, coders, page, name, stripe=None, unseen=view_reference.S
     pencil = "pencil: %s, %s" % tuple(words[4:6]) if page.has_pencil() else "no pencil given"
     results.check(shown.told.endswith("; %s\n" % pencil), "%s: told last: %s" % (
         name, shown.told.splitlines()[-1:]))
-    results.check(shown.version() == page.version, "%s: told as version %s, not %d" % (
-        name, shown.version(), page.version))
     check_told(results, name, page, shown, stripe)
 
 
@@ -157,8 +155,6 @@ def check_random(seed, count):
     for number in range(count):
         stripes = rng.choice((1, 64)) if number % 40 == 39 else None
         page = view_making.random_page(rng, coders, rng.random() < 0.5, stripes)
-        if rng.random() < 0.3:
-            view_making.lengthened(rng, page)
         share = rng.choice((0, 0.2, 0.5, 1))
         for _, layer in page.coded():
             layer.unread = rng.random() < share

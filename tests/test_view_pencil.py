@@ -17,8 +17,7 @@ from view_reference import Layer
 
 WIDTH, HEIGHT, RED = 64, 24, (120, 220, 200)
 OUT = "; --no-pencil shows the page without it"
-SIDES = "%d by %d pixels" % (WIDTH, HEIGHT)
-SIZE = "version 00, " + SIDES
+SIZE = "%d by %d pixels" % (WIDTH, HEIGHT)
 
 
 def block(left, top, width, height):
@@ -426,10 +425,9 @@ def check_last_lines(tally, folder):
             ((), page + "all seen" + pencil, 0), (("-o", "out.png"), page + "all seen" + pencil, 0),
             (("--times",), page + "all seen" + pencil, 0),
             (("--times", "-o", "out.png"), page + "all seen" + pencil, 0),
-            (("--stripe", "0"), "show.page: version 00, stripe 0 alone (--stripe): %s, all seen%s"
-             % (SIDES, pencil), 0),
-            (("--stripe", "0", "--list"), "show.page: version 00, stripe 0 alone (--stripe): %s, not decoded "
-             "(--list)%s" % (SIDES, pencil), 0),
+            (("--stripe", "0"), "show.page: stripe 0 alone (--stripe): %s, all seen%s" % (SIZE, pencil), 0),
+            (("--stripe", "0", "--list"), "show.page: stripe 0 alone (--stripe): %s, not decoded (--list)%s"
+             % (SIZE, pencil), 0),
             (("--list",), page + "not decoded (--list)" + pencil, 0),
             (("--list", "--no-pencil"), page + "not decoded (--list); pencil left out (--no-pencil): "
              "show.sheet", 0),

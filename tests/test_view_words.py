@@ -1,7 +1,6 @@
 """What the viewer says of colours that it does not follow, and of options that do not fit: each fault
 names the option and the value."""
 
-import itertools
 import sys
 
 import page_making
@@ -20,37 +19,25 @@ GAMUT = b"".join(page_making.big(number, 2) for number in (0, 100, 128, 170, 96,
 D50, D65 = b"\0D50", b"\0D65"
 
 
-ONE = "page: its colours are shown in the default range, but it has a gamut segment at octet %d\n"
-TWO = "page: its colours are shown under D50, but it has an illuminant segment at octet %d\n"
-# the segments of a page, and those of them that are told of, by number
-TOLD = [
-    ([], ()), ([(10, GAMUT)], ()), ([(11, D50)], ()), ([(10, GAMUT), (11, D50), (12, b"x")], ()),
-    ([(10, GAMUT[:-1] + b"\0")], (0,)), ([(10, b"\1" + GAMUT[1:])], (0,)), ([(10, b"")], (0,)),
-    ([(10, GAMUT + b"\0")], (0,)), ([(10, GAMUT[:-1])], (0,)),
-    ([(11, D65)], (0,)), ([(11, b"")], (0,)), ([(11, D50 + b"\0")], (0,)),
-    ([(11, D65), (10, GAMUT[::-1])], (0, 1)),
-    ([(200, bytes(65529)), (11, b"\0\0SA"), (10, GAMUT), (11, D50), (3, b"")], (1,)),
-    ([(12, segment(10, b"")), (254, segment(11, D65))], ()), ([(11, D65)] * 3, (0, 1, 2))]
-# both versions, and of version 1 which segments are in long form
-FORMS = [(0, lambda k: False), (1, lambda k: False), (1, lambda k: True), (1, lambda k: k % 2 == 1)]
-
-
 def check_colours(tally, folder):
     page = read(folder.path("show.page"))       # and no sheet stands beside the copies
-    for (segments, told), (version, is_long) in itertools.product(TOLD, FORMS):
-        put, due = page[:10] + bytes([version]) + page[11:22], ""
-        for k, (kind, data) in enumerate(segments):
-            due += (ONE if kind == 10 else TWO) % len(put) if k in told else ""
-            put += view_making.in_long_form(segment(kind, data)) if is_long(k) else segment(kind, data)
-        write(folder.path("page"), put + page[22:])
+    one = "page: its colours are shown in the default range, but it has a gamut segment at octet %d\n"
+    two = "page: its colours are shown under D50, but it has an illuminant segment at octet %d\n"
+    for segments, due in (
+            ([], ""), ([(10, GAMUT)], ""), ([(11, D50)], ""), ([(10, GAMUT), (11, D50), (12, b"x")], ""),
+            ([(10, GAMUT[:-1] + b"\0")], one % 22), ([(10, b"\1" + GAMUT[1:])], one % 22),
+            ([(10, b"")], one % 22), ([(10, GAMUT + b"\0")], one % 22), ([(10, GAMUT[:-1])], one % 22),
+            ([(11, D65)], two % 22), ([(11, b"")], two % 22), ([(11, D50 + b"\0")], two % 22),
+            ([(11, D65), (10, GAMUT[::-1])], two % 22 + one % 34),
+            ([(200, bytes(65529)), (11, b"\0\0SA"), (10, GAMUT), (11, D50), (3, b"")], two % (22 + 65537)),
+            ([(12, segment(10, b"")), (254, segment(11, D65))], ""), ([(11, D65)] * 3, two % 22 + two % 34 + two % 46)):
+        put = b"".join(segment(kind, data) for kind, data in segments)
+        write(folder.path("page"), page[:22] + put + page[22:])
         for words in ((), ("--list",)):
             shown = folder.show("page", *words)
             tally.check(shown.status == 0 and shown.told.startswith(due + "page: stripe 0, layer 1: ")
                         and shown.told.count("its colours are shown") == due.count("\n"),
-                        "version %d, %s: %s %s" % (version, segments[:1], shown.wrong, shown.told))
-    write(folder.path("page"), page[:22] + segment(11, D65) + segment(10, b"") + page[22:])
-    shown = folder.show("page", "--list")
-    tally.check(shown.told.startswith(TWO % 22 + ONE % 34), "places: %s" % shown.told)
+                        "%s: %s %s" % (segments[:1], shown.wrong, shown.told))
 
 
 # Options

@@ -37,7 +37,7 @@ def check_table(tally, watched, plain, cases):
     for case in cases:
         tally.check(case.is_told(), "%s, but the page told has %d" % (case.told(), len(case.page)))
     for writer, many in ((watched, False), (plain, True)):
-        writer.check([(case.told(), case.call(), (case.answer, case.page))
+        writer.check([(case.told(), (case.sheet, case.data, case.room), (case.answer, case.page))
                       for case in cases if (len(case.sheet) > calls.MANY) == many])
 
 
@@ -50,21 +50,15 @@ def check_rooms(writer, cases):
             continue
         for room in (0, 1, least // 2, least - 1, least, least + 1, LARGE):
             due = (case.answer, case.page) if room >= least else ("refused 13 0", b"")
-            works.append(("%s, in room %d" % (case.told(), room), case.call(room), due))
+            works.append(("%s, in room %d" % (case.told(), room), (case.sheet, case.data, room), due))
     writer.check(works)
 
 
-def no_form(page):
-    """What a writer of version 00 and Mode 1 is told of a page besides."""
-    return ()
-
-
 class RoundTrip:
-    """Pages read, written and read again; `form_of` a page is what the writer is told besides, the
-    version first."""
+    """Pages read, written and read again."""
 
-    def __init__(self, tally, writer, form_of=no_form):
-        self.tally, self.writer, self.form_of = tally, writer, form_of
+    def __init__(self, tally, writer):
+        self.tally, self.writer = tally, writer
         self.reader = reference_run.build("reference_read_plain", parts=reference_run.parts_of("read"))
 
     def read(self, pages):
@@ -74,10 +68,8 @@ class RoundTrip:
     def check(self, what, pages):
         """(name, page), all of them good."""
         sheets = self.read([page for _, page in pages])
-        due = [page_of(rows, page, *self.form_of(page)[:1])
-               for rows, (_, page) in zip(sheets, pages)]
-        self.writer.check([("%s: %s" % (what, name),
-                            (sheet_of(rows), page, len(page), *self.form_of(page)),
+        due = [page_of(rows, page) for rows, (_, page) in zip(sheets, pages)]
+        self.writer.check([("%s: %s" % (what, name), (sheet_of(rows), page, len(page)),
                             ("done %d" % len(made), made))
                            for rows, (name, page), made in zip(sheets, pages, due)])
         for (name, _), rows, made, again in zip(pages, sheets, due, self.read(due)):
@@ -86,8 +78,7 @@ class RoundTrip:
                              "%s: %s: another sheet when read again" % (what, name))
         # what a writer made comes back octet for octet, out of itself as the data
         self.writer.check([("%s, a second time: %s" % (what, name),
-                            (sheet_of(rows), made, len(made), *self.form_of(made)),
-                            ("done %d" % len(made), made))
+                            (sheet_of(rows), made, len(made)), ("done %d" % len(made), made))
                            for (name, _), rows, made in zip(pages, self.read(due), due)])
         same = sum(made == page for made, (_, page) in zip(due, pages))
         print("%s: %d pages read, written and read again, %d of them in the writer's form"

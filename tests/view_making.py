@@ -137,7 +137,6 @@ class Page:
     def __init__(self, width, main, mask_coder):
         self.width, self.main, self.mask_coder = width, main, mask_coder
         self.stripes, self.heights = [], []
-        self.version, self.optionals, self.long_stripes = 0, b"", ()    # long: by number, of version 1
 
     def add(self, layers, height):
         self.stripes.append(layers)
@@ -169,17 +168,15 @@ class Page:
 
     def octets(self, image_coder=1):
         """The page; the place of each coded layer's data is kept for the sheet."""
-        octets = bytearray(page_making.start(version=self.version, mask=self.mask_coder,
-                                             image=image_coder, main=self.main, width=self.width))
-        octets += self.optionals
+        octets = bytearray(page_making.start(mask=self.mask_coder, image=image_coder,
+                                             main=self.main, width=self.width))
         self.places = {}
         for number, (layers, height) in enumerate(zip(self.stripes, self.heights)):
             back, mask, fore = layers[:3]
             kind = sum(bit for bit, layer in ((1, back), (2, mask), (4, fore)) if layer.is_coded())
-            segment = page_making.stripe(
+            octets += page_making.stripe(
                 type=kind, x1=back.x, y1=back.y, x3=fore.x, y3=fore.y, height=height,
                 mask=len(mask.data), colours=bytes(back.base + fore.base))
-            octets += in_long_form(segment) if number in self.long_stripes else segment
             for layer in (mask, back, fore):
                 self.places[number, layer.number] = len(octets) if layer.is_coded() else 0
                 octets += layer.data
@@ -202,22 +199,6 @@ class Page:
                     len(layer.data))
                 sheet_making.put(sheet, len(sheet) // 28 - 1, "octet17", int(layer.grey))
         return bytes(sheet), bytes(pencil)
-
-
-def in_long_form(segment):
-    """A segment with its length in four octets behind the ident, which counts them too."""
-    length = int.from_bytes(segment[2:4], "big") + 4
-    return segment[:2] + bytes(2) + segment[4:8] + page_making.big(length, 4) + segment[8:]
-
-
-def lengthened(rng, page):
-    """The page as version 1 may have it: some stripes, and segments that are skipped, in long form."""
-    short = [page_making.optional(n=rng.randrange(12, 255), length=rng.choice((6, 7, 300)))
-             for _ in range(rng.randrange(4))]
-    page.version = 1
-    page.optionals = b"".join(in_long_form(each) if rng.random() < 0.7 else each for each in short)
-    page.long_stripes = [k for k in range(len(page.stripes)) if rng.random() < 0.5]
-    return page
 
 
 def three(main, back=WHITE, fore=BLACK):
@@ -360,25 +341,20 @@ class Shown:
 
     def last_line(self):
         """The cells of the page's line, or None."""
-        found = re.findall(r": version (\d\d), (?:stripe \d+ alone \(--stripe\): )?(\d+) by (\d+) pixels, "
-                           r"(?:(\d+) of (\d+) unseen(?:, drawn as ([^;]+))?|all seen)"
+        found = re.findall(r": (\d+) by (\d+) pixels, (?:(\d+) of (\d+) unseen(?:, drawn as ([^;]+))?|all seen)"
                            r"; (?:no pencil given|pencil[ :].*)\n\Z", self.told, re.M)
         return found[0] if len(found) == 1 else None
-
-    def version(self):
-        """The page's, of that line, or None."""
-        return self.last_line() and int(self.last_line()[0])
 
     def unseen(self):
         """(unseen, all) of that line, or None."""
         if self.last_line() is None:
             return None
-        width, height, unseen, all_pixels = (int(cell or 0) for cell in self.last_line()[1:5])
+        width, height, unseen, all_pixels = (int(cell or 0) for cell in self.last_line()[:4])
         return (unseen, all_pixels) if unseen else (0, width * height)
 
     def drawn(self):
         """What it tells unseen to be drawn as; None where all is seen, or nothing is drawn."""
-        return self.last_line() and self.last_line()[5] or None
+        return self.last_line() and self.last_line()[4] or None
 
     def bands(self):
         """(stripes composed as bands, all stripes) as --times tells them, or None."""

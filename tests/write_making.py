@@ -106,13 +106,11 @@ def page_due(words):
 
 
 class Case:
-    """A line of a table: its number, name, sheet, data, room, answer and page, and its form: the
-    version and the mode that are told, where the call is told any."""
+    """A line of the table: its number, name, sheet, data, room, answer and page."""
 
-    def __init__(self, cells, form):
+    def __init__(self, cells):
         self.number, self.name, self.rule, sheet, data, changes, self.answer, page = cells
         self.sheet, self.data, self.room = sheet_of(sheet), octets_of(data), ROOM
-        self.form = dict(form)
         for change in filter(None, (words.strip() for words in changes.split(";"))):
             self.change(change)
         self.sheet, self.data = bytes(self.sheet), bytes(self.data)
@@ -122,8 +120,6 @@ class Case:
         verb, _, rest = words.partition(" ")
         if verb == "room":
             self.room = int(rest)
-        elif verb in self.form:
-            self.form[verb] = int(rest)
         elif verb == "data" and rest.startswith("cut "):
             assert int(rest[4:]) <= len(self.data), words
             del self.data[int(rest[4:]):]
@@ -131,10 +127,6 @@ class Case:
             put_octets(self.data, rest)
         else:
             self.sheet = sheet_making.changed(self.sheet, words)
-
-    def call(self, room=None):
-        """The case as a driver of the call is given it."""
-        return (self.sheet, self.data, self.room if room is None else room, *self.form.values())
 
     def is_told(self):
         """The page has the octets that the answer counts; a refusal has none."""
@@ -145,12 +137,7 @@ class Case:
         return "write %s, %s: %s" % (self.number, self.name, self.answer)
 
 
-def table(name="writes.md", form=()):
-    path = os.path.join(os.path.dirname(os.path.abspath(__file__)), name)
-    return [Case(cells, form) for cells in page_making.rows(path)
+def table(path=None):
+    path = path or os.path.join(os.path.dirname(os.path.abspath(__file__)), "writes.md")
+    return [Case(cells) for cells in page_making.rows(path)
             if len(cells) == 8 and cells[0].isdigit()]
-
-
-def table_as():
-    """The cases of the call that is told a version and a mode."""
-    return table("writes_as.md", {"version": 1, "mode": 1})

@@ -36,12 +36,12 @@ def without_starts(rows):
     return [row[:START] + [0] + row[LENGTH:] for row in rows]
 
 
-def page_of(rows, data, version=0):
-    """The page due: coders used or 0, no optional segment, no padding, no long form."""
+def page_of(rows, data):
+    """The page due: coders used or 0, no optional segment, no padding."""
     masks = [row[CODER] for row in rows if row[LAYER] == 2]
     images = [row[CODER] for row in rows if row[LAYER] != 2]
-    pieces = [page_making.start(version=version, mask=max(masks), image=max(images),
-                                main=rows[1][RESOLUTION], width=rows[1][WIDTH])]
+    pieces = [page_making.start(mask=max(masks), image=max(images), main=rows[1][RESOLUTION],
+                                width=rows[1][WIDTH])]
     for at in range(0, len(rows), 3):
         back, mask, fore = rows[at:at + 3]
         kind = sum(bit for bit, row in ((1, back), (2, mask), (4, fore)) if row[LENGTH])

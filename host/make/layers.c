@@ -165,7 +165,7 @@ bool code_layers(const plan *from, coded_layers **made, trouble *what)
     if (*made == NULL) {
         return tell_no_memory(what);
     }
-    layer_coder coder = {from, *made, what, {NULL}, from->width, from->page_lines[PAGE_WIDTH]};
+    layer_coder coder = {from, *made, what, {NULL}, from->width, from->width_line};
     bool done = has_sides(from, what) && code_stripes(&coder);
     free_table(&coder.known);
     return done;

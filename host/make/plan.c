@@ -6,12 +6,7 @@
 #include "coders.h"
 #include "file.h"
 
-enum { MOST_PLAN = 1 << 20, PAGE_LAYERS = 3, USUAL_QUALITY = 90, MOST_VERSION = 1 };
-
-static const char *const page_words[PAGE_WORDS] = {"resolution", "coder", "width", "version"};
-static const char *const stripe_words[] = {"height",     "background",  "mask",
-                                           "foreground", "pencil-mask", "pencil-image"};
-enum { STRIPE_WORDS = sizeof stripe_words / sizeof *stripe_words };
+enum { MOST_PLAN = 1 << 20, PAGE_LAYERS = 3, USUAL_QUALITY = 90 };
 
 static const uint8_t white[3] = {255, 128, 96}, black[3] = {0, 128, 96};
 
@@ -66,29 +61,20 @@ static bool begin_stripe(plan *made, plan_line *line)
     return true;
 }
 
-/* What stands behind a word of the page. */
-static bool take_page_value(plan *made, plan_line *line, page_word key)
+static bool page_key(plan *made, plan_line *line, const char *key)
 {
-    switch (key) {
-    case PAGE_RESOLUTION: return take_resolution(line, &made->resolution);
-    case PAGE_CODER: return take_coder(line, &made->coder);
-    case PAGE_WIDTH: return take_number(line, page_words[key], 1, SPIREROOK_WIDTH, &made->width);
-    case PAGE_VERSION: return take_number(line, page_words[key], 0, MOST_VERSION, &made->version);
-    case PAGE_WORDS: break;
-    }
-    return false;
-}
-
-static bool page_key(plan *made, plan_line *line, page_word key)
-{
+    bool resolution = strcmp(key, "resolution") == 0, coder = strcmp(key, "coder") == 0;
     if (made->stripe_count > 0) {
-        return wrong(line, "the page's '%s' must stand before the first stripe", page_words[key]);
+        return wrong(line, "the page's '%s' must stand before the first stripe", key);
     }
-    if (made->page_lines[key] != 0) {
-        return wrong(line, "'%s' is given twice", page_words[key]);
+    if ((resolution ? made->resolution : coder ? made->coder : made->width) != 0) {
+        return wrong(line, "'%s' is given twice", key);
     }
-    made->page_lines[key] = line->number;
-    return take_page_value(made, line, key) && ends_here(line);
+    made->width_line = resolution || coder ? made->width_line : line->number;
+    bool taken = resolution ? take_resolution(line, &made->resolution)
+                 : coder    ? take_coder(line, &made->coder)
+                            : take_number(line, key, 1, SPIREROOK_WIDTH, &made->width);
+    return taken && ends_here(line);
 }
 
 static bool take_height(plan_stripe *stripe, plan_line *line)
@@ -137,18 +123,19 @@ static bool stripe_key(const plan *made, plan_stripe *stripe, plan_line *line, c
     return pencil_key(made, stripe, line, strcmp(key, "pencil-mask") == 0);
 }
 
-/* Which of the words it is; their count where it is none. */
-static unsigned place_of(const char *word, const char *const *words, unsigned count)
+static bool is_one_of(const char *word, const char *const *words)
 {
-    unsigned k = 0;
-    while (k < count && strcmp(word, words[k]) != 0) {
-        k++;
+    while (*words != NULL && strcmp(word, *words) != 0) {
+        words++;
     }
-    return k;
+    return *words != NULL;
 }
 
 static bool take_line(plan *made, plan_line *line)
 {
+    static const char *const page_keys[] = {"resolution", "coder", "width", NULL};
+    static const char *const stripe_keys[] = {"height",      "background",   "mask", "foreground",
+                                              "pencil-mask", "pencil-image", NULL};
     const plan_word *word = next_word(line);
     if (word == NULL) {
         return true;
@@ -157,11 +144,10 @@ static bool take_line(plan *made, plan_line *line)
     if (strcmp(key, "stripe") == 0) {
         return begin_stripe(made, line);
     }
-    unsigned of_page = place_of(key, page_words, PAGE_WORDS);
-    if (of_page < PAGE_WORDS) {
-        return page_key(made, line, (page_word)of_page);
+    if (is_one_of(key, page_keys)) {
+        return page_key(made, line, key);
     }
-    if (place_of(key, stripe_words, STRIPE_WORDS) == STRIPE_WORDS) {
+    if (!is_one_of(key, stripe_keys)) {
         return wrong(line, "unknown word '%s'", key);
     }
     return made->stripe_count > 0 ? stripe_key(made, last_stripe(made), line, key)

@@ -33,15 +33,11 @@ typedef struct {
     plan_layer layers[SPIREROOK_LAYERS];
 } plan_stripe;
 
-/* The words of the page, which stand before the first stripe. */
-typedef enum { PAGE_RESOLUTION, PAGE_CODER, PAGE_WIDTH, PAGE_VERSION, PAGE_WORDS } page_word;
-
 typedef struct {
-    const char *file;                /* the plan's own */
-    unsigned page_lines[PAGE_WORDS]; /* where each is given; 0 while it is not */
-    uint32_t resolution, coder;      /* 0 while not given */
-    uint32_t width;                  /* 0 where it is not given */
-    uint32_t version;                /* of the page, 0 or 1: 0 where it is not given */
+    const char *file; /* the plan's own */
+    unsigned width_line;
+    uint32_t resolution, coder; /* 0 while not given */
+    uint32_t width;             /* 0 where it is not given */
     unsigned stripe_count;
     plan_stripe stripes[SPIREROOK_STRIPES];
 } plan;

@@ -6,7 +6,7 @@
 #include "sheet_words.h"
 
 enum { PAGE_LAYERS = 3, PAGE_ENDS = 26, STRIPE_HEAD = 39, START_AT = 18, START_END = 22 };
-enum { WORDS_ROOM = 256, MODE = 1 };
+enum { WORDS_ROOM = 256 };
 
 typedef struct {
     const uint8_t *octets;
@@ -88,9 +88,7 @@ static bool read_back(const plan *from, lent_sheet given, made_page *made, troub
                        spirerook_name(answer.number), (unsigned)answer.number,
                        (unsigned)answer.place, spirerook_text(answer.number));
     }
-    bool same = answer.count * SPIREROOK_RECORD_OCTETS == given.length &&
-                spirerook_page_version(made->page.octets) == from->version &&
-                spirerook_page_mode(made->page.octets) == MODE;
+    bool same = answer.count * SPIREROOK_RECORD_OCTETS == given.length;
     for (size_t k = 0; same && k < answer.count; k++) {
         same = same_but_start(spirerook_record_at(given.octets, k),
                               spirerook_record_at(made->sheet, k));
@@ -112,9 +110,8 @@ bool make_page(const plan *from, const coded_layers *layers, made_page *made, tr
     if (!make_room(&made->page, room)) {
         return tell_no_memory(what);
     }
-    spirerook_answer answer = spirerook_write_as(sheet.octets, sheet.length, data->octets,
-                                                 data->length, from->version, MODE,
-                                                 made->page.octets, room);
+    spirerook_answer answer = spirerook_write(sheet.octets, sheet.length, data->octets,
+                                              data->length, made->page.octets, room);
     if (answer.number != SPIREROOK_DONE) {
         return refused(from, sheet, answer, size, what);
     }

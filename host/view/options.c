@@ -8,7 +8,7 @@
 static const char help[] =
     "usage: spirerook-view PAGE [-o OUT.png] [--pencil SHEET FILE | --no-pencil] [OPTION ..]\n"
     "\n"
-    "Shows a mixed raster page (ITU-T T.44, version 00 or 01, Mode 1) as a PNG at the page's resolution.\n"
+    "Shows a mixed raster page (ITU-T T.44, Mode 1) as a PNG at the page's resolution.\n"
     "\n"
     "  -o OUT.png               the picture; without it the page is read and composed, and only told of\n"
     "  --pencil SHEET FILE      the page's sheet with pencil layers added, and the file of their coded data\n"

@@ -213,14 +213,13 @@ static void tell_uncomposed(const run *r)
 }
 
 /* The first words of the last line. */
-static void tell_sides(const options *asked, const book *opened, uint32_t width, uint32_t height)
+static void tell_sides(const options *asked, uint32_t width, uint32_t height)
 {
     add_name(asked->page);
-    add_words(": version %02u, ", (unsigned)spirerook_page_version(opened->page.octets));
     if (asked->one_stripe) {
-        add_words("stripe %u alone (--stripe): ", (unsigned)asked->stripe);
+        add_words(": stripe %u alone (--stripe)", (unsigned)asked->stripe);
     }
-    add_words("%u by %u pixels, ", (unsigned)width, (unsigned)height);
+    add_words(": %u by %u pixels, ", (unsigned)width, (unsigned)height);
 }
 
 /* As they are drawn, which may be off what was asked for. */
@@ -238,7 +237,7 @@ static void tell_drawn(const screen *colours)
 static void tell_page(const run *r)
 {
     uint64_t pixels = (uint64_t)r->width * r->height;
-    tell_sides(r->asked, r->opened, r->width, r->height);
+    tell_sides(r->asked, r->width, r->height);
     if (r->unseen == 0) {
         add_words("all seen");
     } else {
@@ -344,7 +343,7 @@ static void list(const options *asked, const book *opened)
             height += spirerook_record_height(mask_of_stripe(opened, stripe));
         }
     }
-    tell_sides(asked, opened, spirerook_record_width(mask_of_stripe(opened, 0)), height);
+    tell_sides(asked, spirerook_record_width(mask_of_stripe(opened, 0)), height);
     add_words("not decoded (--list)");
     tell_pencil(&opened->source);
 }

@@ -1,15 +1,15 @@
 /* Any of the calls, by its number: 0 read, 1 write, 2 line, 3 data, 4 judge, 5 line_unseen,
- * 6 band, 7 write_as. */
+ * 6 band. */
 #ifndef DRIVER_ANY_CALL_H
 #define DRIVER_ANY_CALL_H
 
 #include "answers.h"
 
-enum { CALL_COUNT = 8, CALL_PARTS = 3, CALL_NUMBERS = 5 };
+enum { CALL_COUNT = 7, CALL_PARTS = 3, CALL_NUMBERS = 5 };
 
 /* What is lent to a call and told it; what it has not stays unused.  The numbers are stripe and
  * line, or stripe and layer, and then the octets of the unseen colour; of a band the stripe, and
- * these; of a page that is written as a form has it the version and the mode. */
+ * these. */
 struct any_call {
     uint64_t which;
     const uint8_t *parts[CALL_PARTS];
@@ -42,10 +42,9 @@ static inline spirerook_part make_call(const struct any_call *c, uint8_t *out)
         return as_part(spirerook_line_unseen(p[0], n[0], p[1], n[1], p[2], n[2], t[0], t[1],
                                              (uint8_t)t[2], (uint8_t)t[3], (uint8_t)t[4], out,
                                              c->room));
-    case 6:
+    default:
         return as_part(spirerook_band(p[0], n[0], p[1], n[1], p[2], n[2], t[0], (uint8_t)t[1],
                                       (uint8_t)t[2], (uint8_t)t[3], out, c->room));
-    default: return as_part(spirerook_write_as(p[0], n[0], p[1], n[1], t[0], t[1], out, c->room));
     }
 }
 

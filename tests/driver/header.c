@@ -12,9 +12,7 @@
  *   header colours   three octets a colour from standard input: its sRGB in
  *                    hexadecimal
  *   header unseen    the colour of unseen pixels, as an array begins with it in
- *                    hexadecimal, and as three arguments
- *   header pages     12 octets a page from standard input, those that each begins
- *                    with: a line of its version and its mode each */
+ *                    hexadecimal, and as three arguments */
 #include "spirerook.h"
 #include "spirerook_colour.h"
 
@@ -159,16 +157,6 @@ static void print_unseen(void)
     print_arguments(SPIREROOK_UNSEEN);
 }
 
-/* No more of a page is lent than its readers look at. */
-static void print_pages(void)
-{
-    uint8_t page[12];
-    while (fread(page, sizeof page, 1, stdin) == 1) {
-        printf("%u %u\n", (unsigned)spirerook_page_version(page),
-               (unsigned)spirerook_page_mode(page));
-    }
-}
-
 int main(int arguments, char **words)
 {
     const char *what = arguments == 2 ? words[1] : "";
@@ -184,11 +172,8 @@ int main(int arguments, char **words)
         print_colours();
     } else if (strcmp(what, "unseen") == 0) {
         print_unseen();
-    } else if (strcmp(what, "pages") == 0) {
-        print_pages();
     } else {
-        fputs("use: header numbers | bounds | records | planes | colours | unseen | pages\n",
-              stderr);
+        fputs("use: header numbers | bounds | records | planes | colours | unseen\n", stderr);
         return 1;
     }
     return 0;

@@ -25,7 +25,7 @@
 
 enum {
     NUMBERS = 5 + CALL_NUMBERS,
-    MOST = 160, /* calls of one run */
+    MOST = 128, /* calls of one run */
     THREADS = 8,
     ROUNDS = 3,
     PAINTED = 1 << 20,

@@ -1,5 +1,5 @@
-/* Writes pages (writes.h) by spirerook_write. */
-#include "writes.h"
+/* Writes pages (drive.h): the sheet, the data, and the room. */
+#include "drive.h"
 
 static spirerook_part make(const struct work *work, const struct loan *lent)
 {
@@ -7,10 +7,23 @@ static spirerook_part make(const struct work *work, const struct loan *lent)
                                    work->parts[1].size, lent->buffer, work->room));
 }
 
+static size_t most_place(const struct work *work, uint32_t number)
+{
+    bool of_all = number == SPIREROOK_TOO_LONG || number == SPIREROOK_NO_ROOM;
+    return of_all ? 0 : records_of(work);
+}
+
 int main(int arguments, char **words)
 {
-    struct driver driver = driver_of_writing();
-    driver.name = "write";
-    driver.make = make;
+    static const struct driver driver = {.name = "write",
+                                         .parts = 2,
+                                         .has_buffer = true,
+                                         .unit = 1,
+                                         .times = 2,
+                                         .gives = GIVES(DONE) | GIVES(SHORT) | GIVES(BAD_MODE) |
+                                                  GIVES(NO_ROOM) | GIVES(BAD_SHEET) |
+                                                  GIVES(MISMATCH) | GIVES(TOO_LONG),
+                                         .make = make,
+                                         .most_place = most_place};
     return drive(&driver, arguments, words);
 }

@@ -18,21 +18,10 @@ spirerook_answer spirerook_read(const uint8_t *page, size_t page_len, uint8_t *s
 spirerook_answer spirerook_write(const uint8_t *sheet, size_t sheet_len, const uint8_t *data,
                                  size_t data_len, uint8_t *page, size_t page_len)
 {
-    const struct reference_write_call call = {sheet, sheet_len, data, data_len, 0, 1};
-    struct reference_answer written = reference_write(&call, page, page_len);
+    struct reference_answer written = reference_write(sheet, sheet_len, data, data_len, page,
+                                                      page_len);
     spirerook_answer told = {written.number, written.place, written.count};
     return told;
-}
-
-/* "The writer is told the version", and the mode */
-spirerook_answer spirerook_write_as(const uint8_t *sheet, size_t sheet_len, const uint8_t *data,
-                                    size_t data_len, uint32_t version, uint32_t mode, uint8_t *page,
-                                    size_t page_len)
-{
-    const struct reference_write_call call = {sheet, sheet_len, data, data_len, version, mode};
-    struct reference_answer formed = reference_write(&call, page, page_len);
-    spirerook_answer put_as = {formed.number, formed.place, formed.count};
-    return put_as;
 }
 
 static spirerook_answer compose(const struct reference_line_call *call, uint8_t *out,

@@ -7,7 +7,7 @@ enum {
     SHORT = 1,       /* "a field, or coded data, does not fit whole" */
     BAD_MARK = 2,    /* "a page marker or ident due is not there" */
     BAD_LENGTH = 3,  /* "a segment length breaks its rule above" */
-    BAD_VERSION = 4, /* request 2026-09: "above 1" */
+    BAD_VERSION = 4, /* "version not 0" */
     BAD_MODE = 5,    /* "mode not 1; in writing, some N above 3" */
     BAD_CODER = 6,   /* "coder octet not listed" */
     BAD_RES = 7,     /* "main resolution not listed, or a layer's not listed or

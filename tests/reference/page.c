@@ -10,9 +10,9 @@
 enum {
     MOST_OCTETS = 16777215, /* TOO_LONG is "over 16,777,215 octets" */
     START_LENGTH = 16,      /* "length 16" */
-    /* "The length must equal what they need": behind lengths and ident the type,
-     * two base colours, two offsets, the height and the mask length. */
-    STRIPE_FIELDS = 1 + 3 + 3 + 8 + 8 + 4 + 4
+    /* "The length must equal what they need": itself, the ident, the type, two
+     * base colours, two offsets, the height and the mask length. */
+    STRIPE_LENGTH = 2 + 4 + 1 + 3 + 3 + 8 + 8 + 4 + 4
 };
 
 /* "Mask coder octet: 0, 1, 2, 4 or 8. Image coder octet: 0 or 1." */
@@ -35,37 +35,28 @@ static bool read_coders(struct reading *reading)
     return true;
 }
 
-/* Of the start of page segment "FF ED, length 16, the four octets 4D 52 43 n with
- * n = 00".  Request 2026-09: its "length stays 16", whatever the version, which
- * nobody knows yet. */
-static bool read_start_header(struct reading *reading)
+/* "FF D8, then the start of page segment: FF ED, length 16, the four octets
+ * 4D 52 43 n with n = 00, version 00, mode 01, one mask coder octet, one image
+ * coder octet, two octets of main mask resolution, four of page width." */
+static bool read_start_of_page(struct reading *reading)
 {
-    size_t field;
-    struct length length;
-    uint32_t n;
-    if (!read_marker_due(reading, 0xED) || !read_length(reading, false, &length) ||
-        !read_ident(reading, &field, &n)) {
+    size_t field, length_field;
+    uint32_t length, n, version, mode;
+    if (!read_marker_due(reading, 0xD8) || !read_marker_due(reading, 0xED) ||
+        !read_length(reading, &length_field, &length) || !read_ident(reading, &field, &n)) {
         return false;
     }
     if (n != 0x00) {
         return refuse(reading, BAD_MARK, field);
     }
     /* "A segment's ident is judged before a length that depends on it" */
-    if (length.octets != START_LENGTH) {
-        return refuse(reading, BAD_LENGTH, length.field);
+    if (length != START_LENGTH) {
+        return refuse(reading, BAD_LENGTH, length_field);
     }
-    return true;
-}
-
-/* Request 2026-09: "New copiers write version 01"; "BadVersion means above 1". */
-static bool read_version_and_mode(struct reading *reading)
-{
-    size_t field;
-    uint32_t mode;
-    if (!read_number(reading, 1, &field, &reading->version)) {
+    if (!read_number(reading, 1, &field, &version)) {
         return false;
     }
-    if (reading->version > 1) {
+    if (version != 0) {
         return refuse(reading, BAD_VERSION, field);
     }
     if (!read_number(reading, 1, &field, &mode)) {
@@ -74,17 +65,7 @@ static bool read_version_and_mode(struct reading *reading)
     if (mode != 1) {
         return refuse(reading, BAD_MODE, field);
     }
-    return true;
-}
-
-/* "FF D8, then the start of page segment: ... version 00, mode 01, one mask coder
- * octet, one image coder octet, two octets of main mask resolution, four of page
- * width."  Request 2026-09: "the two new coder bits stay refused". */
-static bool read_start_of_page(struct reading *reading)
-{
-    size_t field;
-    if (!read_marker_due(reading, 0xD8) || !read_start_header(reading) ||
-        !read_version_and_mode(reading) || !read_coders(reading)) {
+    if (!read_coders(reading)) {
         return false;
     }
     if (!read_number(reading, 2, &field, &reading->main_resolution)) {
@@ -108,35 +89,18 @@ static bool read_start_of_page(struct reading *reading)
  * FE. The length counts itself and is at least 6. They are skipped."  "an
  * optional one (after its ident) that passes the page's end is Short at its
  * first octet, unjudged" */
-static bool skip_optional(struct reading *reading, struct length *length)
+static bool skip_optional_body(struct reading *reading, uint32_t length)
 {
     size_t body;
-    return read_long_length(reading, length) &&
-           read_field(reading, length->octets - length->of_header, &body);
+    return read_field(reading, length - 6, &body);
 }
 
-/* Request 2026-09: "The long length counts the same octets as the short one and
- * its own four", so that a stripe's is 37, or 41 in the long form. */
-static bool read_stripe_length(struct reading *reading, struct length *length)
-{
-    if (!read_long_length(reading, length)) {
-        return false;
-    }
-    if (length->octets != length->of_header + STRIPE_FIELDS) {
-        return refuse(reading, BAD_LENGTH, length->field);
-    }
-    return true;
-}
-
-/* What follows an FF ED behind the start of page.  Request 2026-09: "The version
- * octet picks the rule for all after the start of page segment"; "Version 00
- * keeps the old rule." */
+/* What follows an FF ED behind the start of page. */
 static bool read_segment(struct reading *reading)
 {
-    size_t ident;
-    struct length length;
-    uint32_t n;
-    if (!read_length(reading, reading->version == 1, &length) || !read_ident(reading, &ident, &n)) {
+    size_t length_field, ident;
+    uint32_t length, n;
+    if (!read_length(reading, &length_field, &length) || !read_ident(reading, &ident, &n)) {
         return false;
     }
     if (n == 0x01) {
@@ -144,12 +108,15 @@ static bool read_segment(struct reading *reading)
         if (reading->stripes == MOST_STRIPES) {
             return refuse(reading, BAD_STRIPE, ident);
         }
-        return read_stripe_length(reading, &length) && read_stripe(reading);
+        if (length != STRIPE_LENGTH) {
+            return refuse(reading, BAD_LENGTH, length_field);
+        }
+        return read_stripe(reading);
     }
     /* Optional segments stand before the stripes; behind the first stripe only
      * n = 01 is due. */
     if (n >= 0x03 && n <= 0xFE && reading->stripes == 0) {
-        return skip_optional(reading, &length);
+        return skip_optional_body(reading, length);
     }
     return refuse(reading, BAD_MARK, ident);
 }

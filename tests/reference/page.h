@@ -1,4 +1,4 @@
-/* Reading a Mode 1 page into a sheet, straight from the papers and nothing else.
+/* Reading a Mode 1 page into a sheet, straight from the paper and nothing else.
  *
  * This is a yardstick for the proved library: it shares no code with it, is
  * written in the paper's words and order and takes its time.  Words in

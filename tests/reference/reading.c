@@ -51,41 +51,14 @@ bool read_marker_due(struct reading *reading, uint8_t code)
     return true;
 }
 
-enum {
-    OF_SHORT_HEADER = 2 + 4,   /* the length and the ident */
-    OF_LONG_HEADER = 2 + 4 + 4 /* request 2026-09: "and its own four" */
-};
-
-/* "a length below 6 at once".  Request 2026-09: "lengths 1 to 5 are BadLength at
- * once", and a length of 0 too where no long one can follow. */
-bool read_length(struct reading *reading, bool may_be_long, struct length *length)
+/* "a length below 6 at once" */
+bool read_length(struct reading *reading, size_t *field, uint32_t *length)
 {
-    if (!read_number(reading, 2, &length->field, &length->octets)) {
+    if (!read_number(reading, 2, field, length)) {
         return false;
     }
-    length->of_header = OF_SHORT_HEADER;
-    if (may_be_long && length->octets == 0) {
-        return true;
-    }
-    if (length->octets < OF_SHORT_HEADER) {
-        return refuse(reading, BAD_LENGTH, length->field);
-    }
-    return true;
-}
-
-/* Request 2026-09: "a segment length of 0 means that a four-octet length follows
- * the ident"; "a long length below 10 is BadLength at its four octets". */
-bool read_long_length(struct reading *reading, struct length *length)
-{
-    if (length->octets != 0) {
-        return true;
-    }
-    if (!read_number(reading, 4, &length->field, &length->octets)) {
-        return false;
-    }
-    length->of_header = OF_LONG_HEADER;
-    if (length->octets < OF_LONG_HEADER) {
-        return refuse(reading, BAD_LENGTH, length->field);
+    if (*length < 6) {
+        return refuse(reading, BAD_LENGTH, *field);
     }
     return true;
 }

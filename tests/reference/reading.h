@@ -17,7 +17,6 @@ struct reading {
     size_t at; /* the first octet that was not read; never behind the end */
     unsigned number;
     size_t place;
-    uint32_t version;
     uint32_t mask_coder;
     uint32_t image_coder;
     uint32_t main_resolution;
@@ -43,19 +42,8 @@ bool read_number(struct reading *reading, size_t size, size_t *field, uint32_t *
 /* A marker of the page that is due, FF and the code. */
 bool read_marker_due(struct reading *reading, uint8_t code);
 
-/* The length of a segment of the page, as it counts the segment's octets behind
- * the marker. */
-struct length {
-    size_t field;       /* where it stands: behind the marker, or behind the ident */
-    uint32_t octets;    /* 0: a long one is due behind the ident */
-    uint32_t of_header; /* those of them that are lengths and ident, not the segment's own */
-};
-
-/* The two octets behind the marker; `may_be_long` tells whether they may be 0. */
-bool read_length(struct reading *reading, bool may_be_long, struct length *length);
-
-/* The four octets behind the ident, where the two say that they are there. */
-bool read_long_length(struct reading *reading, struct length *length);
+/* The length of a segment of the page. */
+bool read_length(struct reading *reading, size_t *field, uint32_t *length);
 
 /* "the four octets 4D 52 43 n": which n is due, the caller knows. */
 bool read_ident(struct reading *reading, size_t *field, uint32_t *n);

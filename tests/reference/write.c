@@ -26,7 +26,6 @@ struct source {
     size_t records;
     const uint8_t *data;
     size_t octets;
-    uint32_t version;
 };
 
 /* A page while it is written. */
@@ -174,8 +173,7 @@ static uint32_t coder_used(const struct source *source, bool of_masks)
 /* "FF D8, then the start of page segment: FF ED, length 16, the four octets
  * 4D 52 43 n with n = 00, version 00, mode 01, one mask coder octet, one image
  * coder octet, two octets of main mask resolution, four of page width."  Then
- * "FF D9 (termination number)", and "no optional segment".  Request 2026-09: the
- * start's "length stays 16". */
+ * "FF D9 (termination number)", and "no optional segment". */
 static void put_start_of_page(struct pen *pen, const struct source *source)
 {
     struct record mask = first_mask(source);
@@ -183,7 +181,7 @@ static void put_start_of_page(struct pen *pen, const struct source *source)
     put(pen, 2, 0xFFED);
     put(pen, 2, 16);
     put_ident(pen, 0x00);
-    put(pen, 1, source->version);
+    put(pen, 1, 0); /* version */
     put(pen, 1, 1); /* mode */
     put(pen, 1, coder_used(source, true));
     put(pen, 1, coder_used(source, false));
@@ -217,8 +215,7 @@ static void put_offset(struct pen *pen, struct record r)
 /* "A stripe is FF ED, length, 4D 52 43 01 and the fields of 9.3 in its order:
  * type, background base colour, foreground base colour, background offset,
  * foreground offset, stripe height, mask length. ... Then come the coded layers
- * present: mask, background, foreground."  Request 2026-09: "writes the long form
- * only where needed", and 37 needs none. */
+ * present: mask, background, foreground." */
 static void put_stripe(struct pen *pen, const struct source *source, size_t first)
 {
     struct record layer_1 = sheet_record(source->sheet, first);
@@ -256,29 +253,18 @@ static struct reference_answer refusal(unsigned number, size_t place)
     return answer;
 }
 
-/* Request 2026-09: "BadVersion means above 1 (in writing, before BadMode)"; a page
- * has "mode 01".  DONE where there is such a page. */
-static unsigned judge_form(const struct reference_write_call *call)
-{
-    return call->version > 1 ? BAD_VERSION : call->mode != 1 ? BAD_MODE : DONE;
-}
-
 /* "Writing: BadSheet, BadMode at the first layer above 3, each record in order
  * (Short before Mismatch), TooLong, NoRoom. ... For these the place is the
  * record ..., else 0." */
-struct reference_answer reference_write(const struct reference_write_call *call, uint8_t *page,
+struct reference_answer reference_write(const uint8_t *sheet, size_t sheet_octets,
+                                        const uint8_t *data, size_t data_octets, uint8_t *page,
                                         size_t page_octets)
 {
-    struct verdict verdict = sheet_judge(call->sheet, call->sheet_octets);
-    struct source source = {call->sheet, verdict.records, call->data, call->data_octets,
-                            call->version};
+    struct verdict verdict = sheet_judge(sheet, sheet_octets);
+    struct source source = {sheet, verdict.records, data, data_octets};
     size_t place;
     if (verdict.number != DONE) {
         return refusal(verdict.number, verdict.place);
-    }
-    unsigned form = judge_form(call);
-    if (form != DONE) {
-        return refusal(form, 0);
     }
     if (find_layer_above_3(&source, &place)) {
         return refusal(BAD_MODE, place);

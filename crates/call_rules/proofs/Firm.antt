@@ -7,7 +7,7 @@ use Rattle.sheet_rules.specs.declared.Colour.{Colour}
 use Rattle.data_report.specs.declared.DataReport.{DataReport}
 use Rattle.answers_report.specs.declared.Report.{Report}
 use Rattle.picture_rules.specs.Line.{unseen_grey}
-use Rattle.call_rules.specs.Calls.{JudgeCall, ReadCall, WriteCall, WriteAsCall, LineUnseenCall, LineCall, BandCall, DataCall}
+use Rattle.call_rules.specs.Calls.{JudgeCall, ReadCall, WriteCall, LineUnseenCall, LineCall, BandCall, DataCall}
 
 pub judge_firm : (sheet : List ℕ) (r q : Report) → JudgeCall sheet r → JudgeCall sheet q → r ≡ q
 judge_firm sheet r q x y = x.reports ∙ sym y.reports
@@ -20,10 +20,6 @@ data_firm sheet page pencil k l r q x y = x.reports ∙ sym y.reports
 
 pub write_firm : (sheet d page : List ℕ) (r q : Report) (e f : List ℕ) → WriteCall sheet d page r e → WriteCall sheet d page q f → (r ≡ q) × (e ≡ f)
 write_firm sheet d page r q e f x y = (x.reports ∙ sym y.reports, x.holds ∙ sym y.holds)
-
-pub write_as_firm : (sheet d : List ℕ) (v m : ℕ) (page : List ℕ) (r q : Report) (e f : List ℕ) → WriteAsCall sheet d v m page r e → WriteAsCall sheet d v m page q f
-    → (r ≡ q) × (e ≡ f)
-write_as_firm sheet d v m page r q e f x y = (x.reports ∙ sym y.reports, x.holds ∙ sym y.holds)
 
 pub line_unseen_firm : (sheet planes samples : List ℕ) (k y : ℕ) (u : Colour) (out : List ℕ) (r q : Report) (e f : List ℕ)
     → LineUnseenCall sheet planes samples k y u out r e → LineUnseenCall sheet planes samples k y u out q f → (r ≡ q) × (e ≡ f)

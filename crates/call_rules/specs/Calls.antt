@@ -3,8 +3,7 @@
 --   JudgeCall sheet r   a sheet is judged, and the report is r
 --   ReadCall page sheet r sheet'   a page is read into a sheet, the report is r, and the buffer is then sheet'
 --   DataCall sheet page pencil k l r   the coded data of layer l of stripe k are asked for, and the report is r
---   WriteCall sheet d page r page'   a page of version 00 and Mode 1 is written from a sheet and its data d, the report is r, and the buffer is then page'
---   WriteAsCall sheet d v m page r page'   the same, of version v and mode m
+--   WriteCall sheet d page r page'   a page is written from a sheet and its data d, the report is r, and the buffer is then page'
 --   LineUnseenCall sheet planes samples k y u out r out'   line y of stripe k is composed, u being the unseen colour, the report is r, and the buffer is then out'
 --   LineCall sheet planes samples k y out r out'   the same, and the unseen colour is 128 128 96
 --   BandCall sheet planes samples k u out r out'   all lines of stripe k are composed, u being the unseen colour, the report is r, and the buffer is then out'
@@ -16,9 +15,8 @@ use Rattle.data_report.specs.declared.DataReport.{DataReport}
 use Rattle.data_report.specs.Reported.{data_report}
 use Rattle.sheet_rules.specs.declared.Colour.{Colour}
 use Rattle.sheet_rules.specs.Judge.{sheet_answer}
-use Rattle.segment_rules.specs.Rules.{mode1}
 use Rattle.page_rules.specs.Reading.{read_of, read_into}
-use Rattle.write_rules.specs.Writing.{write_of, write_into, write_as, write_as_into}
+use Rattle.write_rules.specs.Writing.{write_of, write_into}
 use Rattle.pixel_rules.specs.Planes.{list_of}
 use Rattle.picture_rules.specs.Line.{unseen_grey, line_of, line_into}
 use Rattle.picture_rules.specs.BaseLine.{base_of, base_into}
@@ -35,12 +33,8 @@ pub record DataCall (sheet page pencil : List ℕ) (k l : ℕ) (r : DataReport) 
   pub reports : r ≡ data_report sheet page pencil k l
 
 pub record WriteCall (sheet d page : List ℕ) (r : Report) (page' : List ℕ) : Type 0 where
-  pub reports : r ≡ report_of (write_of mode1 sheet d (length page))
-  pub holds : page' ≡ write_into mode1 sheet d page
-
-pub record WriteAsCall (sheet d : List ℕ) (v m : ℕ) (page : List ℕ) (r : Report) (page' : List ℕ) : Type 0 where
-  pub reports : r ≡ report_of (write_as sheet d v m (length page))
-  pub holds : page' ≡ write_as_into sheet d v m page
+  pub reports : r ≡ report_of (write_of sheet d (length page))
+  pub holds : page' ≡ write_into sheet d page
 
 pub record LineUnseenCall (sheet planes samples : List ℕ) (k y : ℕ) (u : Colour) (out : List ℕ) (r : Report) (out' : List ℕ) : Type 0 where
   pub reports : r ≡ report_of (line_of sheet (list_of planes) samples k y (length out))

@@ -49,7 +49,7 @@ record ImageFacts (main k l : ℕ) (b : Bool) (r : Record) : Type 0 where
   listed : Listed r.res
   res : ResFacts b r.res main
 
-pub layer_size : {main : ℕ} {said : Said} (l : List ℕ) → Layer main l said → length l ≢ 0
+layer_size : {main : ℕ} {said : Said} (l : List ℕ) → Layer main l said → length l ≢ 0
 layer_size l y z = let a = ap length y.octets in omega arith
 
 image_facts : (hd : Head) (k l at : ℕ) (base : Colour) (x y : ℕ) (b : Bool) (o : List ℕ) (c : LayerData) → (l % 2 ≡ 1) → Listed hd.main → at + length o ≤ longest_page

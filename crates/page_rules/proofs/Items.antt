@@ -19,7 +19,7 @@ use Rattle.field_rules.proofs.Parts.{exact_as, exact_then, exact_ok, Nothing, no
 use Rattle.segment_rules.specs.declared.Version.{Version}
 use Rattle.segment_rules.specs.declared.Mode.{Mode}
 use Rattle.segment_rules.specs.declared.Mode.TheVariants.{One}
-use Rattle.segment_rules.specs.Segment.{Need, passed, sized, Named, begin_of, long_of, Opening, short, long, Segment, whole, begun, segment_of, BadSegment}
+use Rattle.segment_rules.specs.Segment.{Need, passed, sized, Named, begin_of, Opening, short, Segment, whole, begun, segment_of, BadSegment}
 use Rattle.segment_rules.proofs.Exactly.{segment_exact}
 use Rattle.start_rules.specs.declared.Head.{Head}
 use Rattle.body_rules.specs.Body.{end_mark, Item, skipped, striped, IsItem, an_optional, a_stripe}
@@ -192,9 +192,8 @@ marker_differs : ◌≢◌ {A = List ℕ} (0xFF ∷ 0xED ∷ []) end_mark
 marker_differs e = let z : ◌≡◌ {A = ℕ} 0xED 0xD9 = cc in omega arith
 
 opening_apart : {v : Version} {n size : ℕ} {begin : List ℕ} → Opening v n size begin → Apart end_mark begin
-unfolding begin_of long_of
+unfolding begin_of
 opening_apart (short hi) = record { others = 0xFF ∷ 0xED ∷ []; rest = _; split = refl; size = refl; differ = marker_differs }
-opening_apart (long w hi) = record { others = 0xFF ∷ 0xED ∷ []; rest = _; split = refl; size = refl; differ = marker_differs }
 
 pub item_opens : (hd : Head) (k left at : ℕ) (l : List ℕ) (it : Item) → IsItem (Optional hd.rules.version) (Stripe hd) k left at l it → Apart end_mark l
 item_opens hd k left at l it (an_optional z (optional n begin body lo hi o)) = apart_more begin body (opening_apart o)

@@ -16,7 +16,7 @@ use Rattle.field_rules.proofs.Refused.{rows_size, fields_end}
 use Rattle.field_rules.proofs.Values.{values_of, fields_values}
 use Rattle.read_field.proofs.Views.{Holds, fields_hold}
 use Rattle.segment_rules.specs.declared.Version.{Version}
-use Rattle.segment_rules.specs.Segment.{Need, passed, sized, Due, ident_in, size_in, short_count, long_count, long_in, open_table, long_table, behind_of, segment_of}
+use Rattle.segment_rules.specs.Segment.{Need, passed, sized, Due, ident_in, size_in, open_table, behind_of, segment_of}
 use Rattle.read_segment.specs.declared.Segment.TheVariants.{Stripe, Optional, Refused}
 use Rattle.read_segment.specs.Segments.{view_of, behind}
 
@@ -74,33 +74,15 @@ module _ (version : Version) (due : Due) (s : List ℕ) (at : ℕ) (h : at ≤ l
       let k = fields_hold (open_table version due) [] vs s at m q in
       ap (λ (l : List ℕ). due.full (ident_in l)) (fields_values (open_table version due) [] vs s at m q) ∙ not-true _ k.1.1.0
 
-  -- behind a longer length
-  long_ends : (vs : List ℕ) (m : ℕ) (x : Res (List ℕ)) → fields long_table [] s m ≡ x → at + 8 ≤ m → m ≤ length s → due.full (ident_in vs) ≡ false
-      → bind x (λ (ws : List ℕ) (j : ℕ). behind_of (due.body (ident_in vs)) (ident_in vs) (long_in ws - long_count) m s j) ≡ ok n e → Ended due s at n e
-  unfolding bind
-  long_ends vs m (ok ws j) q far g r z =
-      let f = fields_end long_table [] ws s m j g q in
-      let f0 = f.0 in
-      let p = behind_past (due.body (ident_in vs)) (ident_in vs) (long_in ws - long_count) m s j n e f.1 z in
-      let p1 = p.on in
-      record { room = ap due.full p.ident ∙ r; on = omega arith; inside = p.inside }
-  long_ends vs m (no a) q far g r z = clash cc
-
   by : (x : Res (List ℕ)) → fields (open_table version due) [] s at ≡ x → bind x (behind due (at + 2) s) ≡ ok n e → Ended due s at n e
   unfolding bind
   by (ok vs m) q z =
       let f = fields_end (open_table version due) [] vs s at m h q in
       let f0 = f.0 in
       let w = open_size in
-      let g = f.1 in
-      let r = open_room vs m q in
-      cond_with (λ x. x ≡ ok n e → Ended due s at n e) (eqb (size_in vs) 0)
-      (λ t. long_ends vs m (fields long_table [] s m) refl (omega arith) g r)
-      (λ t y.
-      let p = behind_past (due.body (ident_in vs)) (ident_in vs) (size_in vs - short_count) (at + 2) s m n e g y in
+      let p = behind_past (due.body (ident_in vs)) (ident_in vs) (size_in vs - 6) (at + 2) s m n e f.1 z in
       let p1 = p.on in
-      record { room = ap due.full p.ident ∙ r; on = omega arith; inside = p.inside })
-      z
+      record { room = ap due.full p.ident ∙ open_room vs m q; on = omega arith; inside = p.inside }
   by (no a) q z = clash cc
 
   pub segment_ends : segment_of version due s at ≡ ok n e → Ended due s at n e

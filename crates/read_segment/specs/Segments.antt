@@ -1,45 +1,33 @@
 -- A segment behind the start of page, as the caller of its reader sees it.
 --
---   Marked s at            a place of a page at which two octets stand; Behind: where an ident is due; Near: where a longer length is
+--   Marked s at            a place of a page at which two octets stand; Behind: where an ident is due
 --   view_of r               what the reading of a segment comes to: a stripe and the place of its body, or an optional segment and the place after it
 --   optional_at k s at      an ident that an optional segment has, behind k stripes
---   on_span r               a body that is passed over; skip_from: the same, by a length that counts from its own first octet on
---   long_of s at            what a longer length at a place says; long_stripe, long_skip: of a stripe, and of an optional segment
---   stripe_at k body s at size   a stripe whose ident stands at a place: the 65th, and its length
---   skip_at s at size       an optional segment whose ident stands at a place
+--   on_span r               a body that is passed over
+--   stripe_at k body at size   a stripe whose ident stands at a place: the 65th, and its length
 --   ident_of k body s at size  what the ident at a place makes of a segment of such a length
 --   length_of v k body s at    the same, from its length on
-use Rattle.std.specs.Prelude.{ℕ, ◌+◌, ◌-◌, ◌≤◌, ◌≢◌, Bool, ◌&&◌, not, cond, List, [], ◌∷◌, length, get_or, leb, eqb}
+use Rattle.std.specs.Prelude.{ℕ, ◌+◌, ◌-◌, ◌≤◌, Bool, ◌&&◌, not, cond, List, [], ◌∷◌, length, get_or, leb, eqb}
 use Rattle.octets.specs.Octets.{stands_at}
-use Rattle.answers.specs.declared.Answer.TheVariants.{Short, BadMark, BadLength, BadStripe}
+use Rattle.answers.specs.declared.Answer.TheVariants.{BadMark, BadLength, BadStripe}
 use Rattle.field_rules.specs.Field.{Res, ok, no, bind, one, two, Field, val, again, fields, is}
-use Rattle.field_rules.specs.Part.{span_of}
 use Rattle.segment_rules.specs.declared.Version.{Version}
 use Rattle.segment_rules.specs.Rules.{longest_page}
-use Rattle.segment_rules.specs.Segment.{Need, Due, short_count, long_count, length_ok, mrc, size_in, ident_in, long_in, long_table, behind_of}
+use Rattle.segment_rules.specs.Segment.{Due, length_ok, mrc, size_in, ident_in, behind_of}
 use Rattle.page_rules.specs.Reading.{due_with}
 use Rattle.read_segment.specs.declared.Segment.{Segment}
 use Rattle.read_segment.specs.declared.Segment.TheVariants.{Stripe, Optional, Refused}
-use Rattle.read_segment.specs.declared.Long.{Long}
-use Rattle.read_segment.specs.declared.Long.TheVariants.{Length, Wrong}
 
 -- two octets stand here
 pub record Marked (s : List ℕ) (at : ℕ) : Type 0 where
   pub seen : at + 2 ≤ length s
   pub small : length s ≤ longest_page
 
--- an ident is due here, after a length that may be
-pub record Behind (s : List ℕ) (at size : ℕ) : Type 0 where
+-- an ident is due here, after a length that is long enough
+pub record Behind (at size : ℕ) : Type 0 where
   pub far : 2 ≤ at
   pub near : at ≤ longest_page + 4
-  pub small : length s ≤ longest_page
-  pub six : size ≢ 0 → 6 ≤ size
-
--- a longer length is due here, behind an ident
-pub record Near (s : List ℕ) (at : ℕ) : Type 0 where
-  pub far : 6 ≤ at
-  pub near : at ≤ longest_page + 8
-  pub small : length s ≤ longest_page
+  pub long : 6 ≤ size
 
 unfoldable pub view_of : Res ℕ → Segment
 view_of (ok n e) = cond (eqb n 0x01) (Stripe e) (Optional e)
@@ -52,38 +40,8 @@ unfoldable pub on_span : Res ℕ → Segment
 on_span (ok m e) = Optional e
 on_span (no a) = Refused a
 
-unfoldable pub skip_from : List ℕ → ℕ → ℕ → ℕ → Segment
-skip_from s from size body = cond (leb (from + size) (length s)) (Optional (from + size)) (Refused (Short body))
-
--- ---- behind the ident
-
-unfoldable pub on_long : Res (List ℕ) → Long
-on_long (ok ws m) = Length (long_in ws)
-on_long (no a) = Wrong a
-
-unfoldable pub long_of : List ℕ → ℕ → Long
-unfolding on_long
-long_of s at = on_long (fields long_table [] s at)
-
-unfoldable pub long_stripe : ℕ → ℕ → Long → Segment
-long_stripe body at (Length size) = cond (eqb (size - long_count) body) (Stripe (at + 4)) (Refused (BadLength at))
-long_stripe body at (Wrong a) = Refused a
-
-unfoldable pub stripe_at : ℕ → ℕ → List ℕ → ℕ → ℕ → Segment
-unfolding long_stripe long_of
-stripe_at k body s at size =
-    cond (eqb k 64) (Refused (BadStripe at))
-    (cond (eqb size 0) (long_stripe body (at + 4) (long_of s (at + 4)))
-    (cond (eqb (size - short_count) body) (Stripe (at + 4)) (Refused (BadLength (at - 2)))))
-
-unfoldable pub long_skip : List ℕ → ℕ → Long → Segment
-unfolding on_span
-long_skip s at (Length size) = on_span (span_of s (at + 4) (size - long_count))
-long_skip s at (Wrong a) = Refused a
-
-unfoldable pub skip_at : List ℕ → ℕ → ℕ → Segment
-unfolding long_skip long_of on_span
-skip_at s at size = cond (eqb size 0) (long_skip s (at + 4) (long_of s (at + 4))) (on_span (span_of s (at + 4) (size - short_count)))
+unfoldable pub stripe_at : ℕ → ℕ → ℕ → ℕ → Segment
+stripe_at k body at size = cond (eqb k 64) (Refused (BadStripe at)) (cond (eqb (size - 6) body) (Stripe (at + 4)) (Refused (BadLength (at - 2))))
 
 -- ---- the rows of `open_table` from the ident and from the length on, and the body
 
@@ -93,13 +51,8 @@ ident_rows due = val (one ∷ one ∷ one ∷ one ∷ []) (mrc due.may) BadMark 
 abbrev pub length_rows : Version → Due → List Field
 length_rows version due = val (two ∷ []) (is (length_ok version)) BadLength ∷ ident_rows due
 
-abbrev pub long_behind : Need → ℕ → List ℕ → ℕ → Res ℕ
-long_behind need n s at = bind (fields long_table [] s at) (λ (ws : List ℕ) (m : ℕ). behind_of need n (long_in ws - long_count) at s m)
-
 abbrev pub behind : Due → ℕ → List ℕ → List ℕ → ℕ → Res ℕ
-behind due length_at s vs n =
-    cond (eqb (size_in vs) 0) (long_behind (due.body (ident_in vs)) (ident_in vs) s n)
-    (behind_of (due.body (ident_in vs)) (ident_in vs) (size_in vs - short_count) length_at s n)
+behind due length_at s vs n = behind_of (due.body (ident_in vs)) (ident_in vs) (size_in vs - 6) length_at s n
 
 unfoldable pub ident_of : ℕ → ℕ → List ℕ → ℕ → ℕ → Segment
 unfolding bind view_of

@@ -1,10 +1,11 @@
 // A segment behind the start of page (`segment_of` of `segment_rules`): its marker, its length, its ident, and its body. Nobody else knows where these stand. It is
 // met up to two million times in a page, so that it branches where a table of fields has one way out.
-ghost use Rattle.std.specs.Prelude.{◌≡◌, ◌+◌, ◌≤◌, length};
+ghost use Rattle.std.specs.Prelude.{◌≡◌, ◌+◌, ◌≤◌, ◌<◌};
+ghost use Rattle.field_rules.specs.Part.{span_of};
 ghost use Rattle.segment_rules.specs.Rules.{longest_page};
 ghost use Rattle.segment_rules.specs.Segment.{length_ok, segment_of};
 ghost use Rattle.page_rules.specs.Reading.{due_with};
-ghost use Rattle.read_segment.specs.Segments.{Marked, Near, Behind, view_of, optional_at, skip_from, long_of, long_stripe, stripe_at, long_skip, skip_at, ident_of, length_of};
+ghost use Rattle.read_segment.specs.Segments.{Marked, Behind, view_of, optional_at, on_span, stripe_at, ident_of, length_of};
 
 use answers::Answer;
 use segment_rules::{APP13, MRC, STRIPE, Version};
@@ -17,27 +18,11 @@ pub enum Segment {
     Refused(Answer),
 }
 
-// A longer length, or what is wrong with it.
-#[derive(Drop)]
-pub enum Long {
-    Length(u32),
-    Wrong(Answer),
-}
-
-// Nearly every length is 6 or more, in both versions.
 fn length_ok(version: Version, size: u16) -> bool
     ensures { result ≡ length_ok version size }
 {
-    if 6 <= size {
-        return true;
-    }
-    if size == 0 {
-        match version {
-            Version::Base => false,
-            Version::Amended => true,
-        }
-    } else {
-        false
+    match version {
+        Version::Base => 6 <= size,
     }
 }
 
@@ -50,59 +35,25 @@ fn is_optional(s: &[u8], k: u16, at: u32) -> bool
     octets_get::stands_at(s, at as usize, &MRC) & ((k == 0) & ((3 <= n) & (n <= 0xFE)))
 }
 
-// A segment whose body is skipped, whatever it holds: its length counts from its own first octet on.
-fn skip(s: &[u8], from: u32, size: u32, body: u32) -> Segment
-    requires { length s.now ≤ longest_page }
-    ensures { result ≡ skip_from s.now from size body }
+// The body of an optional segment is skipped, whatever it holds.
+fn skip(s: &[u8], at: u32, body: u32) -> Segment
+    requires { at + body < 4294967296 }
+    ensures { result ≡ on_span (span_of s.now at body) }
 {
-    if read_field::fits(s, from, size) {
-        Segment::Optional { next: from + size }
+    if read_field::fits(s, at, body) {
+        Segment::Optional { next: at + body }
     } else {
-        Segment::Refused(Answer::Short(body))
-    }
-}
-
-// Four octets behind the ident: below 10 they are refused, since they count the first length, the ident and themselves.
-fn long_at(s: &[u8], at: u32) -> Long
-    ensures { result ≡ long_of s.now at }
-{
-    if read_field::fits(s, at, 4) {
-        let size = octets_get::be32(s, at as usize);
-        if size < 10 {
-            return Long::Wrong(Answer::BadLength(at));
-        }
-        Long::Length(size)
-    } else {
-        Long::Wrong(Answer::Short(at))
-    }
-}
-
-fn long_stripe(s: &[u8], body: u16, at: u32) -> Segment
-    requires { at ≤ longest_page + 8 }
-    ensures { result ≡ long_stripe body at (long_of s.now at) }
-{
-    match long_at(s, at) {
-        Long::Wrong(a) => Segment::Refused(a),
-        Long::Length(size) => {
-            if size == body as u32 + 10 {
-                Segment::Stripe { body: at + 4 }
-            } else {
-                Segment::Refused(Answer::BadLength(at))
-            }
-        }
+        Segment::Refused(Answer::Short(at))
     }
 }
 
 // Behind the ident of a stripe: the 65th is faulted there, then comes the length, which must be that of its body.
-fn stripe_at(s: &[u8], k: u16, body: u16, at: u32, size: u16) -> Segment
-    requires { Behind s.now at size }
-    ensures { result ≡ stripe_at k body s.now at size }
+fn stripe_at(k: u16, body: u16, at: u32, size: u16) -> Segment
+    requires { Behind at size }
+    ensures { result ≡ stripe_at k body at size }
 {
     if k == 64 {
         return Segment::Refused(Answer::BadStripe(at));
-    }
-    if size == 0 {
-        return long_stripe(s, body, at + 4);
     }
     if size - 6 != body {
         return Segment::Refused(Answer::BadLength(at - 2));
@@ -110,38 +61,17 @@ fn stripe_at(s: &[u8], k: u16, body: u16, at: u32, size: u16) -> Segment
     Segment::Stripe { body: at + 4 }
 }
 
-fn long_skip(s: &[u8], at: u32) -> Segment
-    requires { Near s.now at }
-    ensures { result ≡ long_skip s.now at (long_of s.now at) }
-{
-    match long_at(s, at) {
-        Long::Wrong(a) => Segment::Refused(a),
-        Long::Length(size) => skip(s, at - 6, size, at + 4),
-    }
-}
-
-// Behind the ident of an optional segment.
-fn skip_at(s: &[u8], at: u32, size: u16) -> Segment
-    requires { Behind s.now at size }
-    ensures { result ≡ skip_at s.now at size }
-{
-    if size == 0 {
-        return long_skip(s, at + 4);
-    }
-    skip(s, at - 2, size as u32, at + 4)
-}
-
-// After the marker and a length that may be: the ident, and what it makes of the segment.
+// After the marker and a length that is long enough: the ident, and what it makes of the segment.
 fn by_ident(s: &[u8], k: u16, body: u16, at: u32, size: u16) -> Segment
-    requires { Behind s.now at size }
+    requires { Behind at size }
     ensures { result ≡ ident_of k body s.now at size }
 {
     if read_field::fits(s, at, 4) {
         if octets_get::stands_at(s, at as usize, &STRIPE) {
-            return stripe_at(s, k, body, at, size);
+            return stripe_at(k, body, at, size);
         }
         if is_optional(s, k, at) {
-            skip_at(s, at, size)
+            skip(s, at + 4, (size - 6) as u32)
         } else {
             Segment::Refused(Answer::BadMark(at))
         }
@@ -150,13 +80,13 @@ fn by_ident(s: &[u8], k: u16, body: u16, at: u32, size: u16) -> Segment
     }
 }
 
-// After the marker: a length that no segment has, at once.
+// After the marker: a length below 6 at once.
 fn by_length(s: &[u8], version: Version, k: u16, body: u16, at: u32) -> Segment
-    requires { (2 ≤ at) × (at ≤ longest_page + 2) × (length s.now ≤ longest_page) }
+    requires { (2 ≤ at) × (at ≤ longest_page + 2) }
     ensures { result ≡ length_of version k body s.now at }
 {
     if read_field::fits(s, at, 2) {
-        let size = octets_get::be16(s, at as usize);
+        let size = read_field::two(s, at);
         if length_ok(version, size) {
             by_ident(s, k, body, at + 2, size)
         } else {

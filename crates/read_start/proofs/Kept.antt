@@ -11,7 +11,8 @@ use Rattle.field_rules.specs.Field.{ok, numbers, widths, fields}
 use Rattle.field_rules.proofs.Values.{values_of, fields_values}
 use Rattle.field_rules.proofs.Refused.{rows_size, fields_end}
 use Rattle.read_field.proofs.Views.{Holds, fields_hold}
-use Rattle.start_rules.specs.Reading.{rules_from, start_table, head_from}
+use Rattle.segment_rules.specs.Rules.{mode1}
+use Rattle.start_rules.specs.Reading.{start_table, head_from}
 use Rattle.read_start.specs.Start.{head_at}
 
 start_size_lem : rows_size start_table ≡ 22
@@ -38,4 +39,4 @@ module _ (s vs : List ℕ) (n : ℕ) (e : fields start_table [] s 0 ≡ ok vs n)
   unfolding start_table numbers widths values_of
   head_kept =
       ap head_from (fields_values start_table [] vs s 0 n e)
-      ∙ ap (λ (x : ℕ). record { rules = rules_from (get_or s 10 0) (get_or s 11 0); mask = get_or s 12 0; image = get_or s 13 0; main = be16_at s 14; width = x }) (sym width_low)
+      ∙ ap (λ (x : ℕ). record { rules = mode1; mask = get_or s 12 0; image = get_or s 13 0; main = be16_at s 14; width = x }) (sym width_low)

@@ -1,5 +1,5 @@
 // The start of page (9.2.1), and the termination (9.2.3): the table `start_table` of `start_rules` in code, line by line.
-ghost use Rattle.std.specs.Prelude.{◌≡◌, [], get_or};
+ghost use Rattle.std.specs.Prelude.{◌≡◌, []};
 ghost use Rattle.field_rules.specs.Field.{fields};
 ghost use Rattle.segment_rules.specs.declared.Mode.TheVariants.{One};
 ghost use Rattle.start_rules.specs.Coders.{mask_coder, image_coder};
@@ -9,7 +9,7 @@ ghost use Rattle.read_start.specs.Start.{head_at};
 
 use answers::Answer;
 use read_field::Judged;
-use segment_rules::{APP13, EOI, SOI, START};
+use segment_rules::{APP13, EOI, Mode, Rules, SOI, START, Version};
 use start_rules::Head;
 
 // The octets of the start of page and of the termination: the body stands behind them.
@@ -25,13 +25,6 @@ fn image_coder(c: u8) -> bool
     ensures { result ≡ image_coder One c }
 {
     (c == 0) | (c == 1)
-}
-
-// The octet that names the version or the mode.
-fn number(s: &[u8], at: u32) -> u32
-    ensures { result ≡ get_or s.now at 0 }
-{
-    read_field::octet(s, at) as u32
 }
 
 // The length is judged twice: below 6 at once, and against 16 after the ident that it depends on.
@@ -71,7 +64,7 @@ pub fn judge_start(s: &[u8]) -> Judged
         r,
         10,
         1,
-        named_rules::version_taken(number(s, 10)),
+        read_field::octet(s, 10) == 0,
         Answer::BadVersion(10),
     );
     let r = read_field::field(
@@ -79,7 +72,7 @@ pub fn judge_start(s: &[u8]) -> Judged
         r,
         11,
         1,
-        named_rules::mode_taken(number(s, 11)),
+        read_field::octet(s, 11) == 1,
         Answer::BadMode(11),
     );
     let r = read_field::field(
@@ -128,9 +121,11 @@ pub fn judge_start(s: &[u8]) -> Judged
 pub fn head_at(s: &[u8]) -> Head
     ensures { result ≡ head_at s.now }
 {
-    let rules = named_rules::rules_from(number(s, 10), number(s, 11));
     Head {
-        rules,
+        rules: Rules {
+            version: Version::Base,
+            mode: Mode::One,
+        },
         mask: read_field::octet(s, 12),
         image: read_field::octet(s, 13),
         main: read_field::two(s, 14),

@@ -3,41 +3,31 @@
 use Prim.Native.Nat.{ℕ, ◌+◌, ◌-◌, ◌≤◌, ◌<◌}
 use native.Mathlib.Omega.{arith}
 use mathlib.Core.Path.{◌≡◌, refl, sym, ap, subst, ◌∙◌}
-use mathlib.Core.Logic.{◌≢◌, inl, inr}
 use mathlib.Core.Bool.{Bool, true, false, not, false≢true}
 use mathlib.Core.List.{List, [], ◌∷◌, ◌++◌}
 use lib.ListN.{length, get_or, drop}
 use lib.Dec.{lit<}
-use Rattle.octets.specs.Octets.{octets16, octets32}
-use Rattle.laws.proofs.Says.{Says, says_eq, says_le, says_and, says_or, says_true}
-use Rattle.laws.proofs.Cases.{clash}
+use Rattle.octets.specs.Octets.{octets16}
+use Rattle.laws.proofs.Says.{Says, says_eq, says_le, says_and, says_true}
 use Rattle.answers.specs.declared.Answer.{Answer}
 use Rattle.answers.specs.declared.Answer.TheVariants.{BadMark, BadLength, BadStripe}
-use Rattle.field_rules.specs.Field.{one, two, four, put, Sized, widths}
+use Rattle.field_rules.specs.Field.{one, two, put, Sized, widths}
 use Rattle.field_rules.specs.Stands.{Stands, at_end, marked, valued, held}
 use Rattle.field_rules.specs.Fault.{Faulted, late, BadMarked, BadNumbers, the}
 use Rattle.field_rules.proofs.Laws.{end_apart, mark_apart, again_apart, one_apart, four_apart}
 use Rattle.field_rules.proofs.Refused.{rows_size}
 use Rattle.field_rules.proofs.Faults.{fault_here, past_mark, past_val, none_at_fault, fault_mark, fault_again, fault_one, fault_four, broken_mark, mark_broken, broken_numbers, numbers_broken, broken_again}
 use Rattle.segment_rules.specs.declared.Version.{Version}
-use Rattle.segment_rules.specs.declared.Version.TheVariants.{Base, Amended}
-use Rattle.segment_rules.specs.Segment.{Due, Named, begin_of, short_count, long_count, long_of, length_ok, LengthIn, mrc, open_table, long_table, Ident, ident, BadSegment, bad_marker, bad_length, bad_ident, too_many}
+use Rattle.segment_rules.specs.declared.Version.TheVariants.{Base}
+use Rattle.segment_rules.specs.Segment.{Due, Named, begin_of, length_ok, mrc, open_table, Ident, ident, BadSegment, bad_marker, bad_length, bad_ident, too_many}
 
 pub length_begin : (n size : ℕ) → length (begin_of n size) ≡ 8
 unfolding begin_of octets16
 length_begin n size = refl
 
-pub length_long : (n size : ℕ) → length (long_of n size) ≡ 12
-unfolding long_of begin_of octets16 octets32
-length_long n size = refl
-
 pub open_size : (version : Version) (due : Due) → rows_size (open_table version due) ≡ 8
 unfolding open_table rows_size widths
 open_size version due = refl
-
-pub long_size : rows_size long_table ≡ 4
-unfolding long_table rows_size widths
-long_size = refl
 
 -- the numbers of a beginning
 abbrev pub numbers_of : ℕ → ℕ → List ℕ
@@ -51,32 +41,13 @@ not-true : (b : Bool) → not b ≡ false → b ≡ true
 not-true true e = refl
 not-true false e = absurd (false≢true (sym e))
 
-says_length : (version : Version) (size : ℕ) → Says (length_ok version size) (LengthIn version size)
-says_length Base size = says_le short_count size
-says_length Amended size = says_or (says_le short_count size) (says_eq size 0)
-
--- a length is 0 in version 01 alone, and any other is that of a short form
-pub zero_amended : (version : Version) (size : ℕ) → LengthIn version size → size ≡ 0 → version ≡ Amended
-zero_amended Base size l z = absurd (omega arith)
-zero_amended Amended size l z = refl
-
-pub zero_in : (version : Version) → version ≡ Amended → LengthIn version 0
-zero_in Base e = clash cc
-zero_in Amended e = inr refl
-
-pub least_six : (version : Version) (size : ℕ) → LengthIn version size → size ≢ 0 → short_count ≤ size
-least_six Base size l d = l
-least_six Amended size (inl l) d = l
-least_six Amended size (inr z) d = absurd (d z)
-
-pub six_in : (version : Version) (size : ℕ) → short_count ≤ size → LengthIn version size
-six_in Base size l = l
-six_in Amended size l = inl l
+says_length : (version : Version) (size : ℕ) → Says (length_ok version size) (6 ≤ size)
+says_length Base size = says_le 6 size
 
 module _ (version : Version) (due : Due) where
   -- ---- it stands there
 
-  pub begin_stands : (n size : ℕ) → Named due n → LengthIn version size → size < 65536 → Stands (open_table version due) [] (numbers_of n size) (begin_of n size)
+  pub begin_stands : (n size : ℕ) → Named due n → 6 ≤ size → size < 65536 → Stands (open_table version due) [] (numbers_of n size) (begin_of n size)
   unfolding open_table begin_of octets16 put Sized
   begin_stands n size k l h =
       marked
@@ -91,7 +62,7 @@ module _ (version : Version) (due : Due) where
       subst (λ v. P v r c) (sym h.0.0.0) (subst (λ v. P 0x4D v c) (sym h.0.0.1) (subst (λ v. P 0x4D 0x52 v) (sym h.0.1) (go h.1)))
 
   pub begin_apart : (P : List ℕ → List ℕ → Type 0) {out l : List ℕ} → Stands (open_table version due) [] out l
-      → ((n size : ℕ) → Named due n → LengthIn version size → size < 65536 → P (numbers_of n size) (begin_of n size)) → P out l
+      → ((n size : ℕ) → Named due n → 6 ≤ size → size < 65536 → P (numbers_of n size) (begin_of n size)) → P out l
   unfolding open_table begin_of octets16 put
   begin_apart P {out} st go =
       mark_apart (P out) st λ l1 st1.
@@ -129,7 +100,7 @@ module _ (version : Version) (due : Due) where
     faulted_begin l x f =
         fault_mark (λ (l : List ℕ). Bad l x) f (λ b. bad_marker (broken_mark b)) λ l1 f1.
         fault_one (λ (l : List ℕ). Bad (0xFF ∷ 0xED ∷ l) x) f1
-        (λ b. bad_length l1 (broken_numbers (the (LengthIn version)) (λ vs z. says_length version (get_or vs 0 0)) b)) λ size l2 b2 g2 f2.
+        (λ b. bad_length l1 (broken_numbers (the (λ (size : ℕ). 6 ≤ size)) (λ vs z. says_length version (get_or vs 0 0)) b)) λ size l2 b2 g2 f2.
         let lo = (says_length version size).told g2 in
         fault_four (λ (l : List ℕ). Bad (0xFF ∷ 0xED ∷ octets16 size ++ l) x) f2
         (λ b. bad_ident size l2 lo b2 (subst (λ (p : ℕ). BadNumbers (one ∷ one ∷ one ∷ one ∷ []) (Ident due) BadMark p l2 x) two_two (broken_numbers (Ident due) (λ vs z. says_ident vs z) b))) λ m r c n l3 bm br bc bn g3 f3.
@@ -147,18 +118,18 @@ module _ (version : Version) (due : Due) where
     unfolding open_table
     marker_faulted b = fault_here (mark_broken b)
 
-    pub length_faulted : {l : List ℕ} {x : Answer} → BadNumbers (two ∷ []) (the (LengthIn version)) BadLength (at + 2) l x → Faulted (open_table version due) [] at (0xFF ∷ 0xED ∷ l) x
+    pub length_faulted : {l : List ℕ} {x : Answer} → BadNumbers (two ∷ []) (the (λ (size : ℕ). 6 ≤ size)) BadLength (at + 2) l x → Faulted (open_table version due) [] at (0xFF ∷ 0xED ∷ l) x
     unfolding open_table
-    length_faulted b = past_mark (fault_here (numbers_broken (the (LengthIn version)) (λ vs z. says_length version (get_or vs 0 0)) b))
+    length_faulted b = past_mark (fault_here (numbers_broken (the (λ (size : ℕ). 6 ≤ size)) (λ vs z. says_length version (get_or vs 0 0)) b))
 
     -- behind a length that may be
-    past_length : {l : List ℕ} {x : Answer} (size : ℕ) → LengthIn version size → size < 65536
+    past_length : {l : List ℕ} {x : Answer} (size : ℕ) → 6 ≤ size → size < 65536
         → Faulted (drop 2 (open_table version due)) (size ∷ []) (at + 2 + 2) l x
         → Faulted (open_table version due) [] at (0xFF ∷ 0xED ∷ octets16 size ++ l) x
     unfolding open_table octets16 put widths Sized
     past_length size lo hi f = past_mark (past_val {ws = two ∷ []} (size ∷ []) (hi, tt) ((says_length version size).shown lo) f)
 
-    pub ident_faulted : {l : List ℕ} {x : Answer} (size : ℕ) → LengthIn version size → size < 65536 → BadNumbers (one ∷ one ∷ one ∷ one ∷ []) (Ident due) BadMark (at + 4) l x
+    pub ident_faulted : {l : List ℕ} {x : Answer} (size : ℕ) → 6 ≤ size → size < 65536 → BadNumbers (one ∷ one ∷ one ∷ one ∷ []) (Ident due) BadMark (at + 4) l x
         → Faulted (open_table version due) [] at (0xFF ∷ 0xED ∷ octets16 size ++ l) x
     unfolding open_table
     ident_faulted {l} {x} size lo hi b =
@@ -166,7 +137,7 @@ module _ (version : Version) (due : Due) where
         past_length size lo hi (subst (λ (p : ℕ). Faulted (drop 2 (open_table version due)) (size ∷ []) p l x) z
         (fault_here (numbers_broken (Ident due) (λ vs z. says_ident vs z) b)))
 
-    pub full_faulted : (l : List ℕ) (n size : ℕ) → LengthIn version size → size < 65536 → n < 256 → due.may n ≡ true → due.full n ≡ true
+    pub full_faulted : (l : List ℕ) (n size : ℕ) → 6 ≤ size → size < 65536 → n < 256 → due.may n ≡ true → due.full n ≡ true
         → Faulted (open_table version due) [] at (begin_of n size ++ l) (BadStripe (at + 4))
     unfolding open_table begin_of octets16 put widths Sized
     full_faulted l n size lo hi oc g f =
@@ -174,24 +145,3 @@ module _ (version : Version) (due : Due) where
         (past_val {ws = one ∷ one ∷ one ∷ one ∷ []} (0x4D ∷ 0x52 ∷ 0x43 ∷ n ∷ []) (lit< tt, (lit< tt, (lit< tt, (oc, tt)))) g
         (subst (Faulted (drop 3 (open_table version due)) (size ∷ 0x4D ∷ 0x52 ∷ 0x43 ∷ n ∷ []) (at + 2 + 2 + 4) l) (ap BadStripe at_ident)
         (fault_here (late (ap not f)))))
-
--- ---- a longer length
-
-pub long_stands : (v : ℕ) → long_count ≤ v → v < 4294967296 → Stands long_table [] (v ∷ []) (octets32 v)
-unfolding long_table octets32 octets16 put Sized
-long_stands v l h = valued {ws = four ∷ []} (v ∷ []) (h, tt) ((says_le long_count v).shown l) at_end
-
-pub long_apart : (P : List ℕ → List ℕ → Type 0) {out l : List ℕ} → Stands long_table [] out l → ((v : ℕ) → long_count ≤ v → v < 4294967296 → P (v ∷ []) (octets32 v)) → P out l
-unfolding long_table octets32 octets16 put
-long_apart P {out} st go =
-    one_apart (P out) st λ v l1 b g st1. end_apart (λ o x. P o (octets32 v ++ x)) st1 (go v ((says_le long_count v).told g) b)
-
-pub faulted_long : {p : ℕ} {l : List ℕ} {x : Answer} → Faulted long_table [] p l x → BadNumbers (four ∷ []) (the (λ (size : ℕ). long_count ≤ size)) BadLength p l x
-unfolding long_table
-faulted_long {p} {l} {x} f =
-    fault_one (λ (l : List ℕ). BadNumbers (four ∷ []) (the (λ (size : ℕ). long_count ≤ size)) BadLength p l x) f
-    (λ b. broken_numbers (the (λ (size : ℕ). long_count ≤ size)) (λ vs z. says_le long_count (get_or vs 0 0)) b) λ v l1 b g f1. absurd (none_at_fault f1)
-
-pub long_faulted : {p : ℕ} {l : List ℕ} {x : Answer} → BadNumbers (four ∷ []) (the (λ (size : ℕ). long_count ≤ size)) BadLength p l x → Faulted long_table [] p l x
-unfolding long_table
-long_faulted b = fault_here (numbers_broken (the (λ (size : ℕ). long_count ≤ size)) (λ vs z. says_le long_count (get_or vs 0 0)) b)

@@ -16,7 +16,7 @@ use Rattle.field_rules.proofs.Refused.{Names, fields_end}
 use Rattle.field_rules.proofs.Named.{Refusal, bind_refused, told, table_refused, span_refused}
 use Rattle.segment_rules.specs.declared.Version.{Version}
 use Rattle.segment_rules.proofs.Begin.{open_size}
-use Rattle.segment_rules.specs.Segment.{Need, passed, sized, Due, size_in, ident_in, short_count, long_count, long_in, open_table, long_table, behind_of, segment_of}
+use Rattle.segment_rules.specs.Segment.{Need, passed, sized, Due, size_in, ident_in, open_table, behind_of, segment_of}
 
 module _ (version : Version) (due : Due) (s : List ℕ) (a : Answer) where
   open_named : Names (λ b. Refusal (length s) b) (length s) (open_table version due)
@@ -35,10 +35,6 @@ module _ (version : Version) (due : Due) (s : List ℕ) (a : Answer) where
     ),
   )
 
-  long_named : Names (λ b. Refusal (length s) b) (length s) long_table
-  unfolding Names long_table number_of place_of
-  long_named = (λ p h. record { least = lit≤ tt; most = lit≤ tt; place = h }, tt)
-
   behind_refused : (need : Need) (n size length_at at : ℕ) → length_at ≤ at → at ≤ length s → behind_of need n size length_at s at ≡ no a → Refusal (length s) a
   unfolding behind_of number_of place_of
   behind_refused passed n size length_at at l h = λ q.
@@ -54,10 +50,4 @@ module _ (version : Version) (due : Due) (s : List ℕ) (a : Answer) where
       let fe = fields_end (open_table version due) [] vs s at p h q1 in
       let f0 = fe.0 in
       let sz = open_size version due in
-      cond_with (λ x. x ≡ no a → Refusal (length s) a) (eqb (size_in vs) 0)
-      (λ t e.
-      bind_refused (Refusal (length s) a) (fields long_table [] s p) _ a e (λ f. table_refused s a long_table long_named p fe.1 f) λ ws m r1 r2.
-      let le = fields_end long_table [] ws s p m fe.1 r1 in
-      let l0 = le.0 in
-      behind_refused (due.body (ident_in vs)) (ident_in vs) (long_in ws - long_count) p m (omega arith) le.1 r2)
-      (λ t e. behind_refused (due.body (ident_in vs)) (ident_in vs) (size_in vs - short_count) (at + 2) p (omega arith) fe.1 e) q2
+      behind_refused (due.body (ident_in vs)) (ident_in vs) (size_in vs - 6) (at + 2) p (omega arith) fe.1 q2

@@ -10,12 +10,12 @@ use mathlib.Core.Bool.{cond}
 use mathlib.Core.List.{[], ◌∷◌}
 use lib.Dec.{eqb}
 use Rattle.laws.specs.Tests.{within}
-use Rattle.octets.specs.Octets.{be16_at, be32_at, begins, stands_at}
+use Rattle.octets.specs.Octets.{be16_at, begins, stands_at}
 use Rattle.answers.specs.declared.Answer.TheVariants.{Short, BadMark, BadLength, BadStripe}
 use Rattle.field_rules.specs.Field.{Res, ok, no, fields}
-use Rattle.segment_rules.specs.declared.Version.TheVariants.{Base, Amended}
+use Rattle.segment_rules.specs.declared.Version.TheVariants.{Base}
 use Rattle.segment_rules.specs.Rules.{longest_page}
-use Rattle.segment_rules.specs.Segment.{passed, sized, Due, open_table, long_table, segment_of}
+use Rattle.segment_rules.specs.Segment.{passed, sized, Due, open_table, segment_of}
 
 abbrev pub due : Due
 due = record { may = within 1 3; full = λ n. eqb n 2; body = λ n. cond (eqb n 1) (sized 2) passed }
@@ -34,42 +34,6 @@ pub segment_refused : (segment_of Base due (0xFF ∷ 0xEE ∷ 0x00 ∷ 8 ∷ [])
     × (segment 99 2 ≡ no (BadStripe 4)) × (segment 9 1 ≡ no (BadLength 2)) × (segment 10 3 ≡ no (Short 8))
 unfolding segment_of open_table fields be16_at stands_at begins
 segment_refused = (refl, refl, refl, refl, refl, refl, refl, refl)
-
--- ---- version 01: a length of 0, and four octets behind the ident
-
-abbrev pub amended : ℕ → ℕ → Res ℕ
-amended size n = segment_of Amended due (0xFF ∷ 0xED ∷ 0x00 ∷ size ∷ 0x4D ∷ 0x52 ∷ 0x43 ∷ n ∷ 7 ∷ 7 ∷ 7 ∷ []) 0
-
--- the long length of a segment of that ident, and a body of three octets
-abbrev pub longer : ℕ → ℕ → Res ℕ
-longer size n = segment_of Amended due (0xFF ∷ 0xED ∷ 0x00 ∷ 0x00 ∷ 0x4D ∷ 0x52 ∷ 0x43 ∷ n ∷ 0x00 ∷ 0x00 ∷ 0x00 ∷ size ∷ 7 ∷ 7 ∷ 7 ∷ []) 0
-
--- the short form as ever; the long one counts its own four octets: a body of two, of none, of three
-pub amended_taken : (amended 8 1 ≡ ok 1 8) × (amended 6 3 ≡ ok 3 8) × (amended 9 3 ≡ ok 3 11)
-    × (longer 12 1 ≡ ok 1 12) × (longer 10 3 ≡ ok 3 12) × (longer 13 3 ≡ ok 3 15)
-unfolding segment_of open_table long_table fields be16_at be32_at stands_at begins
-amended_taken = (refl, refl, refl, refl, refl, refl)
-
--- 1 and 5 at once, whatever the ident; 0 where the ident is not due, and one too many, whatever stands behind it
-pub amended_refused : (amended 1 4 ≡ no (BadLength 2)) × (amended 5 4 ≡ no (BadLength 2)) × (amended 5 2 ≡ no (BadLength 2)) × (amended 6 4 ≡ no (BadMark 4))
-    × (amended 9 2 ≡ no (BadStripe 4)) × (amended 9 1 ≡ no (BadLength 2)) × (amended 10 3 ≡ no (Short 8))
-    × (longer 10 4 ≡ no (BadMark 4)) × (longer 0 4 ≡ no (BadMark 4)) × (longer 10 2 ≡ no (BadStripe 4)) × (longer 0 2 ≡ no (BadStripe 4))
-    × (amended 0 2 ≡ no (BadStripe 4))
-unfolding segment_of open_table long_table fields be16_at be32_at stands_at begins
-amended_refused = (refl, refl, refl, refl, refl, refl, refl, refl, refl, refl, refl, refl)
-
--- the long length cut short, below 10, other than its fields need; a body that passes the end, by one octet and by all that four octets can say
-pub longer_refused : (amended 0 1 ≡ no (Short 8)) × (amended 0 3 ≡ no (Short 8)) × (longer 0 1 ≡ no (BadLength 8)) × (longer 9 1 ≡ no (BadLength 8))
-    × (longer 0 3 ≡ no (BadLength 8)) × (longer 6 3 ≡ no (BadLength 8)) × (longer 9 3 ≡ no (BadLength 8)) × (longer 8 1 ≡ no (BadLength 8))
-    × (longer 11 1 ≡ no (BadLength 8)) × (longer 13 1 ≡ no (BadLength 8)) × (longer 14 3 ≡ no (Short 12))
-    × (segment_of Amended due (0xFF ∷ 0xED ∷ 0x00 ∷ 0x00 ∷ 0x4D ∷ 0x52 ∷ 0x43 ∷ 0x03 ∷ 0xFF ∷ 0xFF ∷ 0xFF ∷ 0xFF ∷ 7 ∷ []) 0 ≡ no (Short 12))
-unfolding segment_of open_table long_table fields be16_at be32_at stands_at begins
-longer_refused = (refl, refl, refl, refl, refl, refl, refl, refl, refl, refl, refl, refl)
-
--- version 00 has no long form: a length of 0 is refused at once
-pub base_short : (segment 0 3 ≡ no (BadLength 2)) × (segment 0 4 ≡ no (BadLength 2)) × (segment 1 3 ≡ no (BadLength 2))
-unfolding segment_of open_table fields be16_at stands_at begins
-base_short = (refl, refl, refl)
 
 -- ---- the longest page is the longest whose length three octets can tell; what becomes of a longer one stands in page_rules (`longest`)
 pub longest_page_lem : longest_page + 1 ≡ 256 * 256 * 256

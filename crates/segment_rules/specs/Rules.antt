@@ -6,7 +6,7 @@
 --   longest_page                the octets of the longest page that is read or written
 use Rattle.std.specs.Prelude.{ℕ}
 use Rattle.segment_rules.specs.declared.Version.{Version}
-use Rattle.segment_rules.specs.declared.Version.TheVariants.{Base, Amended}
+use Rattle.segment_rules.specs.declared.Version.TheVariants.{Base}
 use Rattle.segment_rules.specs.declared.Mode.{Mode}
 use Rattle.segment_rules.specs.declared.Mode.TheVariants.{One}
 use Rattle.segment_rules.specs.declared.Rules.{Rules}
@@ -16,7 +16,6 @@ mode1 = record { version = Base; mode = One }
 
 abbrev pub version_octet : Version → ℕ
 version_octet Base = 0
-version_octet Amended = 1
 
 abbrev pub mode_octet : Mode → ℕ
 mode_octet One = 1

@@ -5,8 +5,6 @@
 pub enum Version {
     // version 00
     Base,
-    // version 01, of Amendment 1
-    Amended,
 }
 
 #[derive(Drop)]

@@ -10,7 +10,7 @@ use Rattle.answers_report.specs.Report.{report_of}
 use Rattle.sheet_rules.specs.declared.Colour.{Colour}
 use Rattle.sheet_rules.specs.Judge.{sheet_answer}
 use Rattle.page_rules.specs.Reading.{Reads}
-use Rattle.write_rules.specs.Writing.{WritesAs}
+use Rattle.write_rules.specs.Writing.{Writes}
 use Rattle.pixel_rules.specs.Planes.{list_of}
 use Rattle.picture_rules.specs.Line.{unseen_grey, Lines}
 use Rattle.band_rules.specs.Band.{Bands}
@@ -19,8 +19,7 @@ use Rattle.data_rules.specs.Data.{found_of}
 use Rattle.data_report.specs.declared.DataReport.{DataReport}
 use Rattle.data_report.specs.Reported.{report_found}
 use Rattle.data_report.proofs.Firm.{report_found_lem}
-use Rattle.call_rules.proofs.Writing.{write_is_as}
-use Rattle.call_rules.specs.Calls.{JudgeCall, ReadCall, WriteCall, WriteAsCall, LineUnseenCall, LineCall, BandCall, DataCall}
+use Rattle.call_rules.specs.Calls.{JudgeCall, ReadCall, WriteCall, LineUnseenCall, LineCall, BandCall, DataCall}
 
 pub judge_called : (sheet : List ℕ) {a : Answer} {r : Report} → a ≡ sheet_answer sheet → r ≡ report_of a → JudgeCall sheet r
 judge_called sheet e h = record { reports = h ∙ ap report_of e }
@@ -28,12 +27,8 @@ judge_called sheet e h = record { reports = h ∙ ap report_of e }
 pub read_called : (page sheet : List ℕ) {a : Answer} {r : Report} {e : List ℕ} → Reads page sheet a e → r ≡ report_of a → ReadCall page sheet r e
 read_called page sheet x h = record { reports = h ∙ ap report_of x.answers; holds = x.holds }
 
-pub write_as_called : (sheet d : List ℕ) (v m : ℕ) (page : List ℕ) {a : Answer} {r : Report} {e : List ℕ} → WritesAs sheet d v m page a e → r ≡ report_of a
-    → WriteAsCall sheet d v m page r e
-write_as_called sheet d v m page x h = record { reports = h ∙ ap report_of x.answers; holds = x.holds }
-
-pub write_called : (sheet d page : List ℕ) {a : Answer} {r : Report} {e : List ℕ} → WritesAs sheet d 0 1 page a e → r ≡ report_of a → WriteCall sheet d page r e
-write_called sheet d page {r = r} {e = e} x h = (write_is_as sheet d page r e).1 (write_as_called sheet d 0 1 page x h)
+pub write_called : (sheet d page : List ℕ) {a : Answer} {r : Report} {e : List ℕ} → Writes sheet d page a e → r ≡ report_of a → WriteCall sheet d page r e
+write_called sheet d page x h = record { reports = h ∙ ap report_of x.answers; holds = x.holds }
 
 pub line_called : (sheet planes samples : List ℕ) (k y : ℕ) (u : Colour) (out : List ℕ) {a : Answer} {r : Report} {e : List ℕ} → Lines sheet (list_of planes) samples k y u out a e → r ≡ report_of a
     → LineUnseenCall sheet planes samples k y u out r e
@@ -51,4 +46,4 @@ band_called sheet planes samples k u out x h = record { reports = h ∙ ap repor
 pub data_called : (sheet page pencil : List ℕ) (k l : ℕ) {f : Found} {r : DataReport} → f ≡ found_of sheet page pencil k l → r ≡ report_found f → DataCall sheet page pencil k l r
 data_called sheet page pencil k l e h = record { reports = h ∙ ap report_found e ∙ report_found_lem sheet page pencil k l }
 
-pub ruleset calls = (rules, judge_called, read_called, write_as_called, write_called, line_called, grey_called, band_called, data_called)
+pub ruleset calls = (rules, judge_called, read_called, write_called, line_called, grey_called, band_called, data_called)

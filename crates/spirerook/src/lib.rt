@@ -1,5 +1,5 @@
 // The calls that a viewer in C links (include/spirerook.h). Each is thin: it calls the library's function and reports its answer.
-ghost use Rattle.call_rules.specs.Calls.{JudgeCall, ReadCall, WriteCall, WriteAsCall, LineUnseenCall, LineCall, BandCall, DataCall};
+ghost use Rattle.call_rules.specs.Calls.{JudgeCall, ReadCall, WriteCall, LineUnseenCall, LineCall, BandCall, DataCall};
 
 use answers_report::Report;
 use data_report::DataReport;
@@ -25,22 +25,7 @@ pub extern "C" fn spirerook_read(page: &[u8], sheet: &mut [u8]) -> Report
 pub extern "C" fn spirerook_write(sheet: &[u8], data: &[u8], page: &mut [u8]) -> Report
     ensures { WriteCall sheet.now «data».now page.old result page.new }
 {
-    let a = write_page::write_as(sheet, data, 0, 1, page);
-    answers_report::reported(a)
-}
-
-// The same, for those who choose the version and the mode.
-#[unsafe(no_mangle)]
-pub extern "C" fn spirerook_write_as(
-    sheet: &[u8],
-    data: &[u8],
-    version: u32,
-    mode: u32,
-    page: &mut [u8],
-) -> Report
-    ensures { WriteAsCall sheet.now «data».now version mode page.old result page.new }
-{
-    let a = write_page::write_as(sheet, data, version, mode, page);
+    let a = write_page::write_page(sheet, data, page);
     answers_report::reported(a)
 }
 

@@ -9,7 +9,7 @@ use lib.ListN.{get_or, drop}
 use lib.Dec.{lit<}
 use borrow.Author.Tests.{eqb-false, ne_eqb, leb-true, le-leb}
 use Rattle.octets.specs.Octets.{octets16, octets32}
-use Rattle.laws.proofs.Says.{says_le, says_within}
+use Rattle.laws.proofs.Says.{says_eq, says_le, says_within}
 use Rattle.answers.specs.declared.Answer.{Answer}
 use Rattle.answers.specs.declared.Answer.TheVariants.{BadCoder}
 use Rattle.field_rules.specs.Field.{one, two, four, put, Sized, widths}
@@ -18,15 +18,16 @@ use Rattle.field_rules.proofs.Faults.{fault_here, past_mark, past_val, past_agai
 use Rattle.sheet_rules.specs.Sentences.{Listed}
 use Rattle.sheet_rules.proofs.New.{says_listed}
 use Rattle.segment_rules.specs.declared.Version.{Version}
+use Rattle.segment_rules.specs.declared.Version.TheVariants.{Base}
 use Rattle.segment_rules.specs.declared.Mode.{Mode}
 use Rattle.segment_rules.specs.declared.Mode.TheVariants.{One}
 use Rattle.segment_rules.specs.declared.Rules.{Rules}
-use Rattle.segment_rules.specs.Rules.{version_octet, mode_octet}
+use Rattle.segment_rules.specs.Rules.{mode1, version_octet, mode_octet}
 use Rattle.start_rules.specs.Coders.{mask_coder, image_coder}
-use Rattle.start_rules.specs.Grammar.{mark_of, IsVersion, IsMode, MaskCoder, ImageCoder}
+use Rattle.start_rules.specs.Grammar.{mark_of, MaskCoder, ImageCoder}
 use Rattle.start_rules.specs.Reading.{start_table}
 use Rattle.start_rules.specs.Faults.{up_to_mode, up_to_mask, BadStart, bad_soi, bad_marker, bad_length, bad_ident, wrong_length, bad_version, bad_mode, bad_mask, bad_image, bad_main, bad_width, bad_termination}
-use Rattle.start_rules.proofs.Rules.{says_version, says_mode, version_taken_lem, version_small, version_apart, says_mask, says_image, mask_small, image_small, listed_small}
+use Rattle.start_rules.proofs.Rules.{says_mask, says_image, mask_small, image_small, listed_small}
 use Rattle.start_rules.proofs.Start.{fixed}
 
 abbrev Six : ℕ → Type 0
@@ -34,9 +35,6 @@ Six size = 6 ≤ size
 
 abbrev Wide : ℕ → Type 0
 Wide w = (1 ≤ w) × (w ≤ 32768)
-
-abbrev of_mode1 : Version → Rules
-of_mode1 v = record { version = v; mode = One }
 
 -- ---- from the table to the sentences
 
@@ -55,24 +53,24 @@ faulted_start l x f =
     subst (BadStart (0xFF ∷ 0xD8 ∷ 0xFF ∷ 0xED ∷ octets16 size ++ (0x4D ∷ 0x52 ∷ 0x43 ∷ 0x00 ∷ l4))) (sym k.1) (wrong_length size l4 lo b3 (eqb-false size 16 k.0)))
     λ g4 l5 f5.
     fixed (λ (v : ℕ). BadStart (0xFF ∷ 0xD8 ∷ 0xFF ∷ 0xED ∷ octets16 v ++ (0x4D ∷ 0x52 ∷ 0x43 ∷ 0x00 ∷ l5)) x) 16 size g4
-    (fault_one (λ (l : List ℕ). BadStart (mark_of ++ l) x) f5 (λ b. bad_version l5 (broken_numbers (the IsVersion) (λ vs z. says_version (get_or vs 0 0)) b)) λ v l6 b6 g6 f6.
-    version_apart (λ (v : ℕ). BadStart (mark_of ++ (v ∷ l6)) x) v g6 λ w.
-    (fault_one (λ (l : List ℕ). BadStart (up_to_mode w l) x) f6 (λ b. bad_mode w l6 (broken_numbers (the IsMode) (λ vs z. says_mode (get_or vs 0 0)) b)) λ m l7 b7 g7 f7.
-    fixed (λ (m : ℕ). BadStart (up_to_mode w (m ∷ l7)) x) 1 m g7
-    (fault_one (λ (l : List ℕ). BadStart (up_to_mask (of_mode1 w) l) x) f7
-    (λ b. bad_mask (of_mode1 w) l7 (broken_numbers (the (MaskCoder One)) (λ vs z. says_mask One (get_or vs 0 0)) b)) λ mask l8 b8 g8 f8.
+    (fault_one (λ (l : List ℕ). BadStart (mark_of ++ l) x) f5 (λ b. bad_version l5 (broken_numbers (the (λ (v : ℕ). v ≡ 0)) (λ vs z. says_eq (get_or vs 0 0) 0) b)) λ v l6 b6 g6 f6.
+    fixed (λ (v : ℕ). BadStart (mark_of ++ (v ∷ l6)) x) 0 v g6
+    (fault_one (λ (l : List ℕ). BadStart (up_to_mode Base l) x) f6 (λ b. bad_mode Base l6 (broken_numbers (the (λ (m : ℕ). m ≡ 1)) (λ vs z. says_eq (get_or vs 0 0) 1) b)) λ m l7 b7 g7 f7.
+    fixed (λ (m : ℕ). BadStart (up_to_mode Base (m ∷ l7)) x) 1 m g7
+    (fault_one (λ (l : List ℕ). BadStart (up_to_mask mode1 l) x) f7
+    (λ b. bad_mask mode1 l7 (broken_numbers (the (MaskCoder One)) (λ vs z. says_mask One (get_or vs 0 0)) b)) λ mask l8 b8 g8 f8.
     let km = (says_mask One mask).told g8 in
-    fault_one (λ (l : List ℕ). BadStart (up_to_mask (of_mode1 w) (mask ∷ l)) x) f8
-    (λ b. bad_image (of_mode1 w) mask l8 km (broken_numbers (the (ImageCoder One)) (λ vs z. says_image One (get_or vs 0 0)) b)) λ image l9 b9 g9 f9.
+    fault_one (λ (l : List ℕ). BadStart (up_to_mask mode1 (mask ∷ l)) x) f8
+    (λ b. bad_image mode1 mask l8 km (broken_numbers (the (ImageCoder One)) (λ vs z. says_image One (get_or vs 0 0)) b)) λ image l9 b9 g9 f9.
     let ki = (says_image One image).told g9 in
-    fault_one (λ (l : List ℕ). BadStart (up_to_mask (of_mode1 w) (mask ∷ image ∷ l)) x) f9
-    (λ b. bad_main (of_mode1 w) mask image l9 km ki (broken_numbers (the Listed) (λ vs z. says_listed (get_or vs 0 0)) b)) λ main l10 b10 g10 f10.
+    fault_one (λ (l : List ℕ). BadStart (up_to_mask mode1 (mask ∷ image ∷ l)) x) f9
+    (λ b. bad_main mode1 mask image l9 km ki (broken_numbers (the Listed) (λ vs z. says_listed (get_or vs 0 0)) b)) λ main l10 b10 g10 f10.
     let kr = (says_listed main).told g10 in
-    fault_one (λ (l : List ℕ). BadStart (up_to_mask (of_mode1 w) (mask ∷ image ∷ octets16 main ++ l)) x) f10
-    (λ b. bad_width (of_mode1 w) mask image main l10 km ki kr (broken_numbers (the Wide) (λ vs z. says_within 1 32768 (get_or vs 0 0)) b)) λ width l11 b11 g11 f11.
-    fault_mark (λ (l : List ℕ). BadStart (up_to_mask (of_mode1 w) (mask ∷ image ∷ octets16 main ++ (octets32 width ++ l))) x) f11
+    fault_one (λ (l : List ℕ). BadStart (up_to_mask mode1 (mask ∷ image ∷ octets16 main ++ l)) x) f10
+    (λ b. bad_width mode1 mask image main l10 km ki kr (broken_numbers (the Wide) (λ vs z. says_within 1 32768 (get_or vs 0 0)) b)) λ width l11 b11 g11 f11.
+    fault_mark (λ (l : List ℕ). BadStart (up_to_mask mode1 (mask ∷ image ∷ octets16 main ++ (octets32 width ++ l))) x) f11
     (λ b.
-    bad_termination (record { rules = of_mode1 w; mask = mask; image = image; main = main; width = width }) l11
+    bad_termination (record { rules = mode1; mask = mask; image = image; main = main; width = width }) l11
     (record { mask = km; image = ki; main = kr; width = (says_within 1 32768 width).told g11 }) (broken_mark b))
     λ l12 f12. absurd (none_at_fault f12))))
 
@@ -89,7 +87,7 @@ module _ {l : List ℕ} {x : Answer} where
 
 behind_version : {l : List ℕ} {x : Answer} (v : Version) → Faulted (drop 6 start_table) (16 ∷ version_octet v ∷ []) 11 l x → Faulted start_table [] 0 (up_to_mode v l) x
 unfolding start_table octets16 put widths Sized
-behind_version v f = behind_mark (past_val {ws = one ∷ []} (version_octet v ∷ []) (version_small v, tt) (version_taken_lem v) f)
+behind_version Base f = behind_mark (past_val {ws = one ∷ []} (0 ∷ []) (lit< tt, tt) refl f)
 
 behind_mode : {l : List ℕ} {x : Answer} (v : Version) (m : Mode) → Faulted (drop 7 start_table) (16 ∷ version_octet v ∷ mode_octet m ∷ []) 12 l x
     → Faulted start_table [] 0 (up_to_mode v (mode_octet m ∷ l)) x
@@ -130,8 +128,8 @@ start_faulted l x (bad_marker rest b) = past_mark (fault_here (mark_broken b))
 start_faulted l x (bad_length rest b) = past_mark (past_mark (fault_here (numbers_broken (the Six) (λ vs z. says_le 6 (get_or vs 0 0)) b)))
 start_faulted l x (bad_ident size rest lo hi b) = behind_length size lo hi (fault_here (mark_broken b))
 start_faulted l x (wrong_length size rest lo hi d) = behind_length size lo hi (past_mark (fault_here (late (ne_eqb size 16 d))))
-start_faulted l x (bad_version rest b) = behind_mark (fault_here (numbers_broken (the IsVersion) (λ vs z. says_version (get_or vs 0 0)) b))
-start_faulted l x (bad_mode v rest b) = behind_version v (fault_here (numbers_broken (the IsMode) (λ vs z. says_mode (get_or vs 0 0)) b))
+start_faulted l x (bad_version rest b) = behind_mark (fault_here (numbers_broken (the (λ (v : ℕ). v ≡ 0)) (λ vs z. says_eq (get_or vs 0 0) 0) b))
+start_faulted l x (bad_mode v rest b) = behind_version v (fault_here (numbers_broken (the (λ (m : ℕ). m ≡ 1)) (λ vs z. says_eq (get_or vs 0 0) 1) b))
 start_faulted l x (bad_mask r rest b) =
     behind_mode r.version r.mode
     (fault_here (numbers_broken (the (MaskCoder One)) (λ vs z. says_mask One (get_or vs 0 0)) (by_mode (λ (m : Mode). BadNumbers (one ∷ []) (the (MaskCoder m)) BadCoder 12 rest x → BadNumbers (one ∷ []) (the (MaskCoder One)) BadCoder 12 rest x) (λ z. z) r.mode b)))

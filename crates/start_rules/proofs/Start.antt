@@ -2,7 +2,7 @@
 -- Assumes nothing.
 use Prim.Native.Nat.{ℕ}
 use native.Mathlib.Omega.{arith}
-use mathlib.Core.Path.{◌≡◌, refl, sym, ap, subst}
+use mathlib.Core.Path.{◌≡◌, refl, sym, subst}
 use mathlib.Core.Bool.{true}
 use mathlib.Core.List.{List, [], ◌∷◌, ◌++◌}
 use lib.ListN.{length}
@@ -15,41 +15,54 @@ use Rattle.field_rules.specs.Stands.{Stands, at_end, marked, valued, held}
 use Rattle.field_rules.proofs.Laws.{end_apart, mark_apart, again_apart, one_apart}
 use Rattle.sheet_rules.proofs.New.{says_listed}
 use Rattle.segment_rules.specs.declared.Version.{Version}
+use Rattle.segment_rules.specs.declared.Version.TheVariants.{Base}
 use Rattle.segment_rules.specs.declared.Mode.{Mode}
 use Rattle.segment_rules.specs.declared.Mode.TheVariants.{One}
 use Rattle.segment_rules.specs.declared.Rules.{Rules}
-use Rattle.segment_rules.specs.Rules.{version_octet, mode_octet}
+use Rattle.segment_rules.specs.Rules.{mode1, version_octet, mode_octet}
 use Rattle.start_rules.specs.declared.Head.{Head}
 use Rattle.start_rules.specs.Grammar.{start_of, GoodHead}
 use Rattle.start_rules.specs.Reading.{start_table, head_from}
-use Rattle.start_rules.proofs.Rules.{version_taken_lem, version_small, version_apart, rules_from_lem, says_mask, says_image, mask_small, image_small, listed_small}
+use Rattle.start_rules.proofs.Rules.{says_mask, says_image, mask_small, image_small, listed_small}
 
 pub length_start : (hd : Head) → length (start_of hd) ≡ 22
 unfolding start_of octets16 octets32
 length_start hd = refl
 
+-- for now there are no other rules
+rules_by : (v : Version) (m : Mode) → ◌≡◌ {A = Rules} (record { version = v; mode = m }) mode1
+rules_by Base One = refl
+
+pub only_mode1 : (r : Rules) → r ≡ mode1
+only_mode1 r = rules_by r.version r.mode
+
 abbrev pub start_numbers : Head → List ℕ
 start_numbers hd = 16 ∷ version_octet hd.rules.version ∷ mode_octet hd.rules.mode ∷ hd.mask ∷ hd.image ∷ hd.main ∷ hd.width ∷ []
 
+-- a head of these rules is as any other
+in_rules : (P : Head → Type 0) (hd : Head) → ((mask image main width : ℕ) → P (record { rules = mode1; mask = mask; image = image; main = main; width = width })) → P hd
+in_rules P hd go =
+    subst (λ (r : Rules). P (record { rules = r; mask = hd.mask; image = hd.image; main = hd.main; width = hd.width })) (sym (only_mode1 hd.rules))
+    (go hd.mask hd.image hd.main hd.width)
+
 pub head_from_lem : (hd : Head) → head_from (start_numbers hd) ≡ hd
-head_from_lem hd =
-    ap (λ (r : Rules). record { rules = r; mask = hd.mask; image = hd.image; main = hd.main; width = hd.width }) (rules_from_lem hd.rules)
+head_from_lem hd = in_rules (λ (h : Head). head_from (start_numbers h) ≡ h) hd (λ mask image main width. refl)
 
--- in Mode 1, the only one for now
-abbrev in_mode1 : Version → ℕ → ℕ → ℕ → ℕ → Head
-in_mode1 v mask image main width = record { rules = record { version = v; mode = One }; mask = mask; image = image; main = main; width = width }
+-- in the rules that there are
+abbrev of_mode1 : ℕ → ℕ → ℕ → ℕ → Head
+of_mode1 mask image main width = record { rules = mode1; mask = mask; image = image; main = main; width = width }
 
-stands_by : (v : Version) (mask image main width : ℕ) → GoodHead (in_mode1 v mask image main width)
-    → Stands start_table [] (16 ∷ version_octet v ∷ 1 ∷ mask ∷ image ∷ main ∷ width ∷ []) (start_of (in_mode1 v mask image main width))
+stands_by : (mask image main width : ℕ) → GoodHead (of_mode1 mask image main width)
+    → Stands start_table [] (16 ∷ 0 ∷ 1 ∷ mask ∷ image ∷ main ∷ width ∷ []) (start_of (of_mode1 mask image main width))
 unfolding start_table start_of octets16 octets32 put Sized
-stands_by v mask image main width g =
+stands_by mask image main width g =
     let w = g.width in
     marked
     (marked
     (valued {ws = two ∷ []} (16 ∷ []) (lit< tt, tt) refl
     (marked
     (held refl
-    (valued {ws = one ∷ []} (version_octet v ∷ []) (version_small v, tt) (version_taken_lem v)
+    (valued {ws = one ∷ []} (0 ∷ []) (lit< tt, tt) refl
     (valued {ws = one ∷ []} (1 ∷ []) (lit< tt, tt) refl
     (valued {ws = one ∷ []} (mask ∷ []) (mask_small One mask g.mask, tt) ((says_mask One mask).shown g.mask)
     (valued {ws = one ∷ []} (image ∷ []) (image_small One image g.image, tt) ((says_image One image).shown g.image)
@@ -57,15 +70,8 @@ stands_by v mask image main width g =
     (valued {ws = four ∷ []} (width ∷ []) (omega arith, tt) ((says_and (says_le 1 width) (says_le width 32768)).shown w)
     (marked at_end)))))))))))
 
--- the head in another mode
-abbrev moded : Head → Mode → Head
-moded hd m = record { rules = record { version = hd.rules.version; mode = m }; mask = hd.mask; image = hd.image; main = hd.main; width = hd.width }
-
 pub start_stands : (hd : Head) → GoodHead hd → Stands start_table [] (start_numbers hd) (start_of hd)
-start_stands hd = by hd.rules.mode
-  where
-    by : (m : Mode) → GoodHead (moded hd m) → Stands start_table [] (start_numbers (moded hd m)) (start_of (moded hd m))
-    by One = stands_by hd.rules.version hd.mask hd.image hd.main hd.width
+start_stands hd = in_rules (λ (h : Head). GoodHead h → Stands start_table [] (start_numbers h) (start_of h)) hd stands_by
 
 -- a number that is held to one value
 pub fixed : (Q : ℕ → Type 0) (n v : ℕ) → eqb v n ≡ true → Q n → Q v
@@ -88,7 +94,7 @@ start_apart P {out} st go =
     mark_apart (λ x. P out (0xFF ∷ 0xD8 ∷ 0xFF ∷ 0xED ∷ octets16 size ++ (0x4D ∷ 0x52 ∷ 0x43 ∷ 0x00 ∷ version ∷ mode ∷ mask ∷ image ∷ octets16 main ++ (octets32 width ++ x)))) st11 λ l12 st12.
     end_apart (λ o x. P o (0xFF ∷ 0xD8 ∷ 0xFF ∷ 0xED ∷ octets16 size ++ (0x4D ∷ 0x52 ∷ 0x43 ∷ 0x00 ∷ version ∷ mode ∷ mask ∷ image ∷ octets16 main ++ (octets32 width ++ (0xFF ∷ 0xD9 ∷ x))))) st12
     (fixed (λ v. P (v ∷ version ∷ mode ∷ mask ∷ image ∷ main ∷ width ∷ []) (0xFF ∷ 0xD8 ∷ 0xFF ∷ 0xED ∷ octets16 v ++ (0x4D ∷ 0x52 ∷ 0x43 ∷ 0x00 ∷ version ∷ mode ∷ mask ∷ image ∷ octets16 main ++ (octets32 width ++ (0xFF ∷ 0xD9 ∷ []))))) 16 size g4
-    (version_apart (λ v. P (16 ∷ v ∷ mode ∷ mask ∷ image ∷ main ∷ width ∷ []) (0xFF ∷ 0xD8 ∷ 0xFF ∷ 0xED ∷ 0x00 ∷ 0x10 ∷ 0x4D ∷ 0x52 ∷ 0x43 ∷ 0x00 ∷ v ∷ mode ∷ mask ∷ image ∷ octets16 main ++ (octets32 width ++ (0xFF ∷ 0xD9 ∷ [])))) version g6 λ w.
-    (fixed (λ v. P (16 ∷ version_octet w ∷ v ∷ mask ∷ image ∷ main ∷ width ∷ []) (0xFF ∷ 0xD8 ∷ 0xFF ∷ 0xED ∷ 0x00 ∷ 0x10 ∷ 0x4D ∷ 0x52 ∷ 0x43 ∷ 0x00 ∷ version_octet w ∷ v ∷ mask ∷ image ∷ octets16 main ++ (octets32 width ++ (0xFF ∷ 0xD9 ∷ [])))) 1 mode g7
-    (go (in_mode1 w mask image main width)
+    (fixed (λ v. P (16 ∷ v ∷ mode ∷ mask ∷ image ∷ main ∷ width ∷ []) (0xFF ∷ 0xD8 ∷ 0xFF ∷ 0xED ∷ 0x00 ∷ 0x10 ∷ 0x4D ∷ 0x52 ∷ 0x43 ∷ 0x00 ∷ v ∷ mode ∷ mask ∷ image ∷ octets16 main ++ (octets32 width ++ (0xFF ∷ 0xD9 ∷ [])))) 0 version g6
+    (fixed (λ v. P (16 ∷ 0 ∷ v ∷ mask ∷ image ∷ main ∷ width ∷ []) (0xFF ∷ 0xD8 ∷ 0xFF ∷ 0xED ∷ 0x00 ∷ 0x10 ∷ 0x4D ∷ 0x52 ∷ 0x43 ∷ 0x00 ∷ 0x00 ∷ v ∷ mask ∷ image ∷ octets16 main ++ (octets32 width ++ (0xFF ∷ 0xD9 ∷ [])))) 1 mode g7
+    (go (of_mode1 mask image main width)
     (record { mask = (says_mask One mask).told g8; image = (says_image One image).told g9; main = (says_listed main).told g10; width = (says_and (says_le 1 width) (says_le width 32768)).told g11 })))))

@@ -1,6 +1,6 @@
 -- When the start of page is refused, with which number and where (01, "Numbers that a call returns"): the fields in front stand there, and the next one is
 -- cut short, or is there and is not as it must be. No step of the reading is in it.
-use Rattle.std.specs.Prelude.{ℕ, ◌≤◌, ◌<◌, ◌≢◌, List, [], ◌∷◌, ◌++◌}
+use Rattle.std.specs.Prelude.{ℕ, ◌≤◌, ◌<◌, ◌≡◌, ◌≢◌, List, [], ◌∷◌, ◌++◌}
 use Rattle.octets.specs.Octets.{octets16, octets32}
 use Rattle.answers.specs.declared.Answer.{Answer}
 use Rattle.answers.specs.declared.Answer.TheVariants.{BadMark, BadLength, BadVersion, BadMode, BadCoder, BadRes, BadWidth}
@@ -11,7 +11,7 @@ use Rattle.segment_rules.specs.declared.Version.{Version}
 use Rattle.segment_rules.specs.declared.Rules.{Rules}
 use Rattle.segment_rules.specs.Rules.{version_octet, mode_octet}
 use Rattle.start_rules.specs.declared.Head.{Head}
-use Rattle.start_rules.specs.Grammar.{mark_of, IsVersion, IsMode, MaskCoder, ImageCoder, GoodHead}
+use Rattle.start_rules.specs.Grammar.{mark_of, MaskCoder, ImageCoder, GoodHead}
 
 -- the octets up to each field
 abbrev pub up_to_mode : Version → List ℕ → List ℕ
@@ -33,8 +33,8 @@ pub data BadStart : List ℕ → Answer → Type 0 where
   -- a length other than 16, judged behind the ident
   wrong_length : (size : ℕ) (rest : List ℕ) → 6 ≤ size → size < 65536 → size ≢ 16
       → BadStart (0xFF ∷ 0xD8 ∷ 0xFF ∷ 0xED ∷ octets16 size ++ (0x4D ∷ 0x52 ∷ 0x43 ∷ 0x00 ∷ rest)) (BadLength 4)
-  bad_version : {x : Answer} (rest : List ℕ) → BadNumbers (one ∷ []) (the IsVersion) BadVersion 10 rest x → BadStart (mark_of ++ rest) x
-  bad_mode : {x : Answer} (v : Version) (rest : List ℕ) → BadNumbers (one ∷ []) (the IsMode) BadMode 11 rest x → BadStart (up_to_mode v rest) x
+  bad_version : {x : Answer} (rest : List ℕ) → BadNumbers (one ∷ []) (the (λ (v : ℕ). v ≡ 0)) BadVersion 10 rest x → BadStart (mark_of ++ rest) x
+  bad_mode : {x : Answer} (v : Version) (rest : List ℕ) → BadNumbers (one ∷ []) (the (λ (m : ℕ). m ≡ 1)) BadMode 11 rest x → BadStart (up_to_mode v rest) x
   bad_mask : {x : Answer} (r : Rules) (rest : List ℕ) → BadNumbers (one ∷ []) (the (MaskCoder r.mode)) BadCoder 12 rest x → BadStart (up_to_mask r rest) x
   bad_image : {x : Answer} (r : Rules) (mask : ℕ) (rest : List ℕ) → MaskCoder r.mode mask
       → BadNumbers (one ∷ []) (the (ImageCoder r.mode)) BadCoder 13 rest x → BadStart (up_to_mask r (mask ∷ rest)) x

@@ -3,7 +3,6 @@
 --
 --   mark_of               FF D8, the marker, length 16 and the ident
 --   start_of hd           the whole
---   IsVersion, IsMode   the numbers that name a version and a mode
 --   MaskCoder, ImageCoder, GoodHead   what may be said there
 --   Start l hd           the octets l are a start of page that says hd
 use Rattle.std.specs.Prelude.{ℕ, ◌≤◌, ◌≡◌, ◌⊎◌, List, [], ◌∷◌, ◌++◌}
@@ -23,14 +22,7 @@ start_of hd =
     ++ (version_octet hd.rules.version ∷ mode_octet hd.rules.mode ∷ hd.mask ∷ hd.image
     ∷ octets16 hd.main ++ (octets32 hd.width ++ (0xFF ∷ 0xD9 ∷ [])))
 
--- versions 00 and 01, Mode 1
-abbrev pub IsVersion : ℕ → Type 0
-IsVersion v = (v ≡ 0) ⊎ (v ≡ 1)
-
-abbrev pub IsMode : ℕ → Type 0
-IsMode m = m ≡ 1
-
--- of Mode 1: one coder or none; the new coders of version 01 need another mode
+-- of Mode 1: one coder or none
 abbrev pub MaskCoder : Mode → ℕ → Type 0
 MaskCoder One c = (c ≡ 0) ⊎ (c ≡ 1) ⊎ (c ≡ 2) ⊎ (c ≡ 4) ⊎ (c ≡ 8)
 

@@ -1,36 +1,32 @@
 -- Reading the start of page (01, "The page, Mode 1" and "Numbers that a call returns"), field by field.
 --
---   version_taken, mode_taken   a number that names a version or a mode that is taken; version_from, mode_from: which; rules_from: both
+--   version_taken, mode_taken   an octet that names a version or a mode that is taken; version_from, mode_from: which
 --   start_table         the start of page segment and the termination; length_in, version_in, mode_in: the first numbers read
 --   head_from           what its numbers say: length, version, mode, the two coders, resolution, width
 --   start_read s at     the start of page at a place
-use Rattle.std.specs.Prelude.{ℕ, Bool, cond, List, [], ◌∷◌, get_or, eqb, leb}
+use Rattle.std.specs.Prelude.{ℕ, Bool, List, [], ◌∷◌, get_or, eqb, leb}
 use Rattle.laws.specs.Tests.{within}
 use Rattle.answers.specs.declared.Answer.TheVariants.{BadMark, BadLength, BadVersion, BadMode, BadCoder, BadRes, BadWidth}
 use Rattle.field_rules.specs.Field.{Res, ok, bind, one, two, four, Field, mark, val, again, fields, is}
 use Rattle.sheet_rules.specs.Judge.{listed}
 use Rattle.segment_rules.specs.declared.Version.{Version}
-use Rattle.segment_rules.specs.declared.Version.TheVariants.{Base, Amended}
+use Rattle.segment_rules.specs.declared.Version.TheVariants.{Base}
 use Rattle.segment_rules.specs.declared.Mode.{Mode}
 use Rattle.segment_rules.specs.declared.Mode.TheVariants.{One}
-use Rattle.segment_rules.specs.declared.Rules.{Rules}
 use Rattle.start_rules.specs.declared.Head.{Head}
 use Rattle.start_rules.specs.Coders.{mask_coder, image_coder}
 
 abbrev pub version_taken : ℕ → Bool
-version_taken v = leb v 1
+version_taken v = eqb v 0
 
 abbrev pub mode_taken : ℕ → Bool
 mode_taken m = eqb m 1
 
 abbrev pub version_from : ℕ → Version
-version_from v = cond (eqb v 1) Amended Base
+version_from v = Base
 
 abbrev pub mode_from : ℕ → Mode
 mode_from m = One
-
-abbrev pub rules_from : ℕ → ℕ → Rules
-rules_from version mode = record { version = version_from version; mode = mode_from mode }
 
 abbrev pub length_in : List ℕ → ℕ
 length_in vs = get_or vs 0 0
@@ -61,7 +57,7 @@ start_table =
 abbrev pub head_from : List ℕ → Head
 head_from vs =
     record {
-      rules = rules_from (version_in vs) (mode_in vs);
+      rules = record { version = version_from (version_in vs); mode = mode_from (mode_in vs) };
       mask = get_or vs 3 0;
       image = get_or vs 4 0;
       main = get_or vs 5 0;

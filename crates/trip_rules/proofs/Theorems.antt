@@ -4,7 +4,7 @@ use Prim.Native.Nat.{ℕ, ◌+◌, ◌*◌, ◌/◌, ◌≤◌, ◌<◌}
 use native.Mathlib.Omega.{arith}
 use mathlib.Core.Path.{◌≡◌, sym, ap, ap₂, subst, ◌∙◌}
 use mathlib.Core.List.{List, ◌++◌, map}
-use lib.ListN.{length, get_or, take, drop, take-append-drop, length-take}
+use lib.ListN.{length, take, drop, take-append-drop, length-take}
 use Rattle.octets.specs.Octets.{Octets, be32_at, put_at}
 use Rattle.octets.proofs.Laws.{put_back, put_rest}
 use Rattle.octets.proofs.Entries.{joined_length}
@@ -14,7 +14,6 @@ use Rattle.answers.specs.Answers.{number_of, place_of, count_of}
 use Rattle.answers_report.specs.declared.Report.{Report}
 use Rattle.answers_report.specs.Report.{report_of}
 use Rattle.field_rules.specs.Field.{ok}
-use Rattle.segment_rules.specs.declared.Rules.{Rules}
 use Rattle.segment_rules.specs.Rules.{longest_page}
 use Rattle.sheet_rules.specs.declared.Record.{Record}
 use Rattle.sheet_rules.specs.Record.{record_size, record_at, sheet_of, records}
@@ -24,16 +23,14 @@ use Rattle.page_rules.proofs.Exactly.{page_there}
 use Rattle.page_rules.proofs.Theorems.{page_once, read_done}
 use Rattle.page_rules.proofs.Into.{Front, page_into}
 use Rattle.write_rules.specs.Layer.{layer_octets}
-use Rattle.write_rules.specs.Writing.{write_of, write_into, write_as, write_as_into}
+use Rattle.write_rules.specs.Writing.{write_of, write_into}
 use Rattle.write_rules.specs.Form.{bare, Formed}
 use Rattle.write_rules.proofs.Into.{done_into}
-use Rattle.write_rules.proofs.Asked.{AsRules, taken_as, done_as}
-use Rattle.write_again.proofs.Trips.{page_taken}
 use Rattle.write_again.proofs.Theorems.{formed_again, Again, read_write_read}
-use Rattle.call_rules.specs.Calls.{ReadCall, WriteCall, WriteAsCall}
+use Rattle.call_rules.specs.Calls.{ReadCall, WriteCall}
 use Rattle.call_rules.proofs.Reports.{report_done}
 use Rattle.call_rules.proofs.Reading.{read_front}
-use Rattle.call_rules.proofs.Writing.{asked_answered, asked_front, write_is_as}
+use Rattle.call_rules.proofs.Writing.{written_front}
 use Rattle.trip_rules.specs.Trips.{SameButStarts, SameLayers, Returned, Restored}
 use Rattle.trip_rules.proofs.Sheets.{same_count, sheets_same, layers_same}
 
@@ -66,26 +63,18 @@ returned s d p rs qs n is read short same layers buf q buf' c room =
           (subst (λ (x : List ℕ). SameLayers x d (sheet_of qs) p) is (layers_same rs qs same d p layers));
     }
 
--- ---- what was written, in whatever version and mode, and is read back is the sheet that was lent, octet for octet but for octets 18 to 21 of coded
--- records, with the same layers
-
-pub asked_read : (s d : List ℕ) (v m : ℕ) (out : List ℕ) (r : Report) (out' : List ℕ) → WriteAsCall s d v m out r out' → Octets s → Octets d → r.number ≡ 0
-    → (buf : List ℕ) (q : Report) (buf' : List ℕ) → ReadCall (take r.count out') buf q buf' → length s ≤ length buf
-    → Returned s d (take r.count out') q (take (length s) buf')
-asked_read s d v m out r out' w os od z buf q buf' c room =
-    let e = asked_answered s d v m out r out' w od z in
-    let a = done_as s d od v m out r.count e in
-    let i = done_into a.rules s d out od r.count (sym a.answers ∙ e) in
-    let k = asked_front s d v m out r out' w od z os in
-    let l = length-take r.count out' in
-    let h = i.short in
-    returned s d (take r.count out') (records s) k.records (length (take r.count out')) (sheet_octets s os i.accepted.whole)
-    (page_there (take r.count out') k.records k.page) (omega arith) k.same k.layers buf q buf' c room
+-- ---- what was written and is read back is the sheet that was lent, octet for octet but for octets 18 to 21 of coded records, with the same layers
 
 pub written_read : (s d out : List ℕ) (r : Report) (out' : List ℕ) → WriteCall s d out r out' → Octets s → Octets d → r.number ≡ 0
     → (buf : List ℕ) (q : Report) (buf' : List ℕ) → ReadCall (take r.count out') buf q buf' → length s ≤ length buf
     → Returned s d (take r.count out') q (take (length s) buf')
-written_read s d out r out' w = asked_read s d 0 1 out r out' ((write_is_as s d out r out').0 w)
+written_read s d out r out' w os od z buf q buf' c room =
+    let i = done_into s d out od r.count (report_done (write_of s d (length out)) r w.reports z) in
+    let k = written_front s d out r out' w os od z in
+    let l = length-take r.count out' in
+    let h = i.short in
+    returned s d (take r.count out') (records s) k.records (length (take r.count out')) (sheet_octets s os i.accepted.whole)
+    (page_there (take r.count out') k.records k.page) (omega arith) k.same k.layers buf q buf' c room
 
 -- ---- a page that was read, and its sheet and itself lent to the writer
 
@@ -99,31 +88,21 @@ module _ (p buf : List ℕ) (r : Report) (buf' : List ℕ) (c : ReadCall p buf r
   short : length p ≤ longest_page
   short = ((read_done p o (length buf) r.count).0 answered).short
 
-  -- its octets 10 and 11 are a version and a mode that are taken
-  pub read_taken : (get_or p 10 0 ≤ 1) × (get_or p 11 0 ≡ 1)
-  read_taken = page_taken p front.list front.page
-
-  -- asked for a version, and for its own mode
-  module _ (v : ℕ) (few : v ≤ 1) (out : List ℕ) (w : Report) (out' : List ℕ) (k : WriteAsCall (take (r.count * record_size) buf') p v (get_or p 11 0) out w out')
+  module _ (out : List ℕ) (w : Report) (out' : List ℕ) (k : WriteCall (take (r.count * record_size) buf') p out w out')
       (fits : length p ≤ length out) where
-    by_rules : (s : List ℕ) → AsRules s p v (get_or p 11 0) out
-    by_rules s = taken_as s p v (get_or p 11 0) out few read_taken.1
-
-    reported : (rs : List Record) → take (r.count * record_size) buf' ≡ sheet_of rs → (n : ℕ) → write_of (by_rules (sheet_of rs)).rules (sheet_of rs) p (length out) ≡ Done n
-        → w ≡ done n
+    reported : (rs : List Record) → take (r.count * record_size) buf' ≡ sheet_of rs → (n : ℕ) → write_of (sheet_of rs) p (length out) ≡ Done n → w ≡ done n
     reported rs e n d =
-        reports_done (write_as (take (r.count * record_size) buf') p v (get_or p 11 0) (length out)) w n k.reports
-        (ap (λ (s : List ℕ). write_as s p v (get_or p 11 0) (length out)) e ∙ (by_rules (sheet_of rs)).answers ∙ d)
+        reports_done (write_of (take (r.count * record_size) buf') p (length out)) w n k.reports
+        (ap (λ (s : List ℕ). write_of s p (length out)) e ∙ d)
 
-    held : (rs : List Record) → take (r.count * record_size) buf' ≡ sheet_of rs → out' ≡ write_into (by_rules (sheet_of rs)).rules (sheet_of rs) p out
-    held rs e = k.holds ∙ ap (λ (s : List ℕ). write_as_into s p v (get_or p 11 0) out) e ∙ (by_rules (sheet_of rs)).holds
+    held : (rs : List Record) → take (r.count * record_size) buf' ≡ sheet_of rs → out' ≡ write_into (sheet_of rs) p out
+    held rs e = k.holds ∙ ap (λ (s : List ℕ). write_into s p out) e
 
-    -- for its own version, in the writer's form it comes back octet for octet
-    pub formed_restored : v ≡ get_or p 10 0 → (rs : List Record) → Formed p rs → Restored p w out out'
-    formed_restored own rs f =
+    -- in the writer's form it comes back octet for octet
+    pub formed_restored : (rs : List Record) → Formed p rs → Restored p w out out'
+    formed_restored rs f =
         let e = front.octets ∙ ap sheet_of (page_once p front.list rs front.page f.page) in
-        let b = by_rules (sheet_of rs) in
-        let a = formed_again p o rs f short b.rules (b.version_is ∙ own) b.mode_is out fits in
+        let a = formed_again p o rs f short out fits in
         let g : out' ≡ put_at out 0 p = held rs e ∙ a.1 in
         let n : 0 + length p ≡ length p = omega arith in
         record {
@@ -132,12 +111,8 @@ module _ (p buf : List ℕ) (r : Report) (buf' : List ℕ) (c : ReadCall p buf r
           behind = ap₂ (λ (j : ℕ) (x : List ℕ). drop j x) (sym n) g ∙ put_rest out 0 p (omega arith) ∙ ap (λ (j : ℕ). drop j out) n;
         }
 
-    abbrev used : Rules
-    used = (by_rules (sheet_of front.list)).rules
-
-    again : Again used p front.list out
-    again =
-        read_write_read p o front.list (length p) (page_there p front.list front.page) short used (by_rules (sheet_of front.list)).mode_is out fits
+    again : Again p front.list out
+    again = read_write_read p o front.list (length p) (page_there p front.list front.page) short out fits
 
     reported_again : w ≡ done again.count
     reported_again = reported front.list front.octets again.count again.done
@@ -153,7 +128,7 @@ module _ (p buf : List ℕ) (r : Report) (buf' : List ℕ) (c : ReadCall p buf r
     pub read_again : (lent : List ℕ) (q : Report) (lent' : List ℕ) → ReadCall (take w.count out') lent q lent' → r.count * record_size ≤ length lent
         → (q ≡ r) × Returned (take (r.count * record_size) buf') p (take w.count out') q (take (r.count * record_size) lent')
     read_again lent q lent' y room =
-        let g : take w.count out' ≡ take again.count (write_into used (sheet_of front.list) p out) =
+        let g : take w.count out' ≡ take again.count (write_into (sheet_of front.list) p out) =
         ap₂ (λ (j : ℕ) (x : List ℕ). take j x) count_again (held front.list front.octets) in
         let a = ap length front.octets in
         let b = joined_length record_entry front.list in
@@ -170,26 +145,6 @@ module _ (p buf : List ℕ) (r : Report) (buf' : List ℕ) (c : ReadCall p buf r
           back.report ∙ ap done h ∙ sym (reports_done (read_of p (length buf)) r r.count c.reports answered),
           subst (λ (j : ℕ). Returned (take (r.count * record_size) buf') p (take w.count out') q (take j lent')) l back,
         )
-
--- ---- the same of the call that is told neither: every page that is read is written so, as one of version 00
-
-module _ (p buf : List ℕ) (r : Report) (buf' : List ℕ) (c : ReadCall p buf r buf') (o : Octets p) (z : r.number ≡ 0)
-    (out : List ℕ) (w : Report) (out' : List ℕ) (k : WriteCall (take (r.count * record_size) buf') p out w out') (fits : length p ≤ length out) where
-  asked : WriteAsCall (take (r.count * record_size) buf') p 0 (get_or p 11 0) out w out'
-  asked =
-      subst (λ (m : ℕ). WriteAsCall (take (r.count * record_size) buf') p 0 m out w out') (sym (read_taken p buf r buf' c o z).1)
-      ((write_is_as (take (r.count * record_size) buf') p out w out').0 k)
-
-  -- one of version 00 in the writer's form comes back octet for octet
-  pub formed_restored_00 : get_or p 10 0 ≡ 0 → (rs : List Record) → Formed p rs → Restored p w out out'
-  formed_restored_00 base = formed_restored p buf r buf' c o z 0 (omega arith) out w out' asked fits (sym base)
-
-  pub read_written_00 : (w ≡ record { number = 0; place = 0; count = w.count }) × (w.count ≤ length p)
-  read_written_00 = read_written p buf r buf' c o z 0 (omega arith) out w out' asked fits
-
-  pub read_again_00 : (lent : List ℕ) (q : Report) (lent' : List ℕ) → ReadCall (take w.count out') lent q lent' → r.count * record_size ≤ length lent
-      → (q ≡ r) × Returned (take (r.count * record_size) buf') p (take w.count out') q (take (r.count * record_size) lent')
-  read_again_00 = read_again p buf r buf' c o z 0 (omega arith) out w out' asked fits
 
 -- ---- what is said of a page that comes back leaves nothing open: the report, and each octet of the buffer
 

@@ -10,6 +10,9 @@ use Rattle.octets.specs.Entries.{joined}
 use Rattle.laws.proofs.Says.{says_eq, says_else}
 use Rattle.segment_rules.specs.declared.Mode.{Mode}
 use Rattle.segment_rules.specs.declared.Mode.TheVariants.{One}
+use Rattle.segment_rules.specs.declared.Rules.{Rules}
+use Rattle.start_rules.proofs.Start.{only_mode1}
+use Rattle.segment_rules.specs.Rules.{mode1}
 use Rattle.sheet_rules.specs.declared.Record.{Record}
 use Rattle.sheet_rules.specs.Sentences.{Among}
 use Rattle.start_rules.specs.declared.Head.{Head}
@@ -38,7 +41,7 @@ stripes_again (last some) t s tail e h = refl
 stripes_again {hd} {at = at} (next {l = l} {more = more} {rs = rs} {sr = sr} height few z rest) t s tail e h =
     let o = stripes_onward s at l more tail e h in
     ap (joined (stripe_by hd.rules.mode s)) (stripes_front (stripe_opened z) rest)
-    ∙ ap₂ (λ (x y : List ℕ). x ++ y) (stripe_again z t.0 t.1 s (more ++ tail) o.here) (stripes_again rest t.2 s tail o.further o.within)
+    ∙ ap₂ (λ (x y : List ℕ). x ++ y) (stripe_again z t.0 s (more ++ tail) o.here) (stripes_again rest t.1 s tail o.further o.within)
 
 -- ---- the start of page
 
@@ -52,8 +55,8 @@ image_one : (m : Mode) (c : ℕ) → ImageCoder m c → c ≢ 0 → c ≡ 1
 image_one One c (inl e) n = absurd (n e)
 image_one One c (inr e) n = e
 
-module _ (s : List ℕ) (rs : List Record) (f : Formed s rs) (u : Tally) (p : Passed f.page.head.rules.mode s (sheet_main rs) begun u rs) where
-  lent : (r : Record) → Among r rs → Lent f.page.head.rules.mode f.page.head r
+module _ (s : List ℕ) (rs : List Record) (f : Formed s rs) (u : Tally) (p : Passed One s (sheet_main rs) begun u rs) where
+  lent : (r : Record) → Among r rs → Lent f.page.head r
   lent = stripes_lent f.page.striped
 
   -- each coder octet is the coder used, or 0
@@ -79,8 +82,8 @@ module _ (s : List ℕ) (rs : List Record) (f : Formed s rs) (u : Tally) (p : Pa
           p.image w.it w.among w.coded w.image
           ∙ sym (image_one f.page.head.rules.mode f.page.head.image f.page.good.image ((lent w.it w.among).image w.coded w.image))
 
-  head_again : head_by f.page.head.rules rs u ≡ f.page.head
-  head_again = let m = stripes_main f.page.striped in head_same (head_by f.page.head.rules rs u) f.page.head refl mask_again image_again_coder m.0 m.1
+  head_again : head_by mode1 rs u ≡ f.page.head
+  head_again = let m = stripes_main f.page.striped in head_same (head_by mode1 rs u) f.page.head (sym (only_mode1 f.page.head.rules)) mask_again image_again_coder m.0 m.1
 
   -- ---- the page
 
@@ -89,10 +92,11 @@ module _ (s : List ℕ) (rs : List Record) (f : Formed s rs) (u : Tally) (p : Pa
       f.page.octets
       ∙ ap₂ (λ (x : List ℕ) (k : ℕ). start_of f.page.head ++ (x ++ (f.page.stripes ++ (0xFF ∷ 0xD9 ∷ 0xFF ∷ 0xD9 ∷ replicate k 0)))) f.optionals f.padding
 
-  pub page_again : page_by f.page.head.rules s rs u ≡ s
+  pub page_again : page_by mode1 s rs u ≡ s
   unfolding page_by
   page_again =
       let w = page_within s rs f.page in
       ap₂ (λ (h : Head) (x : List ℕ). start_of h ++ (x ++ page_end)) head_again
-      (stripes_again f.page.striped f.offsets s (closing s rs f.page) (page_stripes s rs f.page) (omega arith))
+      (ap (λ (r : Rules). stripes_by r.mode s rs) (sym (only_mode1 f.page.head.rules))
+      ∙ stripes_again f.page.striped f.offsets s (closing s rs f.page) (page_stripes s rs f.page) (omega arith))
       ∙ sym octets_again

@@ -1,6 +1,6 @@
 -- A page that was read, lent to the writer with its sheet: its records pass, and are cut into its stripes.
 -- Assumes nothing.
-use Prim.Native.Nat.{ℕ, ◌≤◌}
+use Prim.Native.Nat.{ℕ}
 use native.Mathlib.Omega.{arith}
 use mathlib.Core.Path.{◌≡◌, refl, sym, ap, subst, ◌∙◌}
 use mathlib.Core.Logic.{⊎_elim}
@@ -15,13 +15,12 @@ use Rattle.start_rules.specs.declared.Head.{Head}
 use Rattle.page_rules.specs.Grammar.{Stripes}
 use Rattle.body_rules.specs.Body.{last, next}
 use Rattle.write_rules.specs.Cut.{stripes_of, Opened}
-use Rattle.write_rules.specs.Form.{Trim}
 use Rattle.write_rules.proofs.Passed.{size_in}
 use Rattle.write_rules.proofs.Cut.{Next, cut_first}
 use Rattle.write_again.proofs.Mode1.{Lent}
-use Rattle.write_again.proofs.Modes.{stripe_lent, second_is, stripe_opened, stripe_least, stripe_size}
+use Rattle.write_again.proofs.Modes.{stripe_lent, second_is, stripe_opened, stripe_size}
 
-pub stripes_lent : {hd : Head} {k left at : ℕ} {l : List ℕ} {rs : List Record} → Stripes hd k left at l rs → (r : Record) → Among r rs → Lent hd.rules.mode hd r
+pub stripes_lent : {hd : Head} {k left at : ℕ} {l : List ℕ} {rs : List Record} → Stripes hd k left at l rs → (r : Record) → Among r rs → Lent hd r
 stripes_lent (last some) r m = absurd (Memᴰ.not_nil m)
 stripes_lent (next {rs = rs} height few z rest) r m =
     ⊎_elim (λ m1. stripe_lent z r m1) (λ m2. stripes_lent rest r m2) (Memᴰ.append_cases rs m)
@@ -42,24 +41,14 @@ pub stripes_front : {hd : Head} {k left at : ℕ} {l : List ℕ} {rs sr : List R
 stripes_front {rs = rs} {sr = sr} o y =
     ap (λ (x : List Record). stripes_of (x ++ sr)) o.is ∙ cut_first o.first o.others sr o.once (stripes_next y) ∙ ap (λ (x : List Record). x ∷ stripes_of sr) (sym o.is)
 
--- ---- their octets are at least as many as the writer counts, and as many in the writer's form
+-- ---- their octets are as many as the writer counts
 
-pub stripes_least : {hd : Head} {k left at : ℕ} {l : List ℕ} {rs : List Record} → Stripes hd k left at l rs → sum_of (size_in hd.rules.mode) rs ≤ length l
+pub stripes_size : {hd : Head} {k left at : ℕ} {l : List ℕ} {rs : List Record} → Stripes hd k left at l rs → sum_of (size_in hd.rules.mode) rs ≡ length l
 unfolding sum_of
-stripes_least (last some) = omega arith
-stripes_least {hd} {k} {left} {at} (next {l = l} {more = more} {rs = rs} {sr = sr} height few z rest) =
+stripes_size (last some) = refl
+stripes_size {hd} {k} {left} {at} (next {l = l} {more = more} {rs = rs} {sr = sr} height few z rest) =
     let a = sum_append (size_in hd.rules.mode) rs sr in
-    let b = stripe_least z in
-    let c = stripes_least rest in
-    let e = length-append l more in
-    omega arith
-
-pub stripes_size : {hd : Head} {k left at : ℕ} {l : List ℕ} {rs : List Record} (z : Stripes hd k left at l rs) → Trim z → sum_of (size_in hd.rules.mode) rs ≡ length l
-unfolding sum_of Trim
-stripes_size (last some) t = refl
-stripes_size {hd} {k} {left} {at} (next {l = l} {more = more} {rs = rs} {sr = sr} height few z rest) t =
-    let a = sum_append (size_in hd.rules.mode) rs sr in
-    let b = stripe_size z t.0 in
-    let c = stripes_size rest t.2 in
+    let b = stripe_size z in
+    let c = stripes_size rest in
     let e = length-append l more in
     omega arith

@@ -10,7 +10,6 @@ use mathlib.Core.List.Memᴰ
 use mathlib.Core.List.{List, [], ◌∷◌, ◌++◌}
 use lib.ListN.{length, drop}
 use borrow.Author.Tests.{eq-eqb, ne_eqb}
-use Rattle.segment_rules.specs.declared.Mode.{Mode}
 use Rattle.segment_rules.specs.declared.Mode.TheVariants.{One}
 use Rattle.sheet_rules.specs.declared.Colour.{Colour}
 use Rattle.sheet_rules.specs.declared.Record.{Record}
@@ -32,34 +31,34 @@ use Rattle.write_rules.proofs.Mode1.{head_first, head_other}
 
 -- ---- what a page's record says of itself
 
-pub record Lent (mode : Mode) (hd : Head) (r : Record) : Type 0 where
-  pub low : r.layer ≤ most_layers mode
+pub record Lent (hd : Head) (r : Record) : Type 0 where
+  pub low : r.layer ≤ most_layers One
   pub mask : Coded r → r.layer ≡ 2 → r.coder ≡ hd.mask
   pub image : Coded r → r.layer ≢ 2 → hd.image ≢ 0
   pub base : (r.base0 < 256) × (r.base1 < 256) × (r.base2 < 256)
   pub offset : (r.x ≤ 65535) × (r.y ≤ 65535)
 
 image_lent : (hd : Head) (k l at : ℕ) (base : Colour) (x y : ℕ) (b : Bool) (o : List ℕ) (c : LayerData) → Image hd.main at b o c → l ≤ 3 → l ≢ 2 → (b ≡ true → hd.image ≢ 0)
-    → (base.c0 < 256) × (base.c1 < 256) × (base.c2 < 256) → (b ≡ true → (x ≤ 65535) × (y ≤ 65535)) → Lent One hd (image_record hd k l base x y c)
+    → (base.c0 < 256) × (base.c1 < 256) × (base.c2 < 256) → (b ≡ true → (x ≤ 65535) × (y ≤ 65535)) → Lent hd (image_record hd k l base x y c)
 unfolding image_record
 image_lent hd k l at base x y b o c (there z) low n i w f =
     record { low = low; mask = λ d e. absurd (n e); image = λ d e. i refl; base = w; offset = f refl }
 image_lent hd k l at base x y b o c absent low n i w f =
     record { low = low; mask = λ d e. absurd (n e); image = λ d e. absurd (d refl); base = w; offset = (omega arith, omega arith) }
 
-mask_lent : (hd : Head) (k height at n : ℕ) (b : Bool) → (b ≡ false → n ≡ 0) → Lent One hd (mask_record hd k height (cond b hd.mask 0) (cond b at 0) n)
+mask_lent : (hd : Head) (k height at n : ℕ) (b : Bool) → (b ≡ false → n ≡ 0) → Lent hd (mask_record hd k height (cond b hd.mask 0) (cond b at 0) n)
 unfolding mask_record
 mask_lent hd k height at n true z =
     record { low = omega arith; mask = λ d e. refl; image = λ d e. absurd (e refl); base = (omega arith, omega arith, omega arith); offset = (omega arith, omega arith) }
 mask_lent hd k height at n false z =
     record { low = omega arith; mask = λ d e. absurd (d (z refl)); image = λ d e. absurd (e refl); base = (omega arith, omega arith, omega arith); offset = (omega arith, omega arith) }
 
-pub stripe_lent : {hd : Head} {k left at : ℕ} {l : List ℕ} {height : ℕ} {rs : List Record} → Stripe hd k left at l height rs → (r : Record) → Among r rs → Lent One hd r
+pub stripe_lent : {hd : Head} {k left at : ℕ} {l : List ℕ} {height : ℕ} {rs : List Record} → Stripe hd k left at l height rs → (r : Record) → Among r rs → Lent hd r
 stripe_lent {hd} {k} {left} {at} z =
     let f = z.fields in
     let g = z.good in
     let w = z.widths in
-    stripe_each z (Lent One hd)
+    stripe_each z (Lent hd)
     (image_lent hd k 1 (at + stripe_body + length z.mask) f.back f.backX f.backY (has_back f.kind) z.back z.back_is z.back_there (omega arith) (λ e. omega arith)
     (λ e. g.image_coder (inl e)) w.back g.back)
     (mask_lent hd k f.height (at + stripe_body) f.mask_length (has_mask f.kind) g.mask.1)

@@ -2,7 +2,7 @@
 -- Assumes nothing.
 use Prim.Native.Nat.{ℕ, ◌+◌, ◌*◌, ◌/◌, ◌≤◌, ◌<◌}
 use native.Mathlib.Omega.{arith}
-use mathlib.Core.Path.{◌≡◌, refl, sym, ap, ap₂, subst, ◌∙◌}
+use mathlib.Core.Path.{◌≡◌, refl, sym, ap, subst, ◌∙◌}
 use mathlib.Core.List.{List, [], ◌∷◌, ◌++◌, append_assoc}
 use lib.ListN.{length, length-append}
 use borrow.Author.Rules.{rules}
@@ -15,6 +15,7 @@ use Rattle.answers.specs.declared.Answer.{Answer}
 use Rattle.answers.specs.declared.Answer.TheVariants.{Done, NoRoom, TooLong}
 use Rattle.field_rules.specs.Field.{Res, ok, no}
 use Rattle.segment_rules.specs.declared.Rules.{Rules}
+use Rattle.segment_rules.specs.Rules.{mode1}
 use Rattle.sheet_rules.specs.declared.Record.{Record}
 use Rattle.sheet_rules.specs.Record.{record_size, record_at, records, blank, nth}
 use Rattle.sheet_rules.proofs.Cut.{records_count, record_nth, second_blank, second_read}
@@ -25,10 +26,8 @@ use Rattle.start_rules.proofs.Start.{length_start}
 use Rattle.write_rules.specs.declared.Tally.{Tally}
 use Rattle.segment_rules.specs.Rules.{most_layers}
 use Rattle.write_rules.specs.Sentences.{start_size, page_end}
-use Rattle.write_rules.specs.Writing.{head_by, verdict_of, stripes_by, page_by, size_answer, answer_by, write_of, into_by, write_into, Writes, verdict_as, write_as, write_as_into, WritesAs}
+use Rattle.write_rules.specs.Writing.{head_by, verdict_of, stripes_by, page_by, size_answer, answer_by, write_of, into_by, write_into, Writes}
 use Rattle.write_rules.proofs.Cut.{sheet_cut, lots_layers}
-use Rattle.start_rules.specs.Reading.{rules_from}
-use Rattle.write_rules.proofs.Asked.{as_found}
 use Rattle.write_rules.proofs.Answered.{Tallied, verdict_back}
 use Rattle.write_rules.proofs.Written.{records_sized, length_written}
 use Rattle.write_verdict.specs.declared.Pass.{Pass}
@@ -112,14 +111,14 @@ module _ (rules : Rules) (out s d : List ℕ) (t : Tally) (os : Octets s) (od : 
           (append_assoc (start_of hd) (stripes_by rules.mode d (records s)) page_end
           ∙ ap (λ (x : Head). start_of x ++ (stripes_by rules.mode d (records s) ++ page_end)) h)
 
--- ---- write_sound
-module _ (rules : Rules) (s d p : List ℕ) (t : Tally) (v : Sound rules s d t) where
-  pub write_long : longest_page < t.size → Writes rules s d p TooLong p
+-- ---- write_sound and write_page
+module _ (s d p : List ℕ) (t : Tally) (v : Sound mode1 s d t) where
+  pub write_long : longest_page < t.size → Writes s d p TooLong p
   unfolding write_of answer_by size_answer write_into into_by
   write_long l = record { answers = simp (v.verdict, lt-ltb longest_page t.size l); holds = simp (v.verdict, lt-ltb longest_page t.size l) }
 
   module _ (l : t.size ≤ longest_page) where
-    pub write_none : length p < t.size → Writes rules s d p NoRoom p
+    pub write_none : length p < t.size → Writes s d p NoRoom p
     unfolding write_of answer_by size_answer write_into into_by
     write_none r =
         record {
@@ -127,49 +126,36 @@ module _ (rules : Rules) (s d p : List ℕ) (t : Tally) (v : Sound rules s d t) 
           holds = simp (v.verdict, le-ltb longest_page t.size l, lt-ltb (length p) t.size r);
         }
 
-    pub write_done : t.size ≤ length p → (p' : List ℕ) → p' ≡ put_at p 0 (page_by rules d (records s) t) → Writes rules s d p (Done t.size) p'
+    pub write_done : t.size ≤ length p → {rules : Rules} → rules ≡ mode1 → (p' : List ℕ) → p' ≡ put_at p 0 (page_by rules d (records s) t) → Writes s d p (Done t.size) p'
     unfolding write_of answer_by size_answer write_into into_by
-    write_done r p' e =
+    write_done r k p' e =
         record {
           answers = simp (v.verdict, le-ltb longest_page t.size l, le-ltb (length p) t.size r);
-          holds = e ∙ simp (v.verdict, le-ltb longest_page t.size l, le-ltb (length p) t.size r);
+          holds = e ∙ ap (λ (x : Rules). put_at p 0 (page_by x d (records s) t)) k ∙ simp (v.verdict, le-ltb longest_page t.size l, le-ltb (length p) t.size r);
         }
 
-pub write_fits : (rules : Rules) (s d p : List ℕ) (t : Tally) → Sound rules s d t → t.size ≤ length p → Fitting rules p s d t
-write_fits rules s d p t v r = record { sound = v; room = r }
+pub write_fits : (s d p : List ℕ) (t : Tally) {rules : Rules} → Sound mode1 s d t → t.size ≤ length p → rules ≡ mode1 → Fitting rules p s d t
+write_fits s d p t v r k = record { sound = subst (λ (x : Rules). Sound x s d t) (sym k) v; room = r }
 
--- ---- write_as: where the verdict is that of a page, it is the verdict by the rules that the numbers name
-module _ (s d : List ℕ) (version mode : ℕ) {x : Pass} (e : x ≡ pass_of (verdict_as version mode s d)) where
-  found : (y : Res Tally) → verdict_as version mode s d ≡ y → (t : Tally) → pass_of y ≡ Next t → (n : ℕ) × (verdict_as version mode s d ≡ ok t n)
+module _ (s d : List ℕ) {rules : Rules} {x : Pass} (k : rules ≡ mode1) (e : x ≡ pass_of (verdict_of rules s d)) where
+  told : x ≡ pass_of (verdict_of mode1 s d)
+  told = e ∙ ap (λ (y : Rules). pass_of (verdict_of y s d)) k
+
+  by_next : (y : Res Tally) → verdict_of mode1 s d ≡ y → (t : Tally) → pass_of y ≡ Next t → Sound mode1 s d t
   unfolding pass_of
-  found (ok u n) q t z = let w : u ≡ t = cc in (n, q ∙ ap (λ (v : Tally). ok v n) w)
-  found (no a) q t z = clash cc
+  by_next (ok u n) q t z = let w : u ≡ t = cc in record { count = n; verdict = q ∙ ap (λ (v : Tally). ok v n) w }
+  by_next (no a) q t z = clash cc
 
-  module _ (t : Tally) (z : x ≡ Next t) {rules : Rules} (k : rules ≡ rules_from version mode) where
-    same : (n : ℕ) × (verdict_as version mode s d ≡ ok t n) × (verdict_as version mode s d ≡ verdict_of rules s d)
-    same =
-        let f = found (verdict_as version mode s d) refl t (sym e ∙ z) in
-        (f.0, f.1, as_found version mode s d t f.0 f.1 ∙ ap (λ (r : Rules). verdict_of r s d) (sym k))
+  pub write_sound : (t : Tally) → x ≡ Next t → Sound mode1 s d t
+  write_sound t z = by_next (verdict_of mode1 s d) refl t (sym told ∙ z)
 
-    pub write_sound : Sound rules s d t
-    write_sound = let f = same in record { count = f.0; verdict = sym f.2 ∙ f.1 }
-
-    pub write_asked : (p : List ℕ) (a : Answer) (p' : List ℕ) → Writes rules s d p a p' → WritesAs s d version mode p a p'
-    unfolding write_of write_into write_as write_as_into
-    write_asked p a p' w =
-        let f = same in
-        record {
-          answers = w.answers ∙ ap (answer_by (length p)) (sym f.2);
-          holds = w.holds ∙ ap₂ (λ (r : Rules) (y : Res Tally). into_by r p d (records s) y) k (sym f.2);
-        }
-
-  by_wrong : (y : Res Tally) → verdict_as version mode s d ≡ y → (a : Answer) → pass_of y ≡ Refused a → verdict_as version mode s d ≡ no a
+  by_wrong : (y : Res Tally) → verdict_of mode1 s d ≡ y → (a : Answer) → pass_of y ≡ Refused a → verdict_of mode1 s d ≡ no a
   unfolding pass_of
   by_wrong (ok u n) q a z = clash cc
   by_wrong (no b) q a z = let w : b ≡ a = cc in q ∙ ap no w
 
-  pub write_wrong : (p : List ℕ) (a : Answer) → x ≡ Refused a → WritesAs s d version mode p a p
-  unfolding write_as answer_by write_as_into into_by
-  write_wrong p a z = let q = by_wrong (verdict_as version mode s d) refl a (sym e ∙ z) in record { answers = simp q; holds = simp q }
+  pub write_wrong : (p : List ℕ) (a : Answer) → x ≡ Refused a → Writes s d p a p
+  unfolding write_of answer_by write_into into_by
+  write_wrong p a z = let q = by_wrong (verdict_of mode1 s d) refl a (sym told ∙ z) in record { answers = simp q; holds = simp q }
 
-pub ruleset writing = (rules, write_long, write_none, write_done, write_fits, write_sound, write_asked, write_wrong)
+pub ruleset writing = (rules, write_long, write_none, write_done, write_fits, write_sound, write_wrong)

@@ -3,12 +3,13 @@
 ghost use Rattle.std.specs.Prelude.{◌≡◌, ◌+◌, ◌≤◌, length};
 ghost use Rattle.octets.specs.Octets.{put_at};
 ghost use Rattle.sheet_rules.specs.Record.{records};
+ghost use Rattle.segment_rules.specs.Rules.{mode1};
 ghost use Rattle.write_rules.specs.Sentences.{start_size, page_end};
-ghost use Rattle.write_rules.specs.Writing.{stripes_by, head_by, page_by, Writes, WritesAs};
+ghost use Rattle.write_rules.specs.Writing.{stripes_by, head_by, page_by, Writes};
 ghost use Rattle.write_page.specs.Steps.{Inside, StripeEnd, Lined, Fitting, Sound};
 
 use answers::Answer;
-use segment_rules::{EOI, LONGEST_PAGE, Mode, Rules};
+use segment_rules::{EOI, LONGEST_PAGE, Mode, Rules, Version};
 use sheet_rules::{RECORD_SIZE, TWO_RECORDS};
 use start_rules::Head;
 use write_rules::{START_SIZE, Tally};
@@ -89,10 +90,20 @@ fn emit_page(rules: Rules, out: &mut [u8], s: &[u8], d: &[u8], tally: Tally)
     put_end(out, at);
 }
 
+// The rules of the call.
+fn in_mode_1() -> Rules
+    ensures { result ≡ mode1 }
+{
+    Rules {
+        version: Version::Base,
+        mode: Mode::One,
+    }
+}
+
 // After the verdict: TooLong, then NoRoom, then the page.
-fn write_sound(rules: Rules, s: &[u8], d: &[u8], page: &mut [u8], tally: Tally) -> Answer
-    requires { Sound rules s.now d.now tally }
-    ensures { Writes rules s.now d.now page.old result page.new }
+fn write_sound(s: &[u8], d: &[u8], page: &mut [u8], tally: Tally) -> Answer
+    requires { Sound mode1 s.now d.now tally }
+    ensures { Writes s.now d.now page.old result page.new }
 {
     let size = tally.size;
     if (LONGEST_PAGE as u64) < size {
@@ -101,15 +112,15 @@ fn write_sound(rules: Rules, s: &[u8], d: &[u8], page: &mut [u8], tally: Tally) 
     if (page.len() as u64) < size {
         return Answer::NoRoom;
     }
-    emit_page(rules, page, s, d, tally);
+    emit_page(in_mode_1(), page, s, d, tally);
     Answer::Done(size)
 }
 
-pub fn write_as(s: &[u8], d: &[u8], version: u32, mode: u32, page: &mut [u8]) -> Answer
-    ensures { WritesAs s.now d.now version mode page.old result page.new }
+pub fn write_page(s: &[u8], d: &[u8], page: &mut [u8]) -> Answer
+    ensures { Writes s.now d.now page.old result page.new }
 {
-    match write_verdict::judge_write(version, mode, s, d) {
+    match write_verdict::judge_write(in_mode_1(), s, d) {
         Pass::Refused(a) => a,
-        Pass::Next(tally) => write_sound(named_rules::rules_from(version, mode), s, d, page, tally),
+        Pass::Next(tally) => write_sound(s, d, page, tally),
     }
 }

@@ -18,7 +18,9 @@ use Rattle.answers.specs.declared.Answer.{Answer}
 use Rattle.answers.specs.declared.Answer.TheVariants.{Done, Short, BadMode, BadSheet, Mismatch}
 use Rattle.field_rules.specs.Field.{Res, ok, no, bind}
 use Rattle.segment_rules.specs.declared.Mode.{Mode}
+use Rattle.segment_rules.specs.declared.Mode.TheVariants.{One}
 use Rattle.segment_rules.specs.declared.Rules.{Rules}
+use Rattle.segment_rules.specs.Rules.{mode1}
 use Rattle.sheet_rules.specs.declared.Record.{Record}
 use Rattle.sheet_rules.specs.declared.Verdict.{Verdict}
 use Rattle.sheet_rules.specs.declared.Verdict.TheVariants.{Good, Refused}
@@ -143,37 +145,37 @@ verdict_back rules s d o u n q = by (judge_of s) refl q
     by (Good m k) g q = pass m k g (mode_from (most_layers rules.mode) 0 (records s)) refl q
     by (Refused i) g q = clash cc
 
-pub accepted_sound : (mode : Mode) (s d : List ℕ) (u : Tally) → Tallied mode s d u → Sound mode s d
-accepted_sound mode s d u k =
-    record { sheet = k.sheet; whole = k.whole; low = k.low; fine = passed_fine mode d (sheet_main (records s)) begun u (records s) k.passed }
+pub accepted_sound : (s d : List ℕ) (u : Tally) → Tallied One s d u → Sound s d
+accepted_sound s d u k =
+    record { sheet = k.sheet; whole = k.whole; low = k.low; fine = passed_fine One d (sheet_main (records s)) begun u (records s) k.passed }
 
 -- ---- from the sentences to the verdict
 
-pub judged : (s : List ℕ) → Sheet (records s) → rest s ≡ 0 → judge_of s ≡ Good (length (records s)) (stripe_count (records s))
-judged s sh w = (sheet_accepted s (length (records s)) (stripe_count (records s))).1 (record { sheet = sh; whole = w; count = refl; stripes = refl })
-
 module _ (rules : Rules) (s d : List ℕ) (sh : Sheet (records s)) (w : rest s ≡ 0) where
+  judged : judge_of s ≡ Good (length (records s)) (stripe_count (records s))
+  judged = (sheet_accepted s (length (records s)) (stripe_count (records s))).1 (record { sheet = sh; whole = w; count = refl; stripes = refl })
+
   pub verdict_mode : (i : ℕ) → ModeAt rules.mode (records s) i → verdict_of rules s d ≡ no (BadMode i)
   unfolding verdict_of verdict_by bind
   verdict_mode i k =
-      ap (λ (v : Verdict). verdict_by rules.mode v d (records s)) (judged s sh w)
+      ap (λ (v : Verdict). verdict_by rules.mode v d (records s)) judged
       ∙ ap (λ (x : Res ℕ). bind x (λ (j e : ℕ). records_pass rules.mode d (sheet_main (records s)) begun 0 (records s))) (mode_fault rules.mode (records s) i k)
 
   pub verdict_passes : Low rules.mode (records s) → verdict_of rules s d ≡ records_pass rules.mode d (sheet_main (records s)) begun 0 (records s)
   unfolding verdict_of verdict_by bind
   verdict_passes low =
-      ap (λ (v : Verdict). verdict_by rules.mode v d (records s)) (judged s sh w)
+      ap (λ (v : Verdict). verdict_by rules.mode v d (records s)) judged
       ∙ ap (λ (x : Res ℕ). bind x (λ (j e : ℕ). records_pass rules.mode d (sheet_main (records s)) begun 0 (records s))) (mode_there rules.mode (records s) low)
 
 pub verdict_sheet : (rules : Rules) (s d : List ℕ) (i : ℕ) → BadSheetAt s i → verdict_of rules s d ≡ no (BadSheet i)
 unfolding verdict_of verdict_by answer_of
 verdict_sheet rules s d i k = ap (λ (v : Verdict). verdict_by rules.mode v d (records s)) ((sheet_refused s i).1 k)
 
-pub verdict_there : (rules : Rules) (s d : List ℕ) → Octets d → Sound rules.mode s d → (u : Tally) × (verdict_of rules s d ≡ ok u (length (records s)))
-verdict_there rules s d o k =
-    let y = pass_there rules.mode d o (sheet_main (records s)) begun 0 (records s) (sheet_plain rules.mode (records s) k.sheet k.low) k.fine (λ r m c e. inl refl) in
+pub verdict_there : (s d : List ℕ) → Octets d → Sound s d → (u : Tally) × (verdict_of mode1 s d ≡ ok u (length (records s)))
+verdict_there s d o k =
+    let y = pass_there One d o (sheet_main (records s)) begun 0 (records s) (sheet_plain One (records s) k.sheet k.low) k.fine (λ r m c e. inl refl) in
     let z : 0 + length (records s) ≡ length (records s) = omega arith in
-    (y.0, verdict_passes rules s d k.sheet k.whole k.low ∙ y.1 ∙ ap (ok y.0) z)
+    (y.0, verdict_passes mode1 s d k.sheet k.whole k.low ∙ y.1 ∙ ap (ok y.0) z)
 
 -- ---- a record at fault
 
@@ -268,23 +270,23 @@ module _ (mode : Mode) (d : List ℕ) (o : Octets d) (main : ℕ) (rs : List Rec
 
 -- ---- a refusal of the verdict: of the sheet, of the mode or of a record
 
-pub record Refusal (mode : Mode) (s d : List ℕ) (room : ℕ) (a : Answer) : Type 0 where
-  pub gives : Gives mode s d room a
+pub record Refusal (s d : List ℕ) (room : ℕ) (a : Answer) : Type 0 where
+  pub gives : Gives s d room a
   pub not_done : (n : ℕ) → a ≡ Done n → ⊥
 
-pub verdict_refused : (rules : Rules) (s d : List ℕ) → Octets d → (room : ℕ) (a : Answer) → verdict_of rules s d ≡ no a → Refusal rules.mode s d room a
+pub verdict_refused : (s d : List ℕ) → Octets d → (room : ℕ) (a : Answer) → verdict_of mode1 s d ≡ no a → Refusal s d room a
 unfolding verdict_of verdict_by bind answer_of
-verdict_refused rules s d o room a q = by (judge_of s) refl q
+verdict_refused s d o room a q = by (judge_of s) refl q
   where
-    told : (a b : Answer) → a ≡ b → Gives rules.mode s d room b → ((n : ℕ) → b ≡ Done n → ⊥) → Refusal rules.mode s d room a
-    told a b e g not = record { gives = subst (Gives rules.mode s d room) (sym e) g; not_done = λ n h. not n (sym e ∙ h) }
+    told : (a b : Answer) → a ≡ b → Gives s d room b → ((n : ℕ) → b ≡ Done n → ⊥) → Refusal s d room a
+    told a b e g not = record { gives = subst (Gives s d room) (sym e) g; not_done = λ n h. not n (sym e ∙ h) }
 
-    pass : (m k : ℕ) → judge_of s ≡ Good m k → (x : Res ℕ) → mode_from (most_layers rules.mode) 0 (records s) ≡ x
-        → bind x (λ (j e : ℕ). records_pass rules.mode d (sheet_main (records s)) begun 0 (records s)) ≡ no a → Refusal rules.mode s d room a
+    pass : (m k : ℕ) → judge_of s ≡ Good m k → (x : Res ℕ) → mode_from (most_layers One) 0 (records s) ≡ x
+        → bind x (λ (j e : ℕ). records_pass One d (sheet_main (records s)) begun 0 (records s)) ≡ no a → Refusal s d room a
     pass m k g (ok j e) h q =
         let y = (sheet_accepted s m k).0 g in
-        let low = mode_low rules.mode 0 (records s) j e h in
-        let f = fault_at rules.mode d o (sheet_main (records s)) (records s) (sheet_plain rules.mode (records s) y.sheet low) a q in
+        let low = mode_low One 0 (records s) j e h in
+        let f = fault_at One d o (sheet_main (records s)) (records s) (sheet_plain One (records s) y.sheet low) a q in
         ⊎_elim
         (λ (z : (a ≡ Short f.0) × ShortAt (sheet_main (records s)) d (records s) f.0).
         told a (Short f.0) z.0 (passing (y.sheet, y.whole) low z.1) (λ n e. clash cc))
@@ -293,11 +295,11 @@ verdict_refused rules s d o room a q = by (judge_of s) refl q
         f.1
     pass m k g (no b) h q =
         let y = (sheet_accepted s m k).0 g in
-        let f = mode_at rules.mode 0 (records s) b h in
+        let f = mode_at One 0 (records s) b h in
         let e : b ≡ a = cc in
         let z : 0 + f.0 ≡ f.0 = omega arith in
         told a (BadMode f.0) (sym e ∙ f.1 ∙ ap BadMode z) (above (y.sheet, y.whole) f.2) (λ n e. clash cc)
 
-    by : (v : Verdict) → judge_of s ≡ v → verdict_by rules.mode v d (records s) ≡ no a → Refusal rules.mode s d room a
-    by (Good m k) g q = pass m k g (mode_from (most_layers rules.mode) 0 (records s)) refl q
+    by : (v : Verdict) → judge_of s ≡ v → verdict_by One v d (records s) ≡ no a → Refusal s d room a
+    by (Good m k) g q = pass m k g (mode_from (most_layers One) 0 (records s)) refl q
     by (Refused i) g q = let e : BadSheet i ≡ a = cc in told a (BadSheet i) (sym e) (no_sheet ((sheet_refused s i).0 g)) (λ n e. clash cc)

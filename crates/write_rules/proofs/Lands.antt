@@ -3,11 +3,10 @@
 -- Assumes nothing.
 use Prim.Native.Nat.{ℕ, ◌+◌, ◌≤◌}
 use native.Mathlib.Omega.{arith}
-use mathlib.Core.Path.{◌≡◌, refl, sym, ap, ap₂, ◌∙◌}
+use mathlib.Core.Path.{◌≡◌, refl, sym, ap₂, ◌∙◌}
 use mathlib.Core.List.{List, [], ◌∷◌, ◌++◌, map, map-append, append_assoc}
 use lib.Dec.{lit<}
-use lib.ListN.{length, take, drop, length-append}
-use lib.Seq.{take_at}
+use lib.ListN.{length, drop, length-append}
 use Rattle.octets.specs.Octets.{Octets}
 use Rattle.octets.specs.Entries.{joined}
 use Rattle.octets.proofs.Laws.{drop_next, octets_append}
@@ -17,9 +16,7 @@ use Rattle.sheet_rules.specs.Record.{sum_of}
 use Rattle.sheet_rules.specs.Sentences.{Among, heights}
 use Rattle.sheet_rules.proofs.Among.{sum_append}
 use Rattle.start_rules.specs.declared.Head.{Head}
-use Rattle.segment_rules.specs.Segment.{begin_of}
-use Rattle.segment_rules.proofs.Begin.{length_begin}
-use Rattle.page_rules.specs.Grammar.{body_in, Stripes}
+use Rattle.page_rules.specs.Grammar.{Stripes}
 use Rattle.body_rules.specs.Body.{last, next}
 use Rattle.write_rules.specs.Layer.{layer_octets}
 use Rattle.write_rules.specs.Cut.{stripes_of, together}
@@ -51,7 +48,7 @@ module _ (mode : Mode) (d : List ℕ) (hd : Head) (rs : List Record) (u : Under 
   stripes_land {k} {left} (another {q = q} l more) at y =
       let x = stripe_lands mode d hd rs u y k left at q l in
       let r = stripes_land more (at + length (stripe_by mode d q)) y in
-      record { striped = next (heights q) l.few x.stripe r.striped; trim = (x.short, x.trim, r.trim) }
+      record { striped = next (heights q) l.few x.stripe r.striped; trim = (x.trim, r.trim) }
 
   -- ---- the records are those lent, but for the starts of the coded ones
 
@@ -96,17 +93,3 @@ module _ (mode : Mode) (d : List ℕ) (hd : Head) (rs : List Record) (u : Under 
   stripes_octets (ended p) low o z = λ k. lit< tt
   stripes_octets {k} {left} (another {q = q} {qs = qs} l rest) low o z =
       octets_append (stripe_by mode d q) (joined (stripe_by mode d) qs) (stripe_octets mode d hd rs u k left q l low o z) (stripes_octets rest (omega arith) o z)
-
--- ---- in the writer's form a stripe opens with the short beginning
-
-pub trim_opens : {hd : Head} {left at : ℕ} {l : List ℕ} {rs : List Record} (z : Stripes hd 0 left at l rs) → Trim z → (tail : List ℕ)
-    → take 8 (l ++ tail) ≡ begin_of 0x01 (body_in hd.rules.mode + 6)
-unfolding Trim
-trim_opens (last some) t tail = absurd (omega arith)
-trim_opens {hd} (next {l = l} {more = more} height few z rest) t tail =
-    let short : z.begin ≡ begin_of 0x01 (body_in hd.rules.mode + 6) = t.0 in
-    let e : (l ++ more) ++ tail ≡ begin_of 0x01 (body_in hd.rules.mode + 6) ++ (z.rest ++ (more ++ tail)) =
-    append_assoc l more tail
-    ∙ ap (λ (x : List ℕ). x ++ (more ++ tail)) (z.octets ∙ ap (λ (x : List ℕ). x ++ z.rest) short)
-    ∙ append_assoc (begin_of 0x01 (body_in hd.rules.mode + 6)) z.rest (more ++ tail) in
-    ap (take 8) e ∙ take_at (begin_of 0x01 (body_in hd.rules.mode + 6)) (z.rest ++ (more ++ tail)) 8 (length_begin 0x01 (body_in hd.rules.mode + 6))

@@ -17,5 +17,3 @@ pub mod Written
 pub mod Into
 pub mod Exactly
 pub mod Theorems
-pub mod Asked
-pub mod Versions

@@ -12,7 +12,7 @@
 -- Assumes nothing.
 use Prim.Native.Nat.{ℕ, ◌+◌, ◌%◌, ◌≤◌}
 use native.Mathlib.Omega.{arith}
-use mathlib.Core.Path.{◌≡◌, refl, sym, ap, subst, ◌∙◌}
+use mathlib.Core.Path.{◌≡◌, refl, sym, subst, ◌∙◌}
 use mathlib.Core.Logic.{◌≢◌}
 use mathlib.Core.List.{List, ◌++◌, map, append_assoc}
 use lib.ListN.{length, drop, length-append}
@@ -25,7 +25,7 @@ use Rattle.sheet_rules.specs.declared.Record.{Record}
 use Rattle.sheet_rules.specs.Record.{sum_of}
 use Rattle.sheet_rules.specs.Sentences.{Among, heights}
 use Rattle.start_rules.specs.declared.Head.{Head}
-use Rattle.segment_rules.specs.Segment.{begin_of, Opening, short}
+use Rattle.segment_rules.specs.Segment.{Opening, short}
 use Rattle.segment_rules.proofs.Begin.{length_begin}
 use Rattle.mode1_rules.specs.Kinds.{stripe_body}
 use Rattle.page_rules.specs.Grammar.{body_in, StripeIn, Stripe}
@@ -56,7 +56,6 @@ record RestLanded (m : Mode) (hd : Head) (k left at : ℕ) (l : List ℕ) (heigh
 
 pub record StripeLanded (mode : Mode) (d : List ℕ) (hd : Head) (k left at : ℕ) (q : List Record) : Type 0 where
   pub stripe : Stripe hd k left at (stripe_by mode d q) (heights q) (moved_in mode d at q)
-  pub short : stripe.begin ≡ begin_of 0x01 (body_in hd.rules.mode + 6)
   pub trim : TrimIn hd.rules.mode hd k left (at + length stripe.begin) stripe.rest (heights q) (moved_in mode d at q) stripe.behind
 
 pub stripe_lands : (mode : Mode) (d : List ℕ) (hd : Head) (rs : List Record) → Under mode hd rs → Ready d hd rs → (k left at : ℕ) (q : List Record) → Lot rs k left q
@@ -76,7 +75,6 @@ stripe_lands One d hd rs u y k left at q l =
             opens = subst (λ (m : Mode). Opening hd.rules.version 0x01 (body_in m) begins) (sym u.named) (short (lit< tt));
             behind = z.stripe;
           };
-      short = ap (λ (m : Mode). begin_of 0x01 (body_in m + 6)) (sym u.named);
       trim = z.trim;
     }
 

@@ -11,12 +11,15 @@ use borrow.Author.Tests.{ltb-true}
 use Rattle.octets.specs.Octets.{Octets, octets16, octets32}
 use Rattle.octets.proofs.Laws.{octets_append, octets_take, octets_drop, octets_16, octets_32}
 use Rattle.sheet_rules.specs.declared.Record.{Record}
+use Rattle.segment_rules.specs.declared.Version.{Version}
+use Rattle.segment_rules.specs.declared.Version.TheVariants.{Base}
 use Rattle.segment_rules.specs.declared.Mode.{Mode}
 use Rattle.segment_rules.specs.declared.Mode.TheVariants.{One}
 use Rattle.segment_rules.specs.Rules.{version_octet, mode_octet}
 use Rattle.start_rules.specs.declared.Head.{Head}
 use Rattle.start_rules.specs.Grammar.{mark_of, start_of, GoodHead}
-use Rattle.start_rules.proofs.Rules.{version_small, mask_small, image_small, listed_small}
+use Rattle.start_rules.proofs.Rules.{mask_small, image_small}
+use Rattle.start_rules.proofs.Rules.{listed_small}
 use Rattle.write_rules.specs.Layer.{layer_octets}
 use Rattle.write_rules.specs.Sentences.{page_end}
 
@@ -38,7 +41,10 @@ pub end_octets : Octets page_end
 unfolding small
 end_octets = small_octets page_end refl
 
--- the octet that names the mode
+-- the octets that name the rules
+version_octet_lem : (v : Version) → version_octet v < 256
+version_octet_lem Base = lit< tt
+
 mode_octet_lem : (m : Mode) → mode_octet m < 256
 mode_octet_lem One = lit< tt
 
@@ -48,7 +54,7 @@ start_octets hd g =
     let w = g.width in
     let main : List ℕ = octets16 hd.main ++ (octets32 hd.width ++ (0xFF ∷ 0xD9 ∷ [])) in
     octets_append mark_of (version_octet hd.rules.version ∷ mode_octet hd.rules.mode ∷ hd.mask ∷ hd.image ∷ main) (small_octets mark_of refl)
-    (octets_cons (version_octet hd.rules.version) (mode_octet hd.rules.mode ∷ hd.mask ∷ hd.image ∷ main) (version_small hd.rules.version)
+    (octets_cons (version_octet hd.rules.version) (mode_octet hd.rules.mode ∷ hd.mask ∷ hd.image ∷ main) (version_octet_lem hd.rules.version)
     (octets_cons (mode_octet hd.rules.mode) (hd.mask ∷ hd.image ∷ main) (mode_octet_lem hd.rules.mode)
     (octets_cons hd.mask (hd.image ∷ main) (mask_small hd.rules.mode hd.mask g.mask)
     (octets_cons hd.image main (image_small hd.rules.mode hd.image g.image)

@@ -5,7 +5,7 @@
 --   ButForStart r q    the same in every field, but for the start, and in the start too where the record is not coded
 --   Lands rs d l   the octets l are a page whose sheet is that of the records rs, but for octets 18 to 21 of coded records; and the data of each
 --                  is the data that the buffer d has for it
---   Trim ..        each stripe of a page has the writer's form: its length in two octets, and as its mode says
+--   Trim ..        each stripe of a page has the writer's form
 --   UsedMask, UsedImage   some mask, or some image layer, among the records is coded
 --   Formed p rs    the octets p are a page with the records rs, in the writer's form
 use Rattle.std.specs.Prelude.{ℕ, ◌+◌, ◌≡◌, ◌≢◌, cond, List, [], map, length}
@@ -13,8 +13,7 @@ use Rattle.sheet_rules.specs.declared.Record.{Record}
 use Rattle.sheet_rules.specs.Judge.{coded}
 use Rattle.sheet_rules.specs.Sentences.{Among, Coded, Uncoded}
 use Rattle.start_rules.specs.declared.Head.{Head}
-use Rattle.segment_rules.specs.Segment.{begin_of}
-use Rattle.page_rules.specs.Grammar.{body_in, Stripes, Page}
+use Rattle.page_rules.specs.Grammar.{Stripes, Page}
 use Rattle.body_rules.specs.Body.{last, next}
 use Rattle.write_rules.specs.Layer.{layer_octets}
 use Rattle.write_rules.specs.Modes.{TrimIn}
@@ -72,9 +71,7 @@ pub record Lands (rs : List Record) (d l : List ℕ) : Type 0 where
 unfoldable pub Trim : {hd : Head} {k left at : ℕ} {l : List ℕ} {rs : List Record} → Stripes hd k left at l rs → Type 0
 Trim (last some) = Unit {0}
 Trim {hd} {k} {left} {at} (next {l = l} {rs = rs} height few z rest) =
-    (z.begin ≡ begin_of 0x01 (body_in hd.rules.mode + 6))
-    × TrimIn hd.rules.mode hd k left (at + length z.begin) z.rest height rs z.behind
-    × Trim rest
+    TrimIn hd.rules.mode hd k left (at + length z.begin) z.rest height rs z.behind × Trim rest
 
 -- a coded layer among the records: a mask, or an image layer
 pub record UsedMask (rs : List Record) : Type 0 where

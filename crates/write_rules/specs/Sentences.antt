@@ -10,13 +10,12 @@
 --   MismatchAt ..     those before the record i are fine, its data is there, and with it they are not fine
 --   start_size         the octets of the start of page; page_end: those of the end
 --   size_of mode rs    the start and the end, what each record adds to its stripe's segments, and the coded data
---   Sound mode s d    the octets s are a sheet without a layer above those of the mode, and its records are fine
---   Gives mode s d room a  a is answered, in this mode; the version has no part in it
---   GivesAs s d version mode room a  the call answers a, where this version and this mode are asked for by their numbers
+--   Sound s d         the octets s are a sheet without a layer above those of Mode 1, and its records are fine
+--   Gives s d room a  the call answers a
 use Rattle.std.specs.Prelude.{ℕ, ◌+◌, ◌≤◌, ◌<◌, ◌≡◌, ◌≢◌, List, [], ◌∷◌, length, take}
 use Rattle.segment_rules.specs.Rules.{longest_page}
 use Rattle.answers.specs.declared.Answer.{Answer}
-use Rattle.answers.specs.declared.Answer.TheVariants.{Done, Short, BadVersion, BadMode, NoRoom, BadSheet, Mismatch, TooLong}
+use Rattle.answers.specs.declared.Answer.TheVariants.{Done, Short, BadMode, NoRoom, BadSheet, Mismatch, TooLong}
 use Rattle.sheet_rules.specs.declared.Record.{Record}
 use Rattle.sheet_rules.specs.Record.{records, rest, nth, sum_of}
 use Rattle.sheet_rules.specs.Sentences.{Among, Coded, Sheet, Accepted, BadSheetAt}
@@ -73,25 +72,18 @@ unfoldable pub size_of : Mode → List Record → ℕ
 unfolding sum_of
 size_of mode rs = start_size + length page_end + sum_of (head_in mode) rs + sum_of (λ (r : Record). r.len) rs
 
-pub record Sound (mode : Mode) (s d : List ℕ) : Type 0 where
+pub record Sound (s d : List ℕ) : Type 0 where
   pub sheet : Sheet (records s)
   pub whole : rest s ≡ 0
-  pub low : Low mode (records s)
+  pub low : Low One (records s)
   pub fine : Fine (sheet_main (records s)) d (records s)
 
 -- one line for each answer that writing gives; it gives no other
-pub data Gives (mode : Mode) (s d : List ℕ) (room : ℕ) : Answer → Type 0 where
-  no_sheet : {i : ℕ} → BadSheetAt s i → Gives mode s d room (BadSheet i)
-  above : {i : ℕ} → Accepted s → ModeAt mode (records s) i → Gives mode s d room (BadMode i)
-  passing : {i : ℕ} → Accepted s → Low mode (records s) → ShortAt (sheet_main (records s)) d (records s) i → Gives mode s d room (Short i)
-  differing : {i : ℕ} → Accepted s → Low mode (records s) → MismatchAt (sheet_main (records s)) d (records s) i → Gives mode s d room (Mismatch i)
-  too_long : Sound mode s d → longest_page < size_of mode (records s) → Gives mode s d room TooLong
-  no_room : Sound mode s d → size_of mode (records s) ≤ longest_page → room < size_of mode (records s) → Gives mode s d room NoRoom
-  written : {n : ℕ} → Sound mode s d → n ≡ size_of mode (records s) → n ≤ longest_page → n ≤ room → Gives mode s d room (Done n)
-
--- the version and the mode that are asked for, behind the sheet and before all else; what is asked for by its number is that mode
-pub data GivesAs (s d : List ℕ) (version mode room : ℕ) : Answer → Type 0 where
-  refused_sheet : {i : ℕ} → BadSheetAt s i → GivesAs s d version mode room (BadSheet i)
-  no_version : Accepted s → 1 < version → GivesAs s d version mode room (BadVersion 0)
-  no_mode : Accepted s → version ≤ 1 → mode ≢ 1 → GivesAs s d version mode room (BadMode 0)
-  asked : {a : Answer} → version ≤ 1 → mode ≡ 1 → Gives One s d room a → GivesAs s d version mode room a
+pub data Gives (s d : List ℕ) (room : ℕ) : Answer → Type 0 where
+  no_sheet : {i : ℕ} → BadSheetAt s i → Gives s d room (BadSheet i)
+  above : {i : ℕ} → Accepted s → ModeAt One (records s) i → Gives s d room (BadMode i)
+  passing : {i : ℕ} → Accepted s → Low One (records s) → ShortAt (sheet_main (records s)) d (records s) i → Gives s d room (Short i)
+  differing : {i : ℕ} → Accepted s → Low One (records s) → MismatchAt (sheet_main (records s)) d (records s) i → Gives s d room (Mismatch i)
+  too_long : Sound s d → longest_page < size_of One (records s) → Gives s d room TooLong
+  no_room : Sound s d → size_of One (records s) ≤ longest_page → room < size_of One (records s) → Gives s d room NoRoom
+  written : {n : ℕ} → Sound s d → n ≡ size_of One (records s) → n ≤ longest_page → n ≤ room → Gives s d room (Done n)

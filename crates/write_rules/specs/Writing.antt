@@ -12,17 +12,15 @@
 --   head_by rules rs tally  what the start of page says
 --   page_by rules d rs tally    the page's octets
 --   size_answer room size   after the verdict: TooLong, NoRoom, or Done
---   write_of rules s d room   what is answered by these rules, where the page's buffer holds so many octets
---   write_into rules s d p  what the buffer p holds afterwards
---   Writes rules s d p a e   the promise: it answers a, and the buffer p is then e
---   verdict_as version mode s d   the verdict where a version and a mode are asked for, by their numbers; asked_by: by the judge's verdict
---   write_as, write_as_into, WritesAs   the call: the same, where they are asked for
+--   write_of s d room       what the call answers, where the page's buffer holds so many octets
+--   write_into s d p        what the buffer p holds afterwards
+--   Writes s d p a e       the call's promise: it answers a, and the buffer p is then e
 use Rattle.std.specs.Prelude.{ℕ, ◌+◌, ◌≡◌, Bool, true, ◌&&◌, ◌||◌, not, cond, List, [], ◌∷◌, ◌++◌, length, eqb, ltb}
 use Rattle.octets.specs.Octets.{put_at}
 use Rattle.octets.specs.Entries.{joined}
 use Rattle.write_rules.specs.Sentences.{sheet_main, start_size, page_end}
 use Rattle.answers.specs.declared.Answer.{Answer}
-use Rattle.answers.specs.declared.Answer.TheVariants.{Done, Short, BadVersion, BadMode, NoRoom, Mismatch, TooLong}
+use Rattle.answers.specs.declared.Answer.TheVariants.{Done, Short, BadMode, NoRoom, Mismatch, TooLong}
 use Rattle.field_rules.specs.Field.{Res, ok, no, bind}
 use Rattle.sheet_rules.specs.declared.Record.{Record}
 use Rattle.sheet_rules.specs.declared.Verdict.{Verdict}
@@ -30,11 +28,11 @@ use Rattle.sheet_rules.specs.declared.Verdict.TheVariants.{Good, Refused}
 use Rattle.sheet_rules.specs.Record.{records, nth}
 use Rattle.segment_rules.specs.declared.Mode.{Mode}
 use Rattle.segment_rules.specs.declared.Rules.{Rules}
+use Rattle.segment_rules.specs.Rules.{mode1}
 use Rattle.sheet_rules.specs.Judge.{coded, judge_of, answer_of}
 use Rattle.start_rules.specs.declared.Head.{Head}
 use Rattle.segment_rules.specs.Rules.{longest_page}
 use Rattle.start_rules.specs.Grammar.{start_of}
-use Rattle.start_rules.specs.Reading.{version_taken, mode_taken, rules_from}
 use Rattle.write_rules.specs.declared.Tally.{Tally}
 use Rattle.write_rules.specs.Layer.{agrees}
 use Rattle.write_rules.specs.Cut.{stripes_of}
@@ -106,7 +104,7 @@ unfoldable pub page_by : Rules → List ℕ → List Record → Tally → List �
 unfolding stripes_by
 page_by rules d rs tally = start_of (head_by rules rs tally) ++ (stripes_by rules.mode d rs ++ page_end)
 
--- ---- by these rules: after the verdict TooLong, then NoRoom
+-- ---- the call, in Mode 1: after the verdict TooLong, then NoRoom
 
 unfoldable pub size_answer : ℕ → ℕ → Answer
 size_answer room size = cond (ltb longest_page size) TooLong (cond (ltb room size) NoRoom (Done size))
@@ -116,9 +114,9 @@ unfolding size_answer
 answer_by room (ok tally n) = size_answer room tally.size
 answer_by room (no a) = a
 
-unfoldable pub write_of : Rules → List ℕ → List ℕ → ℕ → Answer
+unfoldable pub write_of : List ℕ → List ℕ → ℕ → Answer
 unfolding verdict_of answer_by
-write_of rules s d room = answer_by room (verdict_of rules s d)
+write_of s d room = answer_by room (verdict_of mode1 s d)
 
 -- the page in front, and the octets past it as they were; a refusal changes nothing
 unfoldable pub into_by : Rules → List ℕ → List ℕ → List Record → Res Tally → List ℕ
@@ -126,36 +124,10 @@ unfolding page_by
 into_by rules p d rs (ok tally n) = cond (ltb longest_page tally.size) p (cond (ltb (length p) tally.size) p (put_at p 0 (page_by rules d rs tally)))
 into_by rules p d rs (no a) = p
 
-unfoldable pub write_into : Rules → List ℕ → List ℕ → List ℕ → List ℕ
+unfoldable pub write_into : List ℕ → List ℕ → List ℕ → List ℕ
 unfolding verdict_of into_by
-write_into rules s d p = into_by rules p d (records s) (verdict_of rules s d)
+write_into s d p = into_by mode1 p d (records s) (verdict_of mode1 s d)
 
-pub record Writes (rules : Rules) (s d p : List ℕ) (a : Answer) (e : List ℕ) : Type 0 where
-  pub answers : a ≡ write_of rules s d (length p)
-  pub holds : e ≡ write_into rules s d p
-
--- ---- the call that is told the version and the mode: they are judged behind the sheet, the version first, and have place 0
-
-unfoldable pub asked_by : ℕ → ℕ → Verdict → List ℕ → List Record → Res Tally
-unfolding verdict_by
-asked_by version mode (Good n k) d rs =
-    cond (version_taken version)
-    (cond (mode_taken mode) (verdict_by (rules_from version mode).mode (Good n k) d rs) (no (BadMode 0)))
-    (no (BadVersion 0))
-asked_by version mode (Refused i) d rs = no (answer_of (Refused i))
-
-unfoldable pub verdict_as : ℕ → ℕ → List ℕ → List ℕ → Res Tally
-unfolding asked_by
-verdict_as version mode s d = asked_by version mode (judge_of s) d (records s)
-
-unfoldable pub write_as : List ℕ → List ℕ → ℕ → ℕ → ℕ → Answer
-unfolding verdict_as answer_by
-write_as s d version mode room = answer_by room (verdict_as version mode s d)
-
-unfoldable pub write_as_into : List ℕ → List ℕ → ℕ → ℕ → List ℕ → List ℕ
-unfolding verdict_as into_by
-write_as_into s d version mode p = into_by (rules_from version mode) p d (records s) (verdict_as version mode s d)
-
-pub record WritesAs (s d : List ℕ) (version mode : ℕ) (p : List ℕ) (a : Answer) (e : List ℕ) : Type 0 where
-  pub answers : a ≡ write_as s d version mode (length p)
-  pub holds : e ≡ write_as_into s d version mode p
+pub record Writes (s d p : List ℕ) (a : Answer) (e : List ℕ) : Type 0 where
+  pub answers : a ≡ write_of s d (length p)
+  pub holds : e ≡ write_into s d p

@@ -8,6 +8,8 @@ use lib.ListN.{length}
 use borrow.Author.Rules.{rules}
 use Rattle.octets.specs.Octets.{octets16, octets32, put_at}
 use Rattle.octets.proofs.Laws.{put_put}
+use Rattle.segment_rules.specs.declared.Version.{Version}
+use Rattle.segment_rules.specs.declared.Version.TheVariants.{Base}
 use Rattle.segment_rules.specs.declared.Mode.{Mode}
 use Rattle.segment_rules.specs.declared.Mode.TheVariants.{One}
 use Rattle.segment_rules.specs.Rules.{version_octet, mode_octet}
@@ -25,6 +27,9 @@ pub start_marked : (d : List ℕ) {e1 e2 e3 e4 : List ℕ} → e1 ≡ put_at d 0
 unfolding octets16
 start_marked d a b c x = put_more d 0 _ 6 _ (omega arith) (put_more d 0 _ 4 _ (omega arith) (put_more d 0 _ 2 _ (omega arith) a refl b) refl c) refl x
 
+pub version_put : (v : Version) → ◌≡◌ {A = ℕ} 0 (version_octet v)
+version_put Base = refl
+
 pub mode_put : (m : Mode) → ◌≡◌ {A = ℕ} 1 (mode_octet m)
 mode_put One = refl
 
@@ -38,4 +43,4 @@ pub start_whole : (d : List ℕ) (hd : Head) {v m : ℕ} {e f : List ℕ} → v 
 unfolding start_of
 start_whole d hd {v} {m} p q a b = put_more d 0 mark_of 10 (start_fields v m hd) (omega arith) a refl b ∙ rw (p, q) refl
 
-pub ruleset starting = (rules, mode_put, start_marked, start_filled, start_whole)
+pub ruleset starting = (rules, version_put, mode_put, start_marked, start_filled, start_whole)

@@ -13,7 +13,6 @@ fn version_octet(v: Version) -> u8
 {
     match v {
         Version::Base => 0,
-        Version::Amended => 1,
     }
 }
 

@@ -3,7 +3,6 @@
 use Prim.Native.Nat.{ℕ, ◌+◌, ◌-◌, ◌*◌, ◌/◌, ◌≤◌, ◌<◌}
 use native.Mathlib.Omega.{arith}
 use mathlib.Core.Path.{◌≡◌, refl, sym, ap, subst, ◌∙◌}
-use mathlib.Core.Bool.{Bool, true, false}
 use mathlib.Core.List.{List, [], ◌∷◌}
 use lib.ListN.{length}
 use lib.Dec.{ltb, lit≤}
@@ -16,7 +15,7 @@ use Rattle.octets.specs.Octets.{Octets, be32_at}
 use Rattle.octets.proofs.Laws.{be32_bound}
 use Rattle.octets.proofs.Entries.{entries_next, entries_none}
 use Rattle.answers.specs.declared.Answer.{Answer}
-use Rattle.answers.specs.declared.Answer.TheVariants.{BadVersion, BadMode, BadSheet}
+use Rattle.answers.specs.declared.Answer.TheVariants.{BadMode, BadSheet}
 use Rattle.answers.specs.Answers.{place_of}
 use Rattle.field_rules.specs.Field.{Res, ok, no, bind}
 use Rattle.sheet_rules.specs.declared.Record.{Record}
@@ -28,18 +27,17 @@ use Rattle.segment_rules.specs.declared.Rules.{Rules}
 use Rattle.sheet_rules.specs.Judge.{judge_of, answer_of}
 use Rattle.sheet_rules.proofs.Cut.{second_blank, second_read}
 use Rattle.sheet_rules.proofs.Theorems.{sheet_few, refused_few}
-use Rattle.start_rules.specs.Reading.{version_taken, mode_taken, rules_from}
 use Rattle.write_rules.specs.declared.Tally.{Tally}
 use Rattle.write_rules.specs.Modes.{head_in}
 use Rattle.segment_rules.specs.Rules.{most_layers}
 use Rattle.write_rules.proofs.Modes.{head_few}
 use Rattle.write_rules.specs.Sentences.{sheet_main, start_size, page_end}
-use Rattle.write_rules.specs.Writing.{counted, matches, record_step, mode_from, begun, records_pass, verdict_by, asked_by, verdict_as}
+use Rattle.write_rules.specs.Writing.{counted, matches, record_step, mode_from, begun, records_pass, verdict_by, verdict_of}
 use Rattle.write_verdict.specs.declared.Pass.{Pass}
 use Rattle.write_verdict.specs.declared.Pass.TheVariants.{Next}
 use Rattle.write_verdict.specs.declared.Layers.{Layers}
 use Rattle.write_verdict.specs.declared.Layers.TheVariants.{Low, Above}
-use Rattle.write_verdict.specs.Pass.{pass_of, layers_of, Few, Taken, accepted_of, asked_pass}
+use Rattle.write_verdict.specs.Pass.{pass_of, layers_of, Few, Taken, accepted_of}
 
 all_records : (s : List ℕ) (n : ℕ) → Few s n → records s ≡ records_from s (n - 0) 0
 unfolding records
@@ -169,36 +167,19 @@ pub taken_above : (mode : Mode) (s d : List ℕ) {m : Layers} {most : ℕ} (k : 
 unfolding accepted_of bind pass_of
 taken_above mode s d {most = most} k a e z = simp (ap (λ (j : ℕ). mode_from j 0 (records s)) (sym a) ∙ above_is most 0 (records s) k (sym e ∙ z))
 
--- ---- judge_asked: the version, then the mode
-module _ (version mode : ℕ) (s d : List ℕ) {a : Bool} (e : a ≡ version_taken version) where
-  pub asked_version : a ≡ false → Pass.Refused (BadVersion 0) ≡ pass_of (asked_pass version mode s d)
-  unfolding asked_pass pass_of
-  asked_version y = simp (sym e ∙ y) refl
-
-  module _ (y : a ≡ true) {b : Bool} (f : b ≡ mode_taken mode) where
-    pub asked_mode : b ≡ false → Pass.Refused (BadMode 0) ≡ pass_of (asked_pass version mode s d)
-    unfolding asked_pass pass_of
-    asked_mode z = simp (sym e ∙ y, sym f ∙ z) refl
-
-    pub asked_good : {rules : Rules} {p : Pass} → b ≡ true → rules ≡ rules_from version mode → p ≡ pass_of (accepted_of rules.mode s d) → p ≡ pass_of (asked_pass version mode s d)
-    unfolding asked_pass
-    asked_good z g h = h ∙ ap (λ (r : Rules). pass_of (accepted_of r.mode s d)) g ∙ simp (sym e ∙ y, sym f ∙ z) refl
-
--- ---- judge_write: the sheet before all
-module _ (s : List ℕ) (v : Verdict) (j : v ≡ judge_of s) where
+module _ (rules : Rules) (s d : List ℕ) (v : Verdict) (j : v ≡ judge_of s) where
   pub fault_fits : (i : ℕ) → v ≡ Verdict.Refused i → Fits w32 i
   fault_fits i e = let f = refused_few s i (sym j ∙ e) in record { fits = omega arith }
+
+  pub write_bad : (i : ℕ) → v ≡ Verdict.Refused i → Pass.Refused (BadSheet i) ≡ pass_of (verdict_of rules s d)
+  unfolding verdict_of verdict_by pass_of answer_of
+  write_bad i e = simp (sym j ∙ e)
 
   pub write_taken : (n m : ℕ) → v ≡ Good n m → Taken s n
   write_taken n m e = record { stripes = m; good = sym j ∙ e }
 
-  module _ (version mode : ℕ) (d : List ℕ) where
-    pub write_bad : (i : ℕ) → v ≡ Verdict.Refused i → Pass.Refused (BadSheet i) ≡ pass_of (verdict_as version mode s d)
-    unfolding verdict_as asked_by pass_of answer_of
-    write_bad i e = simp (sym j ∙ e) refl
+  pub write_good : (n m : ℕ) {p : Pass} → v ≡ Good n m → p ≡ pass_of (accepted_of rules.mode s d) → p ≡ pass_of (verdict_of rules s d)
+  unfolding verdict_of verdict_by accepted_of
+  write_good n m e h = h ∙ simp (sym j ∙ e)
 
-    pub write_good : (n m : ℕ) {p : Pass} → v ≡ Good n m → p ≡ pass_of (asked_pass version mode s d) → p ≡ pass_of (verdict_as version mode s d)
-    unfolding verdict_as asked_by verdict_by asked_pass accepted_of
-    write_good n m e h = h ∙ simp (sym j ∙ e) refl
-
-pub ruleset verdict_laws = (rules, main_none, main_read, taken_few, taken_low, taken_above, asked_version, asked_mode, asked_good, fault_fits, write_bad, write_taken, write_good)
+pub ruleset verdict_laws = (rules, main_none, main_read, taken_few, taken_low, taken_above, fault_fits, write_bad, write_taken, write_good)

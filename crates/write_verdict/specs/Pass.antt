@@ -5,9 +5,7 @@
 --   Few s n      the sheet has n whole records, and no more than a good one
 --   Taken s n    the judge takes the sheet, with n records
 --   accepted_of   the verdict on a sheet that the judge takes
---   asked_pass    the same, where a version and a mode are asked for
-use Rattle.std.specs.Prelude.{ℕ, ◌/◌, ◌≤◌, ◌≡◌, cond, List, length}
-use Rattle.answers.specs.declared.Answer.TheVariants.{BadVersion, BadMode}
+use Rattle.std.specs.Prelude.{ℕ, ◌/◌, ◌≤◌, ◌≡◌, List, length}
 use Rattle.answers.specs.Answers.{place_of}
 use Rattle.field_rules.specs.Field.{Res, ok, no, bind}
 use Rattle.segment_rules.specs.declared.Mode.{Mode}
@@ -16,7 +14,6 @@ use Rattle.sheet_rules.specs.Record.{record_size, records, most_records}
 use Rattle.sheet_rules.specs.Judge.{judge_of}
 use Rattle.write_rules.specs.declared.Tally.{Tally}
 use Rattle.segment_rules.specs.Rules.{most_layers}
-use Rattle.start_rules.specs.Reading.{version_taken, mode_taken, rules_from}
 use Rattle.write_rules.specs.Sentences.{sheet_main}
 use Rattle.write_rules.specs.Writing.{mode_from, begun, records_pass}
 use Rattle.write_verdict.specs.declared.Pass.{Pass}
@@ -43,8 +40,3 @@ pub record Taken (s : List ℕ) (n : ℕ) : Type 0 where
 unfoldable pub accepted_of : Mode → List ℕ → List ℕ → Res Tally
 unfolding bind
 accepted_of mode s d = bind (mode_from (most_layers mode) 0 (records s)) (λ (k e : ℕ). records_pass mode d (sheet_main (records s)) begun 0 (records s))
-
-unfoldable pub asked_pass : ℕ → ℕ → List ℕ → List ℕ → Res Tally
-unfolding accepted_of
-asked_pass version mode s d =
-    cond (version_taken version) (cond (mode_taken mode) (accepted_of (rules_from version mode).mode s d) (no (BadMode 0))) (no (BadVersion 0))

@@ -4,11 +4,11 @@ ghost use Rattle.sheet_rules.specs.Record.{records};
 ghost use Rattle.write_rules.specs.Modes.{head_in};
 ghost use Rattle.segment_rules.specs.Rules.{most_layers};
 ghost use Rattle.write_rules.specs.Sentences.{sheet_main};
-ghost use Rattle.write_rules.specs.Writing.{counted, matches, record_step, mode_from, begun, records_pass, verdict_as};
-ghost use Rattle.write_verdict.specs.Pass.{pass_of, layers_of, Few, Taken, accepted_of, asked_pass};
+ghost use Rattle.write_rules.specs.Writing.{counted, matches, record_step, mode_from, begun, records_pass, verdict_of};
+ghost use Rattle.write_verdict.specs.Pass.{pass_of, layers_of, Few, Taken, accepted_of};
 
 use answers::Answer;
-use segment_rules::Mode;
+use segment_rules::{Mode, Rules};
 use sheet_rules::{Record, TWO_RECORDS, Verdict};
 use write_rules::{FRAME_SIZE, MODE1_HEAD, MODE1_LAYERS, Tally};
 
@@ -178,30 +178,15 @@ fn judge_records(mode: Mode, s: &[u8], d: &[u8], n: usize) -> Pass
     }
 }
 
-// A sheet that the judge takes, to be written by a version and a mode that are asked for: the version before the mode, both before the records.
-fn judge_asked(version: u32, mode: u32, s: &[u8], d: &[u8], n: usize) -> Pass
-    requires { Taken s.now n }
-    ensures { result ≡ pass_of (asked_pass version mode s.now d.now) }
+pub fn judge_write(rules: Rules, s: &[u8], d: &[u8]) -> Pass
+    ensures { result ≡ pass_of (verdict_of rules s.now d.now) }
 {
-    if named_rules::version_taken(version) {
-        if named_rules::mode_taken(mode) {
-            let rules = named_rules::rules_from(version, mode);
-            let mode = rules.mode;
-            return judge_records(mode, s, d, n);
-        }
-        return Pass::Refused(Answer::BadMode(0));
-    }
-    Pass::Refused(Answer::BadVersion(0))
-}
-
-pub fn judge_write(version: u32, mode: u32, s: &[u8], d: &[u8]) -> Pass
-    ensures { result ≡ pass_of (verdict_as version mode s.now d.now) }
-{
+    let mode = rules.mode;
     match sheet_judge::judge(s) {
         Verdict::Refused { record } => Pass::Refused(Answer::BadSheet(record as u32)),
         Verdict::Good {
             records,
             stripes: _,
-        } => judge_asked(version, mode, s, d, records),
+        } => judge_records(mode, s, d, records),
     }
 }

@@ -21,8 +21,17 @@ returns c = search segment_laws
 is-optional-requires : tie.Need-is-optional-requires
 is-optional-requires c κs = search rules
 
-skip-at-requires : tie.Need-skip-at-requires
-skip-at-requires c κs = search rules
+add-skip : tie.Need-overflow-add-skip
+add-skip c = search rules
+
+sub-skip : tie.Need-overflow-sub-skip
+sub-skip c = search rules
+
+cast-skip : tie.Need-overflow-cast-skip
+cast-skip c = search rules
+
+skip-requires : tie.Need-skip-requires
+skip-requires c κs = search rules
 
 returns-2 : tie.Need-returns-2
 returns-2 c = search segment_laws
@@ -43,7 +52,10 @@ by-ident-spec =
     stripe-at-requires
     returns
     is-optional-requires
-    skip-at-requires
+    add-skip
+    sub-skip
+    cast-skip
+    skip-requires
     returns-2
     returns-3
     returns-4)

@@ -6,8 +6,8 @@ use Rattle.read_segment.proofs.by_length.Tie as tie
 fits-requires : tie.Need-fits-requires
 fits-requires c κs = search rules
 
-be16-requires : tie.Need-be16-requires
-be16-requires c κs = search segment_laws
+two-requires : tie.Need-two-requires
+two-requires c κs = search rules
 
 length-ok-requires : tie.Need-length-ok-requires
 length-ok-requires c κs = search rules
@@ -32,7 +32,7 @@ by-length-spec =
     tie.close
     (tie.spec
     fits-requires
-    be16-requires
+    two-requires
     length-ok-requires
     add-by-ident
     by-ident-requires

@@ -6,8 +6,8 @@ use Rattle.read_segment.proofs.skip.Tie as tie
 fits-requires : tie.Need-fits-requires
 fits-requires c κs = search rules
 
-add-t7 : tie.Need-overflow-add-t7
-add-t7 c = search segment_laws
+add-t6 : tie.Need-overflow-add-t6
+add-t6 c = search rules
 
 returns : tie.Need-returns
 returns c = search segment_laws
@@ -16,4 +16,4 @@ returns-2 : tie.Need-returns-2
 returns-2 c = search segment_laws
 
 pub skip-spec : {M : Type 1} → statement M
-skip-spec = tie.close (tie.spec fits-requires add-t7 returns returns-2)
+skip-spec = tie.close (tie.spec fits-requires add-t6 returns returns-2)

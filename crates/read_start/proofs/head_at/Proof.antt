@@ -3,15 +3,6 @@ use borrow.Author.Rules.{rules}
 use Rattle.read_start.proofs.head_at.Statement.{statement}
 use Rattle.read_start.proofs.head_at.Tie as tie
 
-number-requires : tie.Need-number-requires
-number-requires c κs = search rules
-
-number-requires-2 : tie.Need-number-requires-2
-number-requires-2 c κs = search rules
-
-rules-from-requires : tie.Need-rules-from-requires
-rules-from-requires c κs = search rules
-
 octet-requires : tie.Need-octet-requires
 octet-requires c κs = search rules
 
@@ -24,8 +15,8 @@ two-requires c κs = search rules
 four-requires : tie.Need-four-requires
 four-requires c κs = search rules
 
-cast-t8 : tie.Need-overflow-cast-t8
-cast-t8 c = search rules
+cast-t10 : tie.Need-overflow-cast-t10
+cast-t10 c = search rules
 
 returns : tie.Need-returns
 returns c = search heads
@@ -33,13 +24,4 @@ returns c = search heads
 pub head-at-spec : {M : Type 1} → statement M
 head-at-spec =
     tie.close
-    (tie.spec
-    number-requires
-    number-requires-2
-    rules-from-requires
-    octet-requires
-    octet-requires-2
-    two-requires
-    four-requires
-    cast-t8
-    returns)
+    (tie.spec octet-requires octet-requires-2 two-requires four-requires cast-t10 returns)

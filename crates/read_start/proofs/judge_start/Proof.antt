@@ -42,26 +42,20 @@ field-requires-4 c κs = search rules
 held-requires : tie.Need-held-requires
 held-requires c κs = search rules
 
-number-requires : tie.Need-number-requires
-number-requires c κs = search rules
-
-version-taken-requires : tie.Need-version-taken-requires
-version-taken-requires c κs = search rules
+octet-requires : tie.Need-octet-requires
+octet-requires c κs = search rules
 
 field-requires-5 : tie.Need-field-requires-5
 field-requires-5 c κs = search rules
 
-number-requires-2 : tie.Need-number-requires-2
-number-requires-2 c κs = search rules
-
-mode-taken-requires : tie.Need-mode-taken-requires
-mode-taken-requires c κs = search rules
+octet-requires-2 : tie.Need-octet-requires-2
+octet-requires-2 c κs = search rules
 
 field-requires-6 : tie.Need-field-requires-6
 field-requires-6 c κs = search rules
 
-octet-requires : tie.Need-octet-requires
-octet-requires c κs = search rules
+octet-requires-3 : tie.Need-octet-requires-3
+octet-requires-3 c κs = search rules
 
 mask-coder-requires : tie.Need-mask-coder-requires
 mask-coder-requires c κs = search rules
@@ -69,8 +63,8 @@ mask-coder-requires c κs = search rules
 field-requires-7 : tie.Need-field-requires-7
 field-requires-7 c κs = search rules
 
-octet-requires-2 : tie.Need-octet-requires-2
-octet-requires-2 c κs = search rules
+octet-requires-4 : tie.Need-octet-requires-4
+octet-requires-4 c κs = search rules
 
 image-coder-requires : tie.Need-image-coder-requires
 image-coder-requires c κs = search rules
@@ -105,31 +99,29 @@ returns c =
     c.field11.ensures
     c.before.stands-at4.ensures
     c.before.before.before.field10.ensures
-    c.before.before.before.before.before.before.before.before.before.before.before.before.before.before.before.before.before.before.before.before.before.before.before.before.before.before.before.before.before.before.four.ensures
+    c.before.before.before.before.before.before.before.before.before.before.before.before.before.before.before.before.before.before.before.before.before.before.before.before.before.before.before.before.four.ensures
     c.before.before.before.before.field9.ensures
     c.before.before.before.before.before.is-listed.ensures
     c.before.before.before.before.before.before.two2.ensures
     c.before.before.before.before.before.before.before.field8.ensures
     c.before.before.before.before.before.before.before.before.image-coder.ensures
-    c.before.before.before.before.before.before.before.before.before.octet2.ensures
+    c.before.before.before.before.before.before.before.before.before.octet4.ensures
     c.before.before.before.before.before.before.before.before.before.before.field7.ensures
     c.before.before.before.before.before.before.before.before.before.before.before.mask_coder_lem.ensures
-    c.before.before.before.before.before.before.before.before.before.before.before.before.octet.ensures
+    c.before.before.before.before.before.before.before.before.before.before.before.before.octet3.ensures
     c.before.before.before.before.before.before.before.before.before.before.before.before.before.field6.ensures
-    c.before.before.before.before.before.before.before.before.before.before.before.before.before.before.mode_taken_lem.ensures
-    c.before.before.before.before.before.before.before.before.before.before.before.before.before.before.before.number2.ensures
-    c.before.before.before.before.before.before.before.before.before.before.before.before.before.before.before.before.field5.ensures
-    c.before.before.before.before.before.before.before.before.before.before.before.before.before.before.before.before.before.version_taken_lem.ensures
-    c.before.before.before.before.before.before.before.before.before.before.before.before.before.before.before.before.before.before.number.ensures
-    c.before.before.before.before.before.before.before.before.before.before.before.before.before.before.before.before.before.before.before.held.ensures
-    c.before.before.before.before.before.before.before.before.before.before.before.before.before.before.before.before.before.before.before.before.field4.ensures
-    c.before.before.before.before.before.before.before.before.before.before.before.before.before.before.before.before.before.before.before.before.before.stands-at3.ensures
-    c.before.before.before.before.before.before.before.before.before.before.before.before.before.before.before.before.before.before.before.before.before.before.before.field3.ensures
-    c.before.before.before.before.before.before.before.before.before.before.before.before.before.before.before.before.before.before.before.before.before.before.before.before.field2.ensures
-    c.before.before.before.before.before.before.before.before.before.before.before.before.before.before.before.before.before.before.before.before.before.before.before.before.before.stands-at2.ensures
-    c.before.before.before.before.before.before.before.before.before.before.before.before.before.before.before.before.before.before.before.before.before.before.before.before.before.before.before.field.ensures
-    c.before.before.before.before.before.before.before.before.before.before.before.before.before.before.before.before.before.before.before.before.before.before.before.before.before.before.before.before.stands_at.ensures
-    c.before.before.before.before.before.before.before.before.before.before.before.before.before.before.before.before.before.before.before.before.before.before.before.before.before.before.before.before.before.before.before.two.ensures
+    c.before.before.before.before.before.before.before.before.before.before.before.before.before.before.octet2.ensures
+    c.before.before.before.before.before.before.before.before.before.before.before.before.before.before.before.field5.ensures
+    c.before.before.before.before.before.before.before.before.before.before.before.before.before.before.before.before.octet.ensures
+    c.before.before.before.before.before.before.before.before.before.before.before.before.before.before.before.before.before.held.ensures
+    c.before.before.before.before.before.before.before.before.before.before.before.before.before.before.before.before.before.before.field4.ensures
+    c.before.before.before.before.before.before.before.before.before.before.before.before.before.before.before.before.before.before.before.stands-at3.ensures
+    c.before.before.before.before.before.before.before.before.before.before.before.before.before.before.before.before.before.before.before.before.before.field3.ensures
+    c.before.before.before.before.before.before.before.before.before.before.before.before.before.before.before.before.before.before.before.before.before.before.field2.ensures
+    c.before.before.before.before.before.before.before.before.before.before.before.before.before.before.before.before.before.before.before.before.before.before.before.stands-at2.ensures
+    c.before.before.before.before.before.before.before.before.before.before.before.before.before.before.before.before.before.before.before.before.before.before.before.before.before.field.ensures
+    c.before.before.before.before.before.before.before.before.before.before.before.before.before.before.before.before.before.before.before.before.before.before.before.before.before.before.stands_at.ensures
+    c.before.before.before.before.before.before.before.before.before.before.before.before.before.before.before.before.before.before.before.before.before.before.before.before.before.before.before.before.before.two.ensures
 
 pub judge-start-spec : {M : Type 1} → statement M
 judge-start-spec =
@@ -148,16 +140,14 @@ judge-start-spec =
     stands-at-requires-3
     field-requires-4
     held-requires
-    number-requires
-    version-taken-requires
-    field-requires-5
-    number-requires-2
-    mode-taken-requires
-    field-requires-6
     octet-requires
+    field-requires-5
+    octet-requires-2
+    field-requires-6
+    octet-requires-3
     mask-coder-requires
     field-requires-7
-    octet-requires-2
+    octet-requires-4
     image-coder-requires
     field-requires-8
     two-requires-2

@@ -3,8 +3,8 @@ use borrow.Author.Rules.{rules}
 use Rattle.spirerook.proofs.spirerook_write.Statement.{statement}
 use Rattle.spirerook.proofs.spirerook_write.Tie as tie
 
-write-as-requires : tie.Need-write-as-requires
-write-as-requires c κs = search rules
+write-page-requires : tie.Need-write-page-requires
+write-page-requires c κs = search rules
 
 reported-requires : tie.Need-reported-requires
 reported-requires c κs = search rules
@@ -16,4 +16,5 @@ returns : tie.Need-returns
 returns c = search calls
 
 pub spirerook-write-spec : {M : Type 1} → statement M
-spirerook-write-spec = tie.close (tie.spec write-as-requires reported-requires same_length returns)
+spirerook-write-spec =
+    tie.close (tie.spec write-page-requires reported-requires same_length returns)

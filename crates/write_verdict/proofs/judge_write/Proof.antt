@@ -15,8 +15,8 @@ cast-t9 c = search verdict_laws
 enum-known-records : tie.Need-enum-known-records
 enum-known-records c = search rules
 
-judge-asked-requires : tie.Need-judge-asked-requires
-judge-asked-requires c κs = search verdict_laws
+judge-records-requires : tie.Need-judge-records-requires
+judge-records-requires c κs = search verdict_laws
 
 returns : tie.Need-returns
 returns c = search verdict_laws
@@ -32,6 +32,6 @@ judge-write-spec =
     enum-known-record
     cast-t9
     enum-known-records
-    judge-asked-requires
+    judge-records-requires
     returns
     returns-2)

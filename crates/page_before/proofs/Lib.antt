@@ -1,4 +1,0 @@
-pub mod Tables
-pub mod Start
-pub mod Pages
-pub mod Theorems

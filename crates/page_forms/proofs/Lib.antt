@@ -1,2 +1,0 @@
-pub mod Moved
-pub mod Theorems
