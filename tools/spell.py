@@ -16,9 +16,9 @@ TABLE = dict(line.rstrip("\n").split("\t") for line in open(os.path.join(TOP, "t
 LEMMAS = {old for old in TABLE if "-" not in old and not re.search("[A-Z]", old)}
 
 
-def word_at(text, match):
+def word_at(text, match, rust):
     word = match[0]
-    if word not in TABLE:
+    if word not in TABLE or rust and word in LEMMAS:
         return word
     if word in LEMMAS and (text[match.start() - 1:match.start()] == "." and text[match.start() - 2:match.start()] != ".{" or text[match.end():match.end() + 1] == "."):
         return word
@@ -27,8 +27,8 @@ def word_at(text, match):
     return TABLE[word]
 
 
-def code(text):
-    return WORD.sub(lambda m: word_at(text, m), text)
+def code(text, rust):
+    return WORD.sub(lambda m: word_at(text, m, rust), text)
 
 
 def quoted(text, lemmas=True):
@@ -41,7 +41,7 @@ def by_line(text, mark):
     for line in text.split("\n"):
         at = line.find(mark)
         # a mark within a string stays code: no string of these files has one with a name behind it
-        out.append(code(line) if at < 0 else code(line[:at]) + camel(quoted(line[at:], False)))
+        out.append(code(line, mark == "//") if at < 0 else code(line[:at], mark == "//") + camel(quoted(line[at:], False)))
     return "\n".join(out)
 
 

@@ -41,7 +41,7 @@ pub fn row_at(rows: &[usize], l: usize) -> Row
     }
 }
 
-pub fn mask_at_lem(d: &[u8], r: Row, x: MainPos) -> Mask
+pub fn mask_at(d: &[u8], r: Row, x: MainPos) -> Mask
     requires { MaskFits d.now r × (x.0 < 65536) }
     ensures { result ≡ row_mask d.now r x }
 {

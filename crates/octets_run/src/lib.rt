@@ -34,7 +34,7 @@ fn all_same(s: &[u8], v: u8, i: usize) -> bool
 }
 
 // Most runs are short, so that the first 32 octets are looked at one by one.
-pub fn run_end_lem(s: &[u8], v: u8, from: usize) -> usize
+pub fn run_end(s: &[u8], v: u8, from: usize) -> usize
     requires { from ≤ length s.now }
     ensures { result ≡ run_end v s.now from }
 {
