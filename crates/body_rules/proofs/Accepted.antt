@@ -96,7 +96,7 @@ module _ (Stripe : ℕ → ℕ → ℕ → List ℕ → ℕ → List Record → 
     → (r : Record) → Among r rs → P s r) where
   pub stripes_each : {k left at : ℕ} {l : List ℕ} {rs : List Record} → Stripes Stripe k left at l rs → (s tail : List ℕ) → drop at s ≡ l ++ tail → at ≤ length s
       → (r : Record) → Among r rs → P s r
-  stripes_each (last some) s tail e h r m = absurd (Memᴰ.not_nil m)
+  stripes_each (last some) s tail e h r m = absurd (Memᴰ.not-nil m)
   stripes_each {k} {left} {at} (next {l = l} {more = more} {rs = rs} height few z rest) s tail e h r m =
       let o = stripes_onward s at l more tail e h in
       ⊎_elim (λ m1. each k left at l height rs z s (more ++ tail) o.here o.within r m1) (λ m2. stripes_each rest s tail o.further o.within r m2) (Memᴰ.append_cases rs m)

@@ -65,7 +65,7 @@ stripe_own {hd} {k} {left} {at} {o} {height} {rs} z s tail e =
 stripes_own : {hd : Head} {k left at : ℕ} {o : List ℕ} {rs : List Record} (y : Stripes hd k left at o rs) (s tail : List ℕ) → drop at s ≡ o ++ tail → at ≤ length s
     → (r : Record) → Among r rs → (k ≤ r.stripe) × Own s r (layers_in y r.stripe)
 unfolding layers_in
-stripes_own (last some) s tail e h r m = absurd (Memᴰ.not_nil m)
+stripes_own (last some) s tail e h r m = absurd (Memᴰ.not-nil m)
 stripes_own {hd} {k} {left} {at} (next {l = l} {more = more} {rs = rs} {sr = sr} height few z rest) s tail e h r m =
     let o = stripes_onward s at l more tail e h in
     ⊎_elim

@@ -84,7 +84,7 @@ says_within lo hi x = says_and (says_le lo x) (says_le x hi)
 
 pub says_among : (xs : List ℕ) (x : ℕ) → Says (among xs x) (Memᴰ x xs)
 unfolding among
-says_among [] x = says_as says_false (λ k. absurd k) (λ m. absurd (Memᴰ.not_nil m))
+says_among [] x = says_as says_false (λ k. absurd k) (λ m. absurd (Memᴰ.not-nil m))
 says_among (y ∷ ys) x = says_as (says_or (says_eq x y) (says_among ys x)) to (λ m. Memᴰ.cases_cons m)
   where
     to : (x ≡ y) ⊎ Memᴰ x ys → Memᴰ x (y ∷ ys)

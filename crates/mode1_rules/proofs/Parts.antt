@@ -63,7 +63,7 @@ module _ {hd : Head} {k left at : ℕ} {l : List ℕ} {height : ℕ} {rs : List 
       ⊎_elim (λ (y : r ≡ back_in). subst P (sym y) p1)
       (λ m2.
       ⊎_elim (λ (y : r ≡ mask_in). subst P (sym y) p2)
-      (λ m3. ⊎_elim (λ (y : r ≡ fore_in). subst P (sym y) p3) (λ m4. absurd (Memᴰ.not_nil m4)) (Memᴰ.cases_cons m3))
+      (λ m3. ⊎_elim (λ (y : r ≡ fore_in). subst P (sym y) p3) (λ m4. absurd (Memᴰ.not-nil m4)) (Memᴰ.cases_cons m3))
       (Memᴰ.cases_cons m2))
       (Memᴰ.cases_cons (subst (λ (x : List Record). Among r x) z.records m))
 

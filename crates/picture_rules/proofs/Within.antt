@@ -27,7 +27,7 @@ use Rattle.pixel_rules.proofs.Starts.{start_among}
 -- ---- what a start that is found says of its layer
 
 pub among_plane : (ps : List Plane) (p : Plane) → Memᴰ p ps → (i : ℕ) × (i < length ps) × (plane ps i ≡ p)
-among_plane [] p m = absurd (Memᴰ.not_nil m)
+among_plane [] p m = absurd (Memᴰ.not-nil m)
 among_plane (q ∷ ps) p m =
     ⊎_elim (λ (e : p ≡ q). (0, omega arith, sym e)) (λ (k : Memᴰ p ps). let r = among_plane ps p k in let h = r.1 in (suc r.0, omega arith, r.2))
     (Memᴰ.cases_cons m)

@@ -57,7 +57,7 @@ start_among (q ∷ ps) l a =
 -- a layer that is listed has a start
 pub start_some : (ps : List Plane) (p : Plane) → Memᴰ p ps → (a : ℕ) × (plane_start ps p.layer ≡ From a)
 unfolding plane_start
-start_some [] p m = absurd (Memᴰ.not_nil m)
+start_some [] p m = absurd (Memᴰ.not-nil m)
 start_some (q ∷ ps) p m =
     cond_with (λ (x : Start). (a : ℕ) × (x ≡ From a)) (eqb q.layer p.layer)
     (λ t. (q.start, refl))
@@ -72,7 +72,7 @@ Rises last [] = Unit
 Rises last (p ∷ ps) = (last < p.layer) × Rises p.layer ps
 
 rises_above : (ps : List Plane) (last : ℕ) (p : Plane) → Rises last ps → Memᴰ p ps → last < p.layer
-rises_above [] last p r m = absurd (Memᴰ.not_nil m)
+rises_above [] last p r m = absurd (Memᴰ.not-nil m)
 rises_above (q ∷ ps) last p r m =
     let a = r.0 in
     ⊎_elim (λ (e : p ≡ q). let z = ap (λ (x : Plane). x.layer) e in omega arith) (λ (k : Memᴰ p ps). let b = rises_above ps q.layer p r.1 k in omega arith)
@@ -81,7 +81,7 @@ rises_above (q ∷ ps) last p r m =
 -- each layer once: an entry's layer starts where the entry says
 pub rises_start : (ps : List Plane) (last : ℕ) (p : Plane) → Rises last ps → Memᴰ p ps → plane_start ps p.layer ≡ From p.start
 unfolding plane_start
-rises_start [] last p r m = absurd (Memᴰ.not_nil m)
+rises_start [] last p r m = absurd (Memᴰ.not-nil m)
 rises_start (q ∷ ps) last p r m =
     ⊎_elim
     (λ (e : p ≡ q).

@@ -58,11 +58,11 @@ agrees_begin =
       last = λ i e. (omega arith, omega arith);
       bound = (omega arith, omega arith);
       count = omega arith;
-      passed = λ x m. absurd (Memᴰ.not_nil m);
+      passed = λ x m. absurd (Memᴰ.not-nil m);
       one = λ h. absurd (omega arith);
-      ones = λ x m. absurd (Memᴰ.not_nil m);
+      ones = λ x m. absurd (Memᴰ.not-nil m);
       two = λ h. absurd (omega arith);
-      twos = λ x m. absurd (Memᴰ.not_nil m);
+      twos = λ x m. absurd (Memᴰ.not-nil m);
       page = λ h. absurd (omega arith);
       left = omega arith;
     }

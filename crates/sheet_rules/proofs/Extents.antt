@@ -132,8 +132,8 @@ extents_begin =
       beyond = λ k h. refl;
       closed = λ k h. absurd (omega arith);
       index = λ i h. absurd (omega arith);
-      within = λ x m. absurd (Memᴰ.not_nil m);
-      high = λ x m. absurd (Memᴰ.not_nil m);
+      within = λ x m. absurd (Memᴰ.not-nil m);
+      high = λ x m. absurd (Memᴰ.not-nil m);
     }
 
 module _ (rs : List Record) (st : State) (r : Record) (g : Agrees rs st) (n : New st r) (p : Extents rs st.stripe st.layer) where

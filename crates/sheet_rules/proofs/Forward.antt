@@ -24,27 +24,27 @@ pub unbroken_none : Unbroken []
 unfolding heights
 unbroken_none =
     record {
-      zeros = λ r m. absurd (Memᴰ.not_nil m);
-      grey = λ r m. absurd (Memᴰ.not_nil m);
+      zeros = λ r m. absurd (Memᴰ.not-nil m);
+      grey = λ r m. absurd (Memᴰ.not-nil m);
       first = λ h. absurd (omega arith);
       next = λ i h. absurd (omega arith);
-      few = λ r m. absurd (Memᴰ.not_nil m);
-      coder = λ r m. absurd (Memᴰ.not_nil m);
-      size = λ r m. absurd (Memᴰ.not_nil m);
-      ending = λ r m. absurd (Memᴰ.not_nil m);
-      uncoded = λ r m. absurd (Memᴰ.not_nil m);
-      empty = λ r m. absurd (Memᴰ.not_nil m);
-      plain = λ r q m. absurd (Memᴰ.not_nil m);
-      corner = λ r m. absurd (Memᴰ.not_nil m);
-      wide = λ r m. absurd (Memᴰ.not_nil m);
-      high = λ r m. absurd (Memᴰ.not_nil m);
+      few = λ r m. absurd (Memᴰ.not-nil m);
+      coder = λ r m. absurd (Memᴰ.not-nil m);
+      size = λ r m. absurd (Memᴰ.not-nil m);
+      ending = λ r m. absurd (Memᴰ.not-nil m);
+      uncoded = λ r m. absurd (Memᴰ.not-nil m);
+      empty = λ r m. absurd (Memᴰ.not-nil m);
+      plain = λ r q m. absurd (Memᴰ.not-nil m);
+      corner = λ r m. absurd (Memᴰ.not-nil m);
+      wide = λ r m. absurd (Memᴰ.not-nil m);
+      high = λ r m. absurd (Memᴰ.not-nil m);
       tall = omega arith;
-      same = λ r q m. absurd (Memᴰ.not_nil m);
-      listed = λ r m. absurd (Memᴰ.not_nil m);
-      divides = λ r q m. absurd (Memᴰ.not_nil m);
-      base = λ r m. absurd (Memᴰ.not_nil m);
-      some = λ a b c m. absurd (Memᴰ.not_nil m);
-      mask = λ a b c m. absurd (Memᴰ.not_nil m);
+      same = λ r q m. absurd (Memᴰ.not-nil m);
+      listed = λ r m. absurd (Memᴰ.not-nil m);
+      divides = λ r q m. absurd (Memᴰ.not-nil m);
+      base = λ r m. absurd (Memᴰ.not-nil m);
+      some = λ a b c m. absurd (Memᴰ.not-nil m);
+      mask = λ a b c m. absurd (Memᴰ.not-nil m);
     }
 
 module _ (rs : List Record) (st : State) (r : Record) (u : Unbroken rs) (g : Agrees rs st) (n : New st r) where

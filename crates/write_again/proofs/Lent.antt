@@ -21,7 +21,7 @@ use Rattle.write_again.proofs.Mode1.{Lent}
 use Rattle.write_again.proofs.Modes.{stripe_lent, second_is, stripe_opened, stripe_size}
 
 pub stripes_lent : {hd : Head} {k left at : ℕ} {l : List ℕ} {rs : List Record} → Stripes hd k left at l rs → (r : Record) → Among r rs → Lent hd r
-stripes_lent (last some) r m = absurd (Memᴰ.not_nil m)
+stripes_lent (last some) r m = absurd (Memᴰ.not-nil m)
 stripes_lent (next {rs = rs} height few z rest) r m =
     ⊎_elim (λ m1. stripe_lent z r m1) (λ m2. stripes_lent rest r m2) (Memᴰ.append_cases rs m)
 

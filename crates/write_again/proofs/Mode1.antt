@@ -92,7 +92,7 @@ stripe_opened {hd} {k} z =
       once = λ r m.
           ⊎_elim (λ (e : r ≡ mask_in z). subst (λ (x : Record). x.layer ≢ 1) (sym e) (λ w. omega arith))
           (λ m2.
-          ⊎_elim (λ (e : r ≡ fore_in z). subst (λ (x : Record). x.layer ≢ 1) (sym e) (λ w. omega arith)) (λ m3. absurd (Memᴰ.not_nil m3)) (Memᴰ.cases_cons m2))
+          ⊎_elim (λ (e : r ≡ fore_in z). subst (λ (x : Record). x.layer ≢ 1) (sym e) (λ w. omega arith)) (λ m3. absurd (Memᴰ.not-nil m3)) (Memᴰ.cases_cons m2))
           (Memᴰ.cases_cons m);
     }
 

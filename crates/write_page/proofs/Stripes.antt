@@ -48,7 +48,7 @@ module _ (s : List ℕ) (i n : ℕ) (k : Inside s i n) where
       record {
         on = omega arith;
         within = omega arith;
-        none = λ x m. absurd (mathlib.Core.List.Memᴰ.not_nil (subst (Among x) (entries_none (record_at s) (i + 1) (i + 1) (omega arith)) m));
+        none = λ x m. absurd (mathlib.Core.List.Memᴰ.not-nil (subst (Among x) (entries_none (record_at s) (i + 1) (i + 1) (omega arith)) m));
       }
 
   module _ (j : ℕ) (g : Ending s i n j) where

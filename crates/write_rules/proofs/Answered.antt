@@ -50,7 +50,7 @@ among_take rs i r m = subst (Among r) (take-append-drop i rs) (Memᴰ.append_lef
 
 mode_low : (mode : Mode) (i : ℕ) (rs : List Record) (k n : ℕ) → mode_from (most_layers mode) i rs ≡ ok k n → Low mode rs
 unfolding mode_from
-mode_low mode i [] k n = λ q r m. absurd (Memᴰ.not_nil m)
+mode_low mode i [] k n = λ q r m. absurd (Memᴰ.not-nil m)
 mode_low mode i (x ∷ rs) k n =
     cond_with (λ y. y ≡ ok k n → Low mode (x ∷ rs)) (ltb (most_layers mode) x.layer) (λ t q. clash cc)
     (λ t q r m.
@@ -91,7 +91,7 @@ mode_at mode i (x ∷ rs) a =
     (λ t q.
     let z : i ≡ i + 0 = omega arith in
     let e : BadMode i ≡ a = cc in
-    (0, sym e ∙ ap BadMode z, record { within = omega arith; before = λ r m. absurd (Memᴰ.not_nil m); above = ltb-true (most_layers mode) x.layer t }))
+    (0, sym e ∙ ap BadMode z, record { within = omega arith; before = λ r m. absurd (Memᴰ.not-nil m); above = ltb-true (most_layers mode) x.layer t }))
     (λ t q.
     let k = mode_at mode (i + 1) rs a q in
     let w = k.2.within in

@@ -53,7 +53,7 @@ record Front (r : Record) (qs : List (List Record)) : Type 0 where
 
 front : (r : Record) (rs : List Record) → Front r (stripes_of (r ∷ rs))
 unfolding stripes_of joining
-front r [] = record { q = []; more = []; is = refl; once = λ x m. absurd (Memᴰ.not_nil m); each = λ y m. absurd (Memᴰ.not_nil m) }
+front r [] = record { q = []; more = []; is = refl; once = λ x m. absurd (Memᴰ.not-nil m); each = λ y m. absurd (Memᴰ.not-nil m) }
 front r (x ∷ rs) =
     let f = front x rs in
     ⊎_elim
@@ -62,7 +62,7 @@ front r (x ∷ rs) =
       q = [];
       more = (x ∷ f.q) ∷ f.more;
       is = ap (joining r) f.is ∙ parts r x f.q f.more e;
-      once = λ y m. absurd (Memᴰ.not_nil m);
+      once = λ y m. absurd (Memᴰ.not-nil m);
       each = λ y m.
           ⊎_elim (λ (z : y ≡ x ∷ f.q). record { first = x; others = f.q; is = z; opening = e; once = f.once }) (λ m2. f.each y m2) (Memᴰ.cases_cons m);
     })
@@ -83,7 +83,7 @@ Next rs = (0 < length rs → (nth rs 0).layer ≡ 1)
 -- each begins at layer 1, and no other of its records is layer 1
 pub cut_opened : (rs : List Record) → Next rs → (q : List Record) → Memᴰ q (stripes_of rs) → Opened q
 unfolding stripes_of
-cut_opened [] n q m = absurd (Memᴰ.not_nil m)
+cut_opened [] n q m = absurd (Memᴰ.not-nil m)
 cut_opened (r ∷ rs) n q m =
     let f = front r rs in
     ⊎_elim (λ (e : q ≡ r ∷ f.q). record { first = r; others = f.q; is = e; opening = n (omega arith); once = f.once }) (λ m2. f.each q m2)
@@ -253,7 +253,7 @@ upward_layers b k l (r ∷ q) (up e g more) m f =
 
 pub lots_layers : (rs : List Record) (b : ℕ) → ((r : Record) → Among r rs → r.layer ≤ b) → {k left : ℕ} {qs : List (List Record)} → Lots rs k left qs
     → (q : List Record) → Memᴰ q qs → (3 ≤ length q) × (length q ≤ b)
-lots_layers rs b f (ended p) q m = absurd (Memᴰ.not_nil m)
+lots_layers rs b f (ended p) q m = absurd (Memᴰ.not-nil m)
 lots_layers rs b f {k} (another {q = x} l more) q m =
     ⊎_elim
     (λ (e : q ≡ x).

@@ -165,12 +165,12 @@ unfolding records_pass bind sum_of
 pass_back mode d o main t u i n [] p = λ q.
     let e : t ≡ u = cc in
     record {
-      inside = λ r m. absurd (Memᴰ.not_nil m);
-      layer = λ r m. absurd (Memᴰ.not_nil m);
-      mask = λ r m. absurd (Memᴰ.not_nil m);
+      inside = λ r m. absurd (Memᴰ.not-nil m);
+      layer = λ r m. absurd (Memᴰ.not-nil m);
+      mask = λ r m. absurd (Memᴰ.not-nil m);
       mask_kept = λ nz. sym (ap (λ (x : Tally). x.mask) e);
       mask_used = inl (sym (ap (λ (x : Tally). x.mask) e));
-      image = λ r m. absurd (Memᴰ.not_nil m);
+      image = λ r m. absurd (Memᴰ.not-nil m);
       image_kept = λ z. sym (ap (λ (x : Tally). x.image) e) ∙ z;
       image_used = inl (sym (ap (λ (x : Tally). x.image) e));
       size = let z = ap (λ (x : Tally). x.size) e in omega arith;

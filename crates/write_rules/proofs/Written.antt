@@ -49,7 +49,7 @@ at_sized s o i =
 
 from_sized : (s : List ℕ) → Octets s → (k i : ℕ) (r : Record) → Among r (records_from s k i) → Sized r
 unfolding entries_from
-from_sized s o zero i r m = absurd (Memᴰ.not_nil m)
+from_sized s o zero i r m = absurd (Memᴰ.not-nil m)
 from_sized s o (suc k) i r m = ⊎_elim (λ (e : r ≡ record_at s i). subst Sized (sym e) (at_sized s o i)) (λ m2. from_sized s o k (i + 1) r m2) (Memᴰ.cases_cons m)
 
 pub records_sized : (s : List ℕ) → Octets s → (r : Record) → Among r (records s) → Sized r
@@ -59,7 +59,7 @@ records_sized s o r m = from_sized s o (length s / record_size) 0 r m
 -- ---- records that are the same but for their starts
 
 pub same_among : (qs rs : List Record) → map bare qs ≡ map bare rs → (r : Record) → Among r rs → (q : Record) × Among q qs × (bare q ≡ bare r)
-same_among [] [] e r m = absurd (Memᴰ.not_nil m)
+same_among [] [] e r m = absurd (Memᴰ.not-nil m)
 same_among [] (x ∷ rs) e r m = clash cc
 same_among (y ∷ qs) [] e r m = clash cc
 same_among (y ∷ qs) (x ∷ rs) e r m =
