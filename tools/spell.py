@@ -2,8 +2,8 @@
 """tools/spell.py: brings the names that this repository defines in specs/ and proofs/ to snake case, by the table tools/spelling.tsv (old name, new name).
 
 Run once, at the top, right after the kit's own script that turned the older spelling. It reads words as antt does, so that a dash belongs to a name, and
-changes them in code of .antt files, in the clauses of .rt files (Rust itself has no such names), in both between back quotes in comments, and between back
-quotes in the pages of docs/ and the README. Functions of src/, strings, inputs, outputs and must-fail edits are left alone.
+changes them in code of .antt files, in .rt files (clauses, and fields of a struct that had an inner capital), in both between back quotes in comments, and between back
+quotes in the pages of docs/ and the README. Functions of src/ have no such names; strings, inputs, outputs and must-fail edits are left alone.
 """
 import glob
 import os
@@ -11,6 +11,7 @@ import re
 
 TOP = os.path.dirname(os.path.dirname(os.path.abspath(__file__)))
 WORD = re.compile(r"[^\s(){}\[\];,.⌜⌝\"`|@]+")
+RUST_WORD = re.compile(r"[^\s(){}\[\];:,.⌜⌝\"`|@]+")
 TABLE = dict(line.rstrip("\n").split("\t") for line in open(os.path.join(TOP, "tools", "spelling.tsv"), encoding="utf-8"))
 # a name in snake case that gives way to a definition is a lemma of its own file: a path, and what stands behind a dot, keeps it
 LEMMAS = {old for old in TABLE if "-" not in old and not re.search("[A-Z]", old)}
@@ -28,7 +29,7 @@ def word_at(text, match, rust):
 
 
 def code(text, rust):
-    return WORD.sub(lambda m: word_at(text, m, rust), text)
+    return (RUST_WORD if rust else WORD).sub(lambda m: word_at(text, m, rust), text)
 
 
 def quoted(text, lemmas=True):

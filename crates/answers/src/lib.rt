@@ -1,6 +1,8 @@
 // What a call answers. A refusal holds its place: the octet of the page, or the record or list entry, at fault. The three refusals whose place is
 // always 0 hold none, so that no other can be given them.
-#[derive(Drop)]
+#![tactic(auto)]
+
+#[derive(Clone, Copy)]
 pub enum Answer {
     // The work was done; the records or octets written, or the length of the part handed out.
     Done(u64),

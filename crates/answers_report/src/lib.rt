@@ -1,4 +1,6 @@
 // An answer as the viewer in C is given it.
+#![tactic(auto)]
+
 ghost use Rattle.std.specs.Prelude.{◌≡◌};
 ghost use Rattle.answers_report.specs.Report.{refusal_of, report_of};
 
@@ -6,7 +8,7 @@ use answers::Answer;
 
 // The layout is the header's: viewers link it.
 #[repr(C)]
-#[derive(Drop)]
+#[derive(Clone, Copy)]
 pub struct Report {
     pub number: u32,
     pub place: u32,

@@ -1,4 +1,6 @@
 // A band of pixels, all lines of a stripe: the verdict, then the room, then line after line. So a refusal changes nothing that was lent.
+#![tactic(auto)]
+
 ghost use Rattle.std.specs.Prelude.{◌≡◌, ◌*◌, ◌<◌};
 ghost use Rattle.pixel_rules.specs.Planes.{list_of};
 ghost use Rattle.band_rules.specs.Band.{Bands};

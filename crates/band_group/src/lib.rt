@@ -1,5 +1,7 @@
 // Lines of a band that differ in layer 2 alone: the first two are painted as if it were 0 all along, and 1, and each line is then mixed of these two by
 // its own samples. So what all other layers show is painted twice, however many lines share it.
+#![tactic(auto)]
+
 ghost use Rattle.std.specs.Prelude.{◌≡◌, ◌+◌, ◌-◌, ◌*◌, ◌<◌, ◌≤◌, length};
 ghost use Rattle.line_pixel.specs.Rows.{RowsFit};
 ghost use Rattle.paint_coat.specs.Coat.{Coated, over};

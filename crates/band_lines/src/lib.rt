@@ -1,4 +1,6 @@
 // The lines of a stripe that is to be shown, one behind the other: in groups where only layer 2 changes from line to line, else one by one.
+#![tactic(auto)]
+
 ghost use Rattle.std.specs.Prelude.{◌≡◌, true, ◌+◌, ◌*◌, ◌<◌, ◌≤◌, length};
 ghost use Rattle.octets.specs.Octets.{put_at};
 ghost use Rattle.line_fetch.specs.Rows.{row_size};

@@ -1,5 +1,7 @@
 // Lines of a band that differ by the bits of one mask alone: two are painted, one as if the mask were 0 all along and one as if it were 1, and all are
 // made of these two. Places are pixels of the band.
+#![tactic(auto)]
+
 ghost use Rattle.std.specs.Prelude.{◌+◌, ◌-◌, ◌*◌, ◌<◌, ◌≤◌, length};
 ghost use Rattle.paint_coat.specs.Coat.{Coated, over};
 ghost use Rattle.band_mix.specs.Mix.{mixed_from, copied_from, line_from, Stepped, TwoMixed, TwoLaid, TwoPart, TwoStepped, Source};

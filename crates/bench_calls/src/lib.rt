@@ -2,6 +2,8 @@
 //
 // The packing asks for no bound, since every part is cut to sixteen bits. Nothing is lost by that for a verdict: a sheet of more than 960
 // records is refused at one of the first 961. Nor is it for a stripe of a good sheet, whose heights add up to at most 65,535.
+#![tactic(auto)]
+
 ghost use Rattle.std.specs.Prelude.{◌<◌};
 
 use sheet_rules::{FoundStripe, Verdict};

@@ -1,4 +1,6 @@
 // Coded data handed out: where a layer's data stand, or the refusal; and the part itself, which is never a copy.
+#![tactic(auto)]
+
 ghost use Rattle.std.specs.Prelude.{◌≡◌, ◌+◌, ◌≤◌, length};
 ghost use Rattle.data_rules.specs.Data.{stripe_found, found_of};
 ghost use Rattle.sheet_rules.specs.declared.FoundStripe.TheVariants.{Has};

@@ -1,4 +1,6 @@
 // The part that a record names: which source holds it, and whether it is there whole.
+#![tactic(auto)]
+
 ghost use Rattle.std.specs.Prelude.{◌≡◌, ◌+◌, ◌<◌, ◌/◌, length, ltb};
 ghost use Rattle.sheet_rules.specs.Record.{record_size, record_at};
 ghost use Rattle.data_rules.specs.Data.{source_of, octets_in, part_in, record_found};

@@ -1,4 +1,6 @@
 // What was found of a layer's coded data, as numbers for the viewer in C.
+#![tactic(auto)]
+
 ghost use Rattle.std.specs.Prelude.{◌≡◌};
 ghost use Rattle.data_rules.specs.Data.{source_number};
 ghost use Rattle.data_report.specs.Reported.{report_at, report_found};
@@ -8,7 +10,7 @@ use data_rules::{Found, Source};
 
 // What was found, as the viewer in C is given it: number, place and count of the answer, and where the part stands. The layout is the header's: viewers link it.
 #[repr(C)]
-#[derive(Drop)]
+#[derive(Clone, Copy)]
 pub struct DataReport {
     pub number: u32,
     pub place: u32,

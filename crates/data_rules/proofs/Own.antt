@@ -46,8 +46,8 @@ rest_own : (m : Mode) (hd : Head) (k left at : ℕ) (o : List ℕ) (height : ℕ
 unfolding layer_of mask_record
 rest_own One hd k left at o height rs z s tail e =
     let f = z.fields in
-    let one = image_place hd k 1 f.back f.backX f.backY z.back_is in
-    let three = image_place hd k 3 f.fore f.foreX f.foreY z.fore_is in
+    let one = image_place hd k 1 f.back f.back_x f.back_y z.back_is in
+    let three = image_place hd k 3 f.fore f.fore_x f.fore_y z.fore_is in
     let l1 = one.1 in
     let l3 = three.1 in
     let layer : ℕ → List ℕ = layer_of One hd k left at o height rs z in

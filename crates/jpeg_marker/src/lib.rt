@@ -1,4 +1,6 @@
 // Markers of a JPEG stream (T.81 B.1.1.2 and B.1.1.3): the class of a code, and the marker where one is due.
+#![tactic(auto)]
+
 ghost use Rattle.std.specs.Prelude.{◌≡◌, ◌≤◌, length, drop};
 ghost use Rattle.jpeg_rules.specs.Marker.{class_of, code_from, marker_of};
 

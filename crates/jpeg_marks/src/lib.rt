@@ -1,4 +1,6 @@
 // What the walk does at a frame, at a scan and at the end of a JPEG layer.
+#![tactic(auto)]
+
 ghost use Rattle.std.specs.Prelude.{◌≡◌, ℕ, ◌≤◌, length};
 ghost use Rattle.jpeg_rules.specs.Walk.{components_ok, frame_body_of, frame_of, scan_step_of, end_of};
 ghost use Rattle.jpeg_marks.specs.Step.{Leads};
@@ -69,7 +71,7 @@ pub fn frame_step(s: &[u8], st: Reach, n: usize) -> Turn
 }
 
 // One marker on, with the code of the marker that is due there and the place after it; or the walk's answer.
-#[derive(Drop)]
+#[derive(Clone, Copy)]
 pub enum Step {
     Go { st: Reach, code: u8, next: usize },
     Stop(Walk),

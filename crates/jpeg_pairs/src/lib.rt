@@ -1,4 +1,6 @@
 // Scan data by pairs of octets, 32 at a time: the first pair that is more than an octet of data, FF 00 or a restart marker without fill.
+#![tactic(auto)]
+
 ghost use Rattle.std.specs.Prelude.{true, ◌≡◌, ◌+◌, ◌<◌, length};
 ghost use Rattle.jpeg_rules.specs.Walk.{scan_of};
 ghost use Rattle.jpeg_pairs.specs.Pairs.{codes, plain_pair, Suspect};

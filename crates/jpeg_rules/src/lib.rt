@@ -1,10 +1,11 @@
 // The types of the JPEG walk (01, "Where an image layer ends"). The rules stand in specs/, the theorems about them in proofs/.
+#![tactic(auto)]
 
 // The first six octets of the body of the APP1 segment that gives a layer's resolution.
 pub const G3FAX: [u8; 6] = [0x47, 0x33, 0x46, 0x41, 0x58, 0x00];
 
 // What a marker's code makes of it.
-#[derive(Drop)]
+#[derive(Clone, Copy)]
 pub enum Class {
     Alone,
     Frame,
@@ -15,7 +16,7 @@ pub enum Class {
 }
 
 // What stands where a marker is due: its code and the place after it; an octet other than FF; or too few octets.
-#[derive(Drop)]
+#[derive(Clone, Copy)]
 pub enum Marker {
     Code { code: u8, next: usize },
     Missing,
@@ -23,7 +24,7 @@ pub enum Marker {
 }
 
 // Why a walk was refused, and the place.
-#[derive(Drop)]
+#[derive(Clone, Copy)]
 pub enum Fault {
     Short(usize),
     BadLength(usize),
@@ -32,21 +33,21 @@ pub enum Fault {
 }
 
 // A segment by its length: the place after it, or what is wrong.
-#[derive(Drop)]
+#[derive(Clone, Copy)]
 pub enum Seg {
     Body(usize),
     Refused(Fault),
 }
 
 // Where scan data ends: at the next marker, or nowhere.
-#[derive(Drop)]
+#[derive(Clone, Copy)]
 pub enum Found {
     At(usize),
     Nothing,
 }
 
 // What a segment says of the resolution.
-#[derive(Drop)]
+#[derive(Clone, Copy)]
 pub enum Tag {
     Gives(u16),
     Plain,
@@ -55,7 +56,7 @@ pub enum Tag {
 // What a JPEG layer says of itself: how many components its frame has, its size and its resolution. The count is no octet and stands first: a struct
 // of eight octets is copied as one number that its fields are then cut out of, and one with a gap in it is copied otherwise; pages of many small
 // segments were read at half and at two thirds of the speed.
-#[derive(Drop)]
+#[derive(Clone, Copy)]
 pub struct Said {
     pub components: u32,
     pub width: u16,
@@ -64,7 +65,7 @@ pub struct Said {
 }
 
 // What is known where a marker is due, at `at`. A resolution of 0 is none yet.
-#[derive(Drop)]
+#[derive(Clone, Copy)]
 pub struct Reach {
     pub at: usize,
     pub framed: bool,
@@ -73,14 +74,14 @@ pub struct Reach {
 }
 
 // Where a layer ends, and what it says of itself; or why there is none.
-#[derive(Drop)]
+#[derive(Clone, Copy)]
 pub enum Walk {
     Ends { next: usize, said: Said },
     Refused(Fault),
 }
 
 // One marker on, or the walk's answer.
-#[derive(Drop)]
+#[derive(Clone, Copy)]
 pub enum Turn {
     Go(Reach),
     Stop(Walk),

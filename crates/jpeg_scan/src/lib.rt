@@ -1,10 +1,12 @@
 // The next marker after scan data (01, "Where an image layer ends"; 02, 2026-03). A run of FF is walked once: what it led to is handed on.
+#![tactic(auto)]
+
 ghost use Rattle.std.specs.Prelude.{true, ◌≡◌, ◌+◌, ◌<◌, ◌≤◌, length};
 ghost use Rattle.jpeg_rules.specs.Walk.{data_run, scan_of};
 ghost use Rattle.jpeg_scan.specs.Search.{filled_triple, AllFilled, Clears, Shows};
 
 // The first FF of its run, its code and the place after that; or there is none.
-#[derive(Drop)]
+#[derive(Clone, Copy)]
 pub enum Next {
     At { place: usize, code: u8, next: usize },
     Nothing,

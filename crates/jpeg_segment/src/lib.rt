@@ -1,4 +1,6 @@
 // A marker segment of a JPEG layer: its length, and the resolution that a tagged one gives.
+#![tactic(auto)]
+
 ghost use Rattle.std.specs.Prelude.{◌≡◌, ◌≤◌, length};
 ghost use Rattle.jpeg_rules.specs.Walk.{seg_of, resolves, tag_of, moved, segment_of};
 ghost use Rattle.jpeg_segment.specs.Room.{Room};

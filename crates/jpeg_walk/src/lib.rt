@@ -1,4 +1,6 @@
 // Where a JPEG image layer ends (01): the walk over its markers, as specs/Walk.antt of `jpeg_rules` has it, for every octet string.
+#![tactic(auto)]
+
 ghost use Rattle.std.specs.Prelude.{◌≡◌, ℕ, ◌≤◌, length};
 ghost use Rattle.jpeg_rules.specs.Marker.{class_of};
 ghost use Rattle.jpeg_marks.specs.Step.{Leads};

@@ -1,4 +1,6 @@
 // Lines of a stripe that differ in layer 2 alone: where the samples of all other layers are several lines high, each row of them serves several lines.
+#![tactic(auto)]
+
 ghost use Rattle.std.specs.Prelude.{◌≡◌, true, ◌+◌, ◌*◌, ◌%◌, ◌<◌, ◌≤◌, length};
 ghost use Rattle.line_lanes.specs.Lanes.{lane_size, lane_at, LaneFits, LanesFit};
 ghost use Rattle.lane_groups.specs.Groups.{Same, Fewer, Grouped, Steady};

@@ -1,4 +1,6 @@
 // What two samples agree on.
+#![tactic(auto)]
+
 ghost use Rattle.std.specs.Prelude.{◌≡◌};
 ghost use Rattle.pixel_rules.specs.Decide.{same_colour, agree};
 ghost use Rattle.line_agree.specs.Known.{is_known};

@@ -1,4 +1,6 @@
 // A line of pixels: the verdict, then the room, then the line. So a refusal changes nothing that was lent.
+#![tactic(auto)]
+
 ghost use Rattle.pixel_rules.specs.Planes.{list_of};
 ghost use Rattle.picture_rules.specs.Line.{Lines};
 ghost use Rattle.line_verdict.specs.Ruled.{list_from};

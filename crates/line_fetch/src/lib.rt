@@ -1,4 +1,6 @@
 // A layer's sample at a pixel, fetched from the layer's row.
+#![tactic(auto)]
+
 ghost use Rattle.std.specs.Prelude.{◌≡◌, ◌*◌, ◌≤◌, ◌<◌, length};
 ghost use Rattle.line_fetch.specs.Rows.{row_size, row_at, row_mask, row_image, MaskFits, ImageFits};
 
@@ -13,7 +15,7 @@ pub const ROWS_SIZE: usize = 15 * ROW_SIZE;
 // A layer in one line of the picture, worked out once a line: its main pixels `from` up to `to`, and the factor that divides by how many of them a
 // sample has; the octets a sample if it was read (0: it was not), and where the line's samples then start; what it gives elsewhere: a mask its value,
 // an image layer the place of its base colour in the sheet; and last, since a pixel does not ask for it, how many main pixels a sample has.
-#[derive(Drop)]
+#[derive(Clone, Copy)]
 pub struct Row {
     pub from: MainPos,
     pub to: MainPos,

@@ -1,4 +1,6 @@
 // The lanes of a band: for each layer of a stripe what does not depend on the line, worked out once a band, and from it the rows of a line.
+#![tactic(auto)]
+
 ghost use Rattle.std.specs.Prelude.{◌≡◌, ◌+◌, ◌-◌, ◌*◌, ◌<◌, ◌≤◌, length};
 ghost use Rattle.octets.specs.Octets.{put_at};
 ghost use Rattle.line_planes.specs.Listing.{entries_of};
@@ -20,7 +22,7 @@ pub const LANES_SIZE: usize = 15 * LANE_SIZE;
 // A layer in all lines of a stripe: what its row has in each line that crosses it, with `start` for the first of its rows of samples; its main lines
 // `top` up to `bottom` (0 if it is not coded: no line crosses it); and how many octets further down each row of samples stands. A layer that was not
 // read starts at 0 and steps by 0, so that a line need not ask.
-#[derive(Drop)]
+#[derive(Clone, Copy)]
 pub struct Lane {
     pub from: MainPos,
     pub to: MainPos,

@@ -1,4 +1,6 @@
 // One pixel of a line, from the highest pair down (02, 2026-06): an image layer's sample is fetched only where it may show.
+#![tactic(auto)]
+
 ghost use Rattle.std.specs.Prelude.{◌≡◌, ◌+◌, ◌*◌, ◌<◌};
 ghost use Rattle.pixel_rules.specs.Decide.{decide};
 ghost use Rattle.pixel_rules.specs.Down.{candidates, MayShow};
@@ -9,7 +11,7 @@ ghost use Rattle.line_pixel.specs.Lead.{way_from};
 use pixel_rules::{MainPos, Mask, Sample};
 
 // An image layer that may show, by its pair; pair 0 is layer 1. It is sure where its mask is known to be 1, or it has none: nothing below it shows then.
-#[derive(Drop)]
+#[derive(Clone, Copy)]
 pub struct Candidate {
     pub pair: usize,
     pub sure: bool,

@@ -1,4 +1,6 @@
 // The plane list as parallel numbers by value, and that list made from the octets that C lends.
+#![tactic(auto)]
+
 ghost use Rattle.std.specs.Prelude.{◌≡◌, ◌*◌, ◌<◌, ◌/◌, min, length};
 ghost use Rattle.pixel_rules.specs.Planes.{plane_size, plane_at, plane_start};
 ghost use Rattle.line_planes.specs.Listing.{no_planes, with_plane, listing_of, entry_of, entries_of};
@@ -10,7 +12,7 @@ pub const PLANE_SIZE: usize = 5;
 
 // The first sixteen entries of a plane list, layers and starts in parallel. Layers rise from 1 to at most 15, so that a list of sixteen entries has a
 // fault within them, and the rest is not looked at.
-#[derive(Drop)]
+#[derive(Clone, Copy)]
 pub struct Listing {
     pub count: usize,
     pub layers: [u8; 16],

@@ -1,4 +1,6 @@
 // The octets of pixels, four each, put into a buffer; and the colour of unseen ones where the caller gives none.
+#![tactic(auto)]
+
 ghost use Rattle.std.specs.Prelude.{◌≡◌, ◌*◌, ◌+◌, ◌≤◌, length};
 ghost use Rattle.octets.specs.Octets.{put_at};
 ghost use Rattle.pixel_rules.specs.declared.MainPos.{MainPos};

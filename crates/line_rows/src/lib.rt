@@ -1,4 +1,6 @@
 // The rows of a line: for each layer of a stripe what one line of the picture needs of it, worked out once a line.
+#![tactic(auto)]
+
 ghost use Rattle.std.specs.Prelude.{◌≡◌, ◌+◌, ◌-◌, ◌*◌, ◌/◌, ◌<◌, ◌≤◌, length};
 ghost use Rattle.octets.specs.Octets.{put_at};
 ghost use Rattle.pixel_rules.specs.Place.{left_of, top_of, area_end, covers};

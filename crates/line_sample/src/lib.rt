@@ -1,4 +1,6 @@
 // One sample: the step from a main place to a sample's, and what stands there in the buffer.
+#![tactic(auto)]
+
 ghost use Rattle.std.specs.Prelude.{◌≡◌, ◌+◌, ◌*◌, ◌<◌, ◌≤◌, length, get_or};
 ghost use Rattle.pixel_rules.specs.Place.{scale};
 ghost use Rattle.pixel_rules.specs.Samples.{bit_of, colour_in, depth};

@@ -1,4 +1,6 @@
 // The plane list as a lent slice of structs: gathered into parallel numbers by value, which covered code takes, and a lookup in it.
+#![tactic(auto)]
+
 ghost use Rattle.std.specs.Prelude.{◌≡◌};
 ghost use Rattle.pixel_rules.specs.declared.Start.TheVariants.{From, Unread};
 ghost use Rattle.pixel_rules.specs.Planes.{plane_start};

@@ -1,4 +1,6 @@
 // A line of pixels of a picture whose plane list is a lent slice of structs.
+#![tactic(auto)]
+
 ghost use Rattle.pixel_rules.specs.Planes.{whole_list};
 ghost use Rattle.picture_rules.specs.Line.{Lines};
 

@@ -1,4 +1,6 @@
 // The verdict on a line: the sheet, the stripe and line, the plane list. It writes nothing.
+#![tactic(auto)]
+
 ghost use Rattle.std.specs.Prelude.{◌≡◌, ◌&&◌, ◌+◌, ◌<◌, leb};
 ghost use Rattle.sheet_rules.specs.Judge.{coded};
 ghost use Rattle.pixel_rules.specs.Samples.{plane_span};
@@ -14,7 +16,7 @@ use pixel_rules::Plane;
 use sheet_rules::{Extent, FoundStripe, Record, Verdict};
 
 // What a line is judged to be: the stripe to be composed, or the refusal.
-#[derive(Drop)]
+#[derive(Clone, Copy)]
 pub enum Ruled {
     Shows(Extent),
     Refused(Answer),

@@ -2,6 +2,8 @@
 //
 // No more octets are read than decide: the judge of so many is the judge of all (`sheet_cut` of `sheet_rules`), so an
 // input of any length, endless too, is answered.
+#![tactic(auto)]
+
 use answers::Answer;
 use libc::{STDIN_FILENO, STDOUT_FILENO};
 use sheet_rules::{DECISIVE_SIZE, RECORD_SIZE, Record};

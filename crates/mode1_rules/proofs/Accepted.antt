@@ -139,7 +139,7 @@ module _ (hd : Head) (g : GoodHead hd) (k left at : ℕ) (l : List ℕ) (height 
   one : ImageFacts hd.main k 1 (has_back z.fields.kind) (back_in z)
   one =
       let q = stripe_length z in
-      image_facts hd k 1 (at + stripe_body + length z.mask) z.fields.back z.fields.backX z.fields.backY (has_back z.fields.kind) z.back z.back_is refl g.main (omega arith) z.back_there
+      image_facts hd k 1 (at + stripe_body + length z.mask) z.fields.back z.fields.back_x z.fields.back_y (has_back z.fields.kind) z.back z.back_is refl g.main (omega arith) z.back_there
 
   two : MaskFacts (has_mask z.fields.kind) (mask_in z)
   two =
@@ -152,7 +152,7 @@ module _ (hd : Head) (g : GoodHead hd) (k left at : ℕ) (l : List ℕ) (height 
   three : ImageFacts hd.main k 3 (has_fore z.fields.kind) (fore_in z)
   three =
       let q = stripe_length z in
-      image_facts hd k 3 (at + stripe_body + length z.mask + length z.back) z.fields.fore z.fields.foreX z.fields.foreY (has_fore z.fields.kind) z.fore z.fore_is refl g.main (omega arith) z.fore_there
+      image_facts hd k 3 (at + stripe_body + length z.mask + length z.back) z.fields.fore z.fields.fore_x z.fields.fore_y (has_fore z.fields.kind) z.fore z.fore_is refl g.main (omega arith) z.fore_there
 
   new1 : New st (back_in z)
   new1 =

@@ -143,10 +143,10 @@ first_fields =
       kind = 7;
       back = record { c0 = 11; c1 = 12; c2 = 13 };
       fore = record { c0 = 14; c1 = 15; c2 = 16 };
-      backX = 2;
-      backY = 3;
-      foreX = 4;
-      foreY = 5;
+      back_x = 2;
+      back_y = 3;
+      fore_x = 4;
+      fore_y = 5;
       height = 40;
       mask_length = 5;
     }
@@ -157,10 +157,10 @@ second_fields =
       kind = 4;
       back = record { c0 = 21; c1 = 22; c2 = 23 };
       fore = record { c0 = 24; c1 = 25; c2 = 26 };
-      backX = 8;
-      backY = 9;
-      foreX = 262;
-      foreY = 519;
+      back_x = 8;
+      back_y = 9;
+      fore_x = 262;
+      fore_y = 519;
       height = 30;
       mask_length = 0;
     }

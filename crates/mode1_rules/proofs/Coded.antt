@@ -48,6 +48,6 @@ stripe_named {hd} {k} {left} {at} z s tail e h =
     let n = z.size in
     let f = z.fields in
     stripe_each z (λ (x : Record). Coded x → Named hd.main s x)
-    (image_named hd s k 1 (at + stripe_body + length z.mask) f.back f.backX f.backY (has_back f.kind) z.back z.back_is z.back_there (back_octets_lem z s tail e) (omega arith))
+    (image_named hd s k 1 (at + stripe_body + length z.mask) f.back f.back_x f.back_y (has_back f.kind) z.back z.back_is z.back_there (back_octets_lem z s tail e) (omega arith))
     (mask_named hd s k f.height (at + stripe_body) f.mask_length (has_mask f.kind) (omega arith))
-    (image_named hd s k 3 (at + stripe_body + length z.mask + length z.back) f.fore f.foreX f.foreY (has_fore f.kind) z.fore z.fore_is z.fore_there (fore_octets_lem z s tail e) (omega arith))
+    (image_named hd s k 3 (at + stripe_body + length z.mask + length z.back) f.fore f.fore_x f.fore_y (has_fore f.kind) z.fore z.fore_is z.fore_there (fore_octets_lem z s tail e) (omega arith))

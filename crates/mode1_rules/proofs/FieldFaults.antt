@@ -57,22 +57,22 @@ module _ (hd : Head) (left at : ℕ) where
       fault_two (λ (l : List ℕ). Bad (front ++ l) x) f3
       (λ b.
       let e : at + 1 + 3 + 3 ≡ at + 7 = omega arith in
-      bad_back_offset t front l3 kc (moved e (broken_numbers (Placed (has_back t)) (λ vs z. says_offset (has_back t) (get_or vs 0 0) (get_or vs 1 0)) b))) λ bx bY l4 bbx bby g4 f4.
-      let k4 = (says_offset (has_back t) bx bY).told g4 in
-      fault_two (λ (l : List ℕ). Bad (front ++ four_of_lem l bx bY) x) f4
+      bad_back_offset t front l3 kc (moved e (broken_numbers (Placed (has_back t)) (λ vs z. says_offset (has_back t) (get_or vs 0 0) (get_or vs 1 0)) b))) λ bx b_y l4 bbx bby g4 f4.
+      let k4 = (says_offset (has_back t) bx b_y).told g4 in
+      fault_two (λ (l : List ℕ). Bad (front ++ four_of_lem l bx b_y) x) f4
       (λ b.
       let e : at + 1 + 3 + 3 + 8 ≡ at + 15 = omega arith in
-      bad_fore_offset t bx bY front l4 kc bbx bby k4 (moved e (broken_numbers (Placed (has_fore t)) (λ vs z. says_offset (has_fore t) (get_or vs 0 0) (get_or vs 1 0)) b)))
-      λ fx fY l5 bfx bfy g5 f5.
-      let k5 = (says_offset (has_fore t) fx fY).told g5 in
-      fault_one (λ (l : List ℕ). Bad (front ++ four_of_lem (four_of_lem l fx fY) bx bY) x) f5
+      bad_fore_offset t bx b_y front l4 kc bbx bby k4 (moved e (broken_numbers (Placed (has_fore t)) (λ vs z. says_offset (has_fore t) (get_or vs 0 0) (get_or vs 1 0)) b)))
+      λ fx f_y l5 bfx bfy g5 f5.
+      let k5 = (says_offset (has_fore t) fx f_y).told g5 in
+      fault_one (λ (l : List ℕ). Bad (front ++ four_of_lem (four_of_lem l fx f_y) bx b_y) x) f5
       (λ b.
       let e : at + 1 + 3 + 3 + 8 + 8 ≡ at + 23 = omega arith in
-      bad_height t bx bY fx fY front l5 kc bbx bby bfx bfy k4 k5 (moved e (broken_numbers (the Tall) (λ vs z. says_within 1 left (get_or vs 0 0)) b))) λ h l6 bh g6 f6.
-      fault_one (λ (l : List ℕ). Bad (front ++ four_of_lem (four_of_lem (octets32 h ++ l) fx fY) bx bY) x) f6
+      bad_height t bx b_y fx f_y front l5 kc bbx bby bfx bfy k4 k5 (moved e (broken_numbers (the Tall) (λ vs z. says_within 1 left (get_or vs 0 0)) b))) λ h l6 bh g6 f6.
+      fault_one (λ (l : List ℕ). Bad (front ++ four_of_lem (four_of_lem (octets32 h ++ l) fx f_y) bx b_y) x) f6
       (λ b.
       let e : at + 1 + 3 + 3 + 8 + 8 + 4 ≡ at + 27 = omega arith in
-      bad_mask_length t bx bY fx fY h front l6 kc bbx bby bfx bfy k4 k5 bh ((says_within 1 left h).told g6)
+      bad_mask_length t bx b_y fx f_y h front l6 kc bbx bby bfx bfy k4 k5 bh ((says_within 1 left h).told g6)
       (moved e (broken_numbers (the (Masked t)) (λ vs z. says_mask_length t (get_or vs 0 0)) b)))
       λ m l7 bm g7 f7. absurd (none_at_fault f7)
 
@@ -106,20 +106,20 @@ module _ (hd : Head) (left at : ℕ) where
       (past_val {ws = one ∷ one ∷ one ∷ []} (c.fore.c0 ∷ c.fore.c1 ∷ c.fore.c2 ∷ []) (o.c0, (o.c1, (o.c2, tt))) refl (shifted e f)))
 
   module _ {front : List ℕ} {t : ℕ} (c : Coloured hd left at front t) where
-    behind_back_offset : {l : List ℕ} {x : Answer} (bx bY : ℕ) → bx < 4294967296 → bY < 4294967296 → Placed (has_back t) (bx ∷ bY ∷ [])
-        → Faulted (drop 4 (stripe_table hd left)) (known c (bx ∷ bY ∷ [])) (at + 15) l x → Faulted (stripe_table hd left) [] at (front ++ four_of_lem l bx bY) x
+    behind_back_offset : {l : List ℕ} {x : Answer} (bx b_y : ℕ) → bx < 4294967296 → b_y < 4294967296 → Placed (has_back t) (bx ∷ b_y ∷ [])
+        → Faulted (drop 4 (stripe_table hd left)) (known c (bx ∷ b_y ∷ [])) (at + 15) l x → Faulted (stripe_table hd left) [] at (front ++ four_of_lem l bx b_y) x
     unfolding stripe_table octets32 octets16 put widths Sized
-    behind_back_offset bx bY p q k f =
+    behind_back_offset bx b_y p q k f =
         let e : at + 15 ≡ at + 7 + 8 = omega arith in
-        behind_colours c (past_val {ws = four ∷ four ∷ []} (bx ∷ bY ∷ []) (p, (q, tt)) ((says_offset (has_back t) bx bY).shown k) (shifted e f))
+        behind_colours c (past_val {ws = four ∷ four ∷ []} (bx ∷ b_y ∷ []) (p, (q, tt)) ((says_offset (has_back t) bx b_y).shown k) (shifted e f))
 
-    behind_offsets : {l : List ℕ} {x : Answer} (bx bY fx fY : ℕ) → bx < 4294967296 → bY < 4294967296 → fx < 4294967296 → fY < 4294967296
-        → Placed (has_back t) (bx ∷ bY ∷ []) → Placed (has_fore t) (fx ∷ fY ∷ [])
-        → Faulted (drop 5 (stripe_table hd left)) (known c (bx ∷ bY ∷ fx ∷ fY ∷ [])) (at + 23) l x → Faulted (stripe_table hd left) [] at (front ++ four_of_lem (four_of_lem l fx fY) bx bY) x
+    behind_offsets : {l : List ℕ} {x : Answer} (bx b_y fx f_y : ℕ) → bx < 4294967296 → b_y < 4294967296 → fx < 4294967296 → f_y < 4294967296
+        → Placed (has_back t) (bx ∷ b_y ∷ []) → Placed (has_fore t) (fx ∷ f_y ∷ [])
+        → Faulted (drop 5 (stripe_table hd left)) (known c (bx ∷ b_y ∷ fx ∷ f_y ∷ [])) (at + 23) l x → Faulted (stripe_table hd left) [] at (front ++ four_of_lem (four_of_lem l fx f_y) bx b_y) x
     unfolding stripe_table octets32 octets16 put widths Sized
-    behind_offsets bx bY fx fY p q r s k m f =
+    behind_offsets bx b_y fx f_y p q r s k m f =
         let e : at + 23 ≡ at + 15 + 8 = omega arith in
-        behind_back_offset bx bY p q k (past_val {ws = four ∷ four ∷ []} (fx ∷ fY ∷ []) (r, (s, tt)) ((says_offset (has_fore t) fx fY).shown m) (shifted e f))
+        behind_back_offset bx b_y p q k (past_val {ws = four ∷ four ∷ []} (fx ∷ f_y ∷ []) (r, (s, tt)) ((says_offset (has_fore t) fx f_y).shown m) (shifted e f))
 
   pub fields_faulted : (l : List ℕ) (x : Answer) → Bad l x → Faulted (stripe_table hd left) [] at l x
   unfolding stripe_table octets32 octets16 put widths Sized
@@ -128,12 +128,12 @@ module _ (hd : Head) (left at : ℕ) where
   fields_faulted l x (cut_fore t back rest b k o c) = behind_back t back b k o (fault_here (cut c))
   fields_faulted l x (bad_back_offset t front rest c b) =
       behind_colours c (fault_here (numbers_broken (Placed (has_back t)) (λ vs z. says_offset (has_back t) (get_or vs 0 0) (get_or vs 1 0)) b))
-  fields_faulted l x (bad_fore_offset t bx bY front rest c p q k b) =
-      behind_back_offset c bx bY p q k (fault_here (numbers_broken (Placed (has_fore t)) (λ vs z. says_offset (has_fore t) (get_or vs 0 0) (get_or vs 1 0)) b))
-  fields_faulted l x (bad_height t bx bY fx fY front rest c p q r s k m b) =
-      behind_offsets c bx bY fx fY p q r s k m (fault_here (numbers_broken (the Tall) (λ vs z. says_within 1 left (get_or vs 0 0)) b))
-  fields_faulted l x (bad_mask_length t bx bY fx fY h front rest c p q r s k m hs hh b) =
+  fields_faulted l x (bad_fore_offset t bx b_y front rest c p q k b) =
+      behind_back_offset c bx b_y p q k (fault_here (numbers_broken (Placed (has_fore t)) (λ vs z. says_offset (has_fore t) (get_or vs 0 0) (get_or vs 1 0)) b))
+  fields_faulted l x (bad_height t bx b_y fx f_y front rest c p q r s k m b) =
+      behind_offsets c bx b_y fx f_y p q r s k m (fault_here (numbers_broken (the Tall) (λ vs z. says_within 1 left (get_or vs 0 0)) b))
+  fields_faulted l x (bad_mask_length t bx b_y fx f_y h front rest c p q r s k m hs hh b) =
       let e : at + 27 ≡ at + 23 + 4 = omega arith in
-      behind_offsets c bx bY fx fY p q r s k m
+      behind_offsets c bx b_y fx f_y p q r s k m
       (past_val {ws = four ∷ []} (h ∷ []) (hs, tt) ((says_within 1 left h).shown hh)
       (shifted e (fault_here (numbers_broken (the (Masked t)) (λ vs z. says_mask_length t (get_or vs 0 0)) b))))

@@ -49,13 +49,13 @@ mask_at_lem s at n false o more l z e = ap (λ (j : ℕ). take j s) (z refl) ∙
 
 module _ {hd : Head} {k left at : ℕ} {l : List ℕ} {height : ℕ} {rs : List Record} (z : Stripe hd k left at l height rs) where
   abbrev pub back_in : Record
-  back_in = image_record hd k 1 z.fields.back z.fields.backX z.fields.backY z.back_is
+  back_in = image_record hd k 1 z.fields.back z.fields.back_x z.fields.back_y z.back_is
 
   abbrev pub mask_in : Record
   mask_in = mask_record hd k z.fields.height (cond (has_mask z.fields.kind) hd.mask 0) (cond (has_mask z.fields.kind) (at + stripe_body) 0) z.fields.mask_length
 
   abbrev pub fore_in : Record
-  fore_in = image_record hd k 3 z.fields.fore z.fields.foreX z.fields.foreY z.fore_is
+  fore_in = image_record hd k 3 z.fields.fore z.fields.fore_x z.fields.fore_y z.fore_is
 
   -- what holds of the three holds of each
   pub stripe_each : (P : Record → Type 0) → P back_in → P mask_in → P fore_in → (r : Record) → Among r rs → P r
@@ -91,7 +91,7 @@ module _ {hd : Head} {k left at : ℕ} {l : List ℕ} {height : ℕ} {rs : List 
     -- each record names its layer's octets
     pub back_octets_lem : take back_in.len (drop back_in.start s) ≡ z.back
     back_octets_lem =
-        image_at_lem hd s k 1 (at + stripe_body + length z.mask) z.fields.back z.fields.backX z.fields.backY _ z.back (z.fore ++ tail) z.back_is z.back_there at_back
+        image_at_lem hd s k 1 (at + stripe_body + length z.mask) z.fields.back z.fields.back_x z.fields.back_y _ z.back (z.fore ++ tail) z.back_is z.back_there at_back
 
     pub mask_octets : take mask_in.len (drop mask_in.start s) ≡ z.mask
     unfolding mask_record
@@ -99,4 +99,4 @@ module _ {hd : Head} {k left at : ℕ} {l : List ℕ} {height : ℕ} {rs : List 
 
     pub fore_octets_lem : take fore_in.len (drop fore_in.start s) ≡ z.fore
     fore_octets_lem =
-        image_at_lem hd s k 3 (at + stripe_body + length z.mask + length z.back) z.fields.fore z.fields.foreX z.fields.foreY _ z.fore tail z.fore_is z.fore_there at_fore
+        image_at_lem hd s k 3 (at + stripe_body + length z.mask + length z.back) z.fields.fore z.fields.fore_x z.fields.fore_y _ z.fore tail z.fore_is z.fore_there at_fore

@@ -23,7 +23,7 @@ length_fields f = refl
 
 abbrev pub stripe_numbers : Fields → List ℕ
 stripe_numbers f =
-    f.kind ∷ f.back.c0 ∷ f.back.c1 ∷ f.back.c2 ∷ f.fore.c0 ∷ f.fore.c1 ∷ f.fore.c2 ∷ f.backX ∷ f.backY ∷ f.foreX ∷ f.foreY
+    f.kind ∷ f.back.c0 ∷ f.back.c1 ∷ f.back.c2 ∷ f.fore.c0 ∷ f.fore.c1 ∷ f.fore.c2 ∷ f.back_x ∷ f.back_y ∷ f.fore_x ∷ f.fore_y
     ∷ f.height ∷ f.mask_length ∷ []
 
 pub stripe_stands : (hd : Head) (left : ℕ) (f : Fields) → left ≤ 65535 → Widths f → GoodFields hd left f → Stands (stripe_table hd left) [] (stripe_numbers f) (fields_of f)
@@ -33,8 +33,8 @@ stripe_stands hd left f l w g =
     valued {ws = one ∷ []} (f.kind ∷ []) (w.kind, tt) ((says_type hd f.kind).shown (record { kind = g.kind; mask_coder = g.mask_coder; image_coder = g.image_coder }))
     (valued {ws = one ∷ one ∷ one ∷ []} (f.back.c0 ∷ f.back.c1 ∷ f.back.c2 ∷ []) (w.back.0, (w.back.1, (w.back.2, tt))) refl
     (valued {ws = one ∷ one ∷ one ∷ []} (f.fore.c0 ∷ f.fore.c1 ∷ f.fore.c2 ∷ []) (w.fore.0, (w.fore.1, (w.fore.2, tt))) refl
-    (valued {ws = four ∷ four ∷ []} (f.backX ∷ f.backY ∷ []) (w.offsets.0, (w.offsets.1, tt)) ((says_offset (has_back f.kind) f.backX f.backY).shown g.back)
-    (valued {ws = four ∷ four ∷ []} (f.foreX ∷ f.foreY ∷ []) (w.offsets.2, (w.offsets.3, tt)) ((says_offset (has_fore f.kind) f.foreX f.foreY).shown g.fore)
+    (valued {ws = four ∷ four ∷ []} (f.back_x ∷ f.back_y ∷ []) (w.offsets.0, (w.offsets.1, tt)) ((says_offset (has_back f.kind) f.back_x f.back_y).shown g.back)
+    (valued {ws = four ∷ four ∷ []} (f.fore_x ∷ f.fore_y ∷ []) (w.offsets.2, (w.offsets.3, tt)) ((says_offset (has_fore f.kind) f.fore_x f.fore_y).shown g.fore)
     (valued {ws = four ∷ []} (f.height ∷ []) (omega arith, tt) ((says_and (says_le 1 f.height) (says_le f.height left)).shown h)
     (valued {ws = four ∷ []} (f.mask_length ∷ []) (w.mask_length, tt) ((says_mask_length f.kind f.mask_length).shown g.mask) at_end))))))
 
@@ -55,10 +55,10 @@ stripe_apart P hd left {out} st go =
       kind = t;
       back = record { c0 = a0; c1 = a1; c2 = a2 };
       fore = record { c0 = c0; c1 = c1; c2 = c2 };
-      backX = bx;
-      backY = by;
-      foreX = fx;
-      foreY = fy;
+      back_x = bx;
+      back_y = by;
+      fore_x = fx;
+      fore_y = fy;
       height = h;
       mask_length = m;
     })

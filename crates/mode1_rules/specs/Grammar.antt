@@ -24,7 +24,7 @@ colour_of c = c.c0 ∷ c.c1 ∷ c.c2 ∷ []
 unfoldable pub fields_of : Fields → List ℕ
 fields_of f =
     f.kind
-    ∷ colour_of f.back ++ (colour_of f.fore ++ (octets32 f.backX ++ (octets32 f.backY ++ (octets32 f.foreX ++ (octets32 f.foreY
+    ∷ colour_of f.back ++ (colour_of f.fore ++ (octets32 f.back_x ++ (octets32 f.back_y ++ (octets32 f.fore_x ++ (octets32 f.fore_y
     ++ (octets32 f.height ++ octets32 f.mask_length))))))
 
 -- each number of a stripe is one of its field's width
@@ -32,7 +32,7 @@ pub record Widths (f : Fields) : Type 0 where
   pub kind : f.kind < 256
   pub back : (f.back.c0 < 256) × (f.back.c1 < 256) × (f.back.c2 < 256)
   pub fore : (f.fore.c0 < 256) × (f.fore.c1 < 256) × (f.fore.c2 < 256)
-  pub offsets : (f.backX < 4294967296) × (f.backY < 4294967296) × (f.foreX < 4294967296) × (f.foreY < 4294967296)
+  pub offsets : (f.back_x < 4294967296) × (f.back_y < 4294967296) × (f.fore_x < 4294967296) × (f.fore_y < 4294967296)
   pub mask_length : f.mask_length < 4294967296
 
 abbrev pub TypeOf : ℕ → Type 0
@@ -44,8 +44,8 @@ pub record GoodFields (hd : Head) (left : ℕ) (f : Fields) : Type 0 where
   pub mask_coder : has_mask f.kind ≡ true → hd.mask ≢ 0
   pub image_coder : (has_back f.kind ≡ true) ⊎ (has_fore f.kind ≡ true) → hd.image ≢ 0
   -- a present layer's offsets are at most 65,535; an absent layer's are not judged
-  pub back : has_back f.kind ≡ true → (f.backX ≤ 65535) × (f.backY ≤ 65535)
-  pub fore : has_fore f.kind ≡ true → (f.foreX ≤ 65535) × (f.foreY ≤ 65535)
+  pub back : has_back f.kind ≡ true → (f.back_x ≤ 65535) × (f.back_y ≤ 65535)
+  pub fore : has_fore f.kind ≡ true → (f.fore_x ≤ 65535) × (f.fore_y ≤ 65535)
   pub height : (1 ≤ f.height) × (f.height ≤ left)
   -- the mask length is zero exactly when the type has no mask
   pub mask : (has_mask f.kind ≡ true → f.mask_length ≡ 0 → ⊥) × (has_mask f.kind ≡ false → f.mask_length ≡ 0)
@@ -58,9 +58,9 @@ pub data Image (main at : ℕ) : Bool → List ℕ → LayerData → Type 0 wher
 -- the records of a stripe: the mask's data stands after the head, then the background's, then the foreground's
 abbrev pub records_of : Head → ℕ → Fields → ℕ → LayerData → LayerData → List Record
 records_of hd k f at back fore =
-    image_record hd k 1 f.back f.backX f.backY back
+    image_record hd k 1 f.back f.back_x f.back_y back
     ∷ mask_record hd k f.height (cond (has_mask f.kind) hd.mask 0) (cond (has_mask f.kind) at 0) f.mask_length
-    ∷ image_record hd k 3 f.fore f.foreX f.foreY fore ∷ []
+    ∷ image_record hd k 3 f.fore f.fore_x f.fore_y fore ∷ []
 
 pub record Stripe (hd : Head) (k left at : ℕ) (l : List ℕ) (height : ℕ) (rs : List Record) : Type 0 where
   pub fields : Fields

@@ -51,10 +51,10 @@ fields_from vs =
       kind = type_in vs;
       back = record { c0 = get_or vs 1 0; c1 = get_or vs 2 0; c2 = get_or vs 3 0 };
       fore = record { c0 = get_or vs 4 0; c1 = get_or vs 5 0; c2 = get_or vs 6 0 };
-      backX = get_or vs 7 0;
-      backY = get_or vs 8 0;
-      foreX = get_or vs 9 0;
-      foreY = get_or vs 10 0;
+      back_x = get_or vs 7 0;
+      back_y = get_or vs 8 0;
+      fore_x = get_or vs 9 0;
+      fore_y = get_or vs 10 0;
       height = get_or vs 11 0;
       mask_length = get_or vs 12 0;
     }

@@ -1,4 +1,6 @@
 // The types of a Mode 1 stripe (9.3). What it is, how it is read and where it is refused stand in specs/, that these agree in proofs/.
+#![tactic(auto)]
+
 use jpeg_rules::Said;
 use sheet_rules::Colour;
 
@@ -6,21 +8,21 @@ use sheet_rules::Colour;
 pub const STRIPE_BODY: u16 = 31;
 
 // The fields of a stripe in their order, under the names that the definitions use.
-#[derive(Drop)]
+#[derive(Clone, Copy)]
 pub struct Fields {
     pub kind: u8,
     pub back: Colour,
     pub fore: Colour,
-    pub backX: u32,
-    pub backY: u32,
-    pub foreX: u32,
-    pub foreY: u32,
+    pub back_x: u32,
+    pub back_y: u32,
+    pub fore_x: u32,
+    pub fore_y: u32,
     pub height: u32,
-    pub maskLength: u32,
+    pub mask_length: u32,
 }
 
 // Where a layer's coded data stands, and what it says of itself; or no coded data.
-#[derive(Drop)]
+#[derive(Clone, Copy)]
 pub enum LayerData {
     There { start: u32, size: u32, said: Said },
     Absent,

@@ -1,4 +1,6 @@
 // Octets of a slice as numbers and as fixed strings, read.
+#![tactic(auto)]
+
 ghost use Rattle.std.specs.Prelude.{◌≡◌, ◌+◌, ◌≤◌, ◌<◌, length};
 ghost use Rattle.octets.specs.Octets.{be16_at, be32_at, stands_at};
 

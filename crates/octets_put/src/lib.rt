@@ -1,4 +1,6 @@
 // Numbers and strings put into a slice. T.44 has every number most significant octet first.
+#![tactic(auto)]
+
 ghost use Rattle.std.specs.Prelude.{◌≡◌, ◌+◌, ◌≤◌, length, take, drop};
 ghost use Rattle.octets.specs.Octets.{octets16, octets32, put_at};
 

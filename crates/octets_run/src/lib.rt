@@ -1,4 +1,6 @@
 // Where a run of one octet ends: FF before a marker (T.81 B.1.1.2), 00 behind the end of page (9.4). A run may be as long as the page.
+#![tactic(auto)]
+
 ghost use Rattle.std.specs.Prelude.{true, ◌≡◌, ◌+◌, ◌≤◌, length};
 ghost use Rattle.octets.proofs.Runs.{run_end};
 ghost use Rattle.octets_run.specs.Runs.{RunsTo};

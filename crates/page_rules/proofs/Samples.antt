@@ -25,10 +25,10 @@ stripe =
       kind = 2;
       back = record { c0 = 0xFF; c1 = 0x80; c2 = 0x60 };
       fore = record { c0 = 0x00; c1 = 0x80; c2 = 0x60 };
-      backX = 0;
-      backY = 0;
-      foreX = 0;
-      foreY = 0;
+      back_x = 0;
+      back_y = 0;
+      fore_x = 0;
+      fore_y = 0;
       height = 2;
       mask_length = 5;
     }
@@ -51,10 +51,10 @@ typed t n =
       kind = t;
       back = record { c0 = 0xFF; c1 = 0x80; c2 = 0x60 };
       fore = record { c0 = 0x00; c1 = 0x80; c2 = 0x60 };
-      backX = 2;
-      backY = 3;
-      foreX = 4;
-      foreY = 5;
+      back_x = 2;
+      back_y = 3;
+      fore_x = 4;
+      fore_y = 5;
       height = 40;
       mask_length = n;
     }

@@ -1,4 +1,6 @@
 // Sixteen octets of a mask at once: whether they are all 0 or all 1, so that what they show is laid without a choice.
+#![tactic(auto)]
+
 ghost use Rattle.std.specs.Prelude.{◌≡◌, true, cond, ◌+◌, ◌-◌, ◌<◌, ◌≤◌, length, get_or, eqb};
 ghost use Rattle.paint_blocks.specs.Blocks.{Alike, Eight};
 

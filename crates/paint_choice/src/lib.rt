@@ -1,4 +1,6 @@
 // Octets marked under a mask, one a pixel, sixteen at a time: the floors of the pixels of a part of a row are kept so, and masks alone are looked at.
+#![tactic(auto)]
+
 ghost use Rattle.std.specs.Prelude.{◌≡◌, cond, ◌+◌, ◌-◌, ◌*◌, ◌<◌, ◌≤◌, length, eqb};
 ghost use Rattle.paint_choice.specs.Choice.{Marked, ever, bits_from, Spread, mask_bits, SpreadAt, MaskPart};
 

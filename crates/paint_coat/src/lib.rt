@@ -1,5 +1,7 @@
 // The loops over pixels. A pixel is one number of four octets, so that the compiler does four or more at a time; how many pixels a sample has is a
 // constant wherever a loop is called with one, and the compiler makes a loop for each.
+#![tactic(auto)]
+
 ghost use Rattle.std.specs.Prelude.{◌≡◌, ◌≢◌, ◌+◌, ◌-◌, ◌*◌, ◌<◌, ◌≤◌, length};
 ghost use Rattle.paint_words.specs.Words.{octets_of};
 ghost use Rattle.paint_coat.specs.Coat.{Coated, over, flat, samples_by, WideBy};

@@ -1,4 +1,6 @@
 // A part of a row of which nothing can be known, told by the rows alone: it is filled, and no sample is looked at.
+#![tactic(auto)]
+
 ghost use Rattle.std.specs.Prelude.{◌≡◌, true, ◌≤◌};
 ghost use Rattle.line_pixel.specs.Rows.{RowsFit};
 ghost use Rattle.paint_floor.specs.Floors.{Starts};

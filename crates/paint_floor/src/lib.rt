@@ -1,5 +1,7 @@
 // The floors of the pixels of a part of a row, pair by pair from the lowest up: masks alone are looked at. What lies below a pixel's floor is then not
 // painted at all.
+#![tactic(auto)]
+
 ghost use Rattle.std.specs.Prelude.{◌≡◌, true, ◌+◌, ◌-◌, ◌*◌, ◌<◌, ◌≤◌, length};
 ghost use Rattle.line_fetch.specs.Rows.{MaskFits};
 ghost use Rattle.line_pixel.specs.Rows.{RowsFit};

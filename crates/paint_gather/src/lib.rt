@@ -1,6 +1,8 @@
 // Pixels whose floors change all the time, gathered: a table tells for each floor where its samples are, and each pixel is fetched from its floor's
 // place. So many floors cost what two do. The table has twelve pixels' places: after twelve, every ratio of an accepted sheet starts a sample anew, and
 // all places go on by one step.
+#![tactic(auto)]
+
 ghost use Rattle.std.specs.Prelude.{◌≡◌, ◌+◌, ◌-◌, ◌*◌, ◌%◌, ◌<◌, ◌≤◌, length};
 ghost use Rattle.paint_words.specs.Words.{octets_of};
 ghost use Rattle.paint_coat.specs.Coat.{Coated, over, four_in};

@@ -1,5 +1,7 @@
 // An image layer over a part of a row of pixels: its base colour before its area and behind it, the unseen pixel where it was not read, and in its area
 // a part of a sample, whole ones, and a part of one.
+#![tactic(auto)]
+
 ghost use Rattle.std.specs.Prelude.{◌≡◌, ◌≢◌, ◌+◌, ◌-◌, ◌*◌, ◌<◌, ◌≤◌, length};
 ghost use Rattle.line_fetch.specs.Rows.{Turns, ImageFits};
 ghost use Rattle.paint_words.specs.Words.{octets_of};

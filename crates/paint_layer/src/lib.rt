@@ -1,5 +1,7 @@
 // One pair over a part of a row that is painted up to the pair below it: its image layer shows where its mask is 1, or has to agree where the mask was
 // not read. Loops without a branch, four pixels at a time.
+#![tactic(auto)]
+
 ghost use Rattle.std.specs.Prelude.{◌≡◌, true, ◌+◌, ◌-◌, ◌*◌, ◌<◌, ◌≤◌, length};
 ghost use Rattle.line_fetch.specs.Rows.{ImageFits};
 ghost use Rattle.paint_words.specs.Words.{octets_of};

@@ -1,4 +1,6 @@
 // A part of a row painted layer by layer, from the lowest that shows up: each pair over what is there.
+#![tactic(auto)]
+
 ghost use Rattle.std.specs.Prelude.{◌≡◌, ◌+◌, ◌-◌, ◌*◌, ◌<◌, ◌≤◌, length};
 ghost use Rattle.pixel_rules.specs.declared.Sample.TheVariants.{Unknown};
 ghost use Rattle.picture_rules.specs.Line.{four_of};

@@ -1,5 +1,7 @@
 // A row of pixels painted, part by part: nothing is known of a part, or one layer shows all along, or it is painted piece by piece, by its layers or by its
 // pixels' floors.
+#![tactic(auto)]
+
 ghost use Rattle.std.specs.Prelude.{◌≡◌, false, ◌+◌, ◌-◌, ◌*◌, ◌<◌, ◌≤◌, length};
 ghost use Rattle.octets.specs.Octets.{put_at};
 ghost use Rattle.pixel_rules.specs.declared.MainPos.{MainPos};

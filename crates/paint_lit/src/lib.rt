@@ -1,5 +1,7 @@
 // A part of a row by its layers where most of it is dark: masks alone tell of most pixels that nothing can be known. Blocks of such pixels are filled, and
 // layers are painted only between them.
+#![tactic(auto)]
+
 ghost use Rattle.std.specs.Prelude.{◌≡◌, true, ◌+◌, ◌-◌, ◌*◌, ◌<◌, ◌≤◌, length};
 ghost use Rattle.pixel_rules.specs.declared.Sample.TheVariants.{Unknown};
 ghost use Rattle.picture_rules.specs.Line.{four_of};

@@ -1,5 +1,7 @@
 // The floors of a part of a row shown. A run of pixels of one floor gets its image layer laid; where floors change every few pixels, one is laid over all
 // of them and the others are picked.
+#![tactic(auto)]
+
 ghost use Rattle.std.specs.Prelude.{◌≡◌, true, false, cond, [], ◌∷◌, ◌≢◌, ◌+◌, ◌-◌, ◌*◌, ◌<◌, ◌≤◌, length, eqb};
 ghost use Rattle.line_pixel.specs.Rows.{RowsFit};
 ghost use Rattle.paint_rules.specs.Floor.{dark};

@@ -1,4 +1,6 @@
 // The table of a part of a row: where each floor's samples are, for twelve pixels from the part's first on.
+#![tactic(auto)]
+
 ghost use Rattle.std.specs.Prelude.{◌≡◌, ◌≢◌, true, ◌+◌, ◌*◌, ◌/◌, ◌%◌, ◌<◌, ◌≤◌, length};
 ghost use Rattle.line_fetch.specs.Rows.{ImageFits};
 ghost use Rattle.line_pixel.specs.Rows.{RowsFit};

@@ -1,5 +1,7 @@
 // Two layers under a mask in one pass, where what they show is of one kind all along: samples of three octets, a pixel each, or one colour. Sixteen
 // pixels at a time where the mask is all 0 or all 1 there.
+#![tactic(auto)]
+
 ghost use Rattle.std.specs.Prelude.{◌+◌, ◌-◌, ◌*◌, ◌<◌, ◌≤◌, length};
 ghost use Rattle.paint_words.specs.Words.{octets_of};
 ghost use Rattle.paint_coat.specs.Coat.{Coated, over, flat, samples_by, chosen_by};

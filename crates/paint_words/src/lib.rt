@@ -1,5 +1,7 @@
 // Four octets as one number. The compiler joins the four loads, and the four stores, of one number into one: so a pixel is read, compared and written
 // whole, and loops over pixels go four or more at a time.
+#![tactic(auto)]
+
 ghost use Rattle.std.specs.Prelude.{◌≡◌, cond, [], ◌∷◌, ◌+◌, ◌*◌, ◌<◌, ◌≤◌, length, eqb};
 ghost use Rattle.octets.specs.Octets.{put_at};
 ghost use Rattle.paint_words.specs.Words.{octets_of, four_from, seen_from, grey_from};

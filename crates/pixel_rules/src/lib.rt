@@ -1,24 +1,25 @@
 // The types of a pixel: places, samples and the plane list. Its definitions stand in specs/, the theorems about them in proofs/.
+#![tactic(auto)]
 
 use sheet_rules::Colour;
 
 // A place along a line or down a stripe, in main mask pixels from the stripe's corner.
-#[derive(Drop)]
+#[derive(Clone, Copy)]
 pub struct MainPos(pub usize);
 
 // A place along or down a layer, in its own samples from the layer's corner. Only the scaling step makes one of a place in main mask pixels.
-#[derive(Drop)]
+#[derive(Clone, Copy)]
 pub struct SamplePos(pub usize);
 
 // The sample of an image layer at a pixel.
-#[derive(Drop)]
+#[derive(Clone, Copy)]
 pub enum Sample {
     Known(Colour),
     Unknown,
 }
 
 // The sample of a mask at a pixel: known to be 0 or 1, or not known.
-#[derive(Drop)]
+#[derive(Clone, Copy)]
 pub enum Mask {
     Zero,
     One,
@@ -27,14 +28,14 @@ pub enum Mask {
 
 // An entry of the plane list: a layer that was read, and where its samples start in the sample buffer.
 #[repr(C)]
-#[derive(Drop)]
+#[derive(Clone, Copy)]
 pub struct Plane {
     pub layer: u8,
     pub start: u32,
 }
 
 // Where a layer's samples start in the sample buffer, or that it is unread.
-#[derive(Drop)]
+#[derive(Clone, Copy)]
 pub enum Start {
     From(u32),
     Unread,

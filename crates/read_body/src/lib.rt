@@ -1,5 +1,7 @@
 // The body of a page, segment by segment: optional segments, stripes and the end (`body_from` of `body_rules`). What a stripe is, its mode says: nothing here
 // knows how many records it has or how long it is.
+#![tactic(auto)]
+
 ghost use Rattle.std.specs.Prelude.{◌≡◌, ◌≤◌};
 ghost use Rattle.segment_rules.specs.Rules.{longest_page};
 ghost use Rattle.page_rules.specs.Grammar.{body_in};
@@ -15,7 +17,7 @@ use segment_rules::{EOI, Mode};
 use start_rules::Head;
 
 // Where reading the body stands: the place, the number of the stripe that may come, how much of the page's height is left, and how many records are laid.
-#[derive(Drop)]
+#[derive(Clone, Copy)]
 pub struct Place {
     pub at: u32,
     pub stripe: u16,
@@ -24,14 +26,14 @@ pub struct Place {
 }
 
 // What the body comes to: how many records it has, and the place after its first FF D9; or why it is refused.
-#[derive(Drop)]
+#[derive(Clone, Copy)]
 pub enum Body {
     Records { count: u32, next: u32 },
     Refused(Answer),
 }
 
 // One segment on, or the body's answer.
-#[derive(Drop)]
+#[derive(Clone, Copy)]
 pub enum Turn {
     Go(Place),
     Stop(Body),

@@ -1,4 +1,6 @@
 // The end of page (9.4) behind its first FF D9: the second one (`end_table` of `page_rules`), then zero octets only.
+#![tactic(auto)]
+
 ghost use Rattle.std.specs.Prelude.{◌≡◌, ◌≤◌, length};
 ghost use Rattle.segment_rules.specs.Rules.{longest_page};
 ghost use Rattle.read_end.specs.Ends.{zeros_from, close_of};

@@ -1,4 +1,6 @@
 // Fields of a page, judged one after the other: place, octets, rule, refusal. A refusal flows through, so that a table of fields has one way out.
+#![tactic(auto)]
+
 ghost use Rattle.std.specs.Prelude.{◌≡◌, ◌+◌, ◌<◌, leb, length, get_or};
 ghost use Rattle.octets.specs.Octets.{be16_at, be32_at};
 ghost use Rattle.read_field.specs.Judged.{held_of, field_of};
@@ -6,7 +8,7 @@ ghost use Rattle.read_field.specs.Judged.{held_of, field_of};
 use answers::Answer;
 
 // What the fields so far have come to.
-#[derive(Drop)]
+#[derive(Clone, Copy)]
 pub enum Judged {
     Fine,
     Refused(Answer),

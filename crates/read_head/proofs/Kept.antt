@@ -47,7 +47,7 @@ module _ (hd : Head) (left : ℕ) (s : List ℕ) (at : ℕ) where
         ((says_and (says_le 1 (be32_at s (at + 23))) (says_le (be32_at s (at + 23)) left)).told
         (subst (λ (j : ℕ). within 1 left (be32_at s j) ≡ true) p rules.1.1.1.1.1.0)).1
 
-    pub back_low : has_back (fields_at s at).kind ≡ true → ((fields_at s at).backX ≤ 65535) × ((fields_at s at).backY ≤ 65535)
+    pub back_low : has_back (fields_at s at).kind ≡ true → ((fields_at s at).back_x ≤ 65535) × ((fields_at s at).back_y ≤ 65535)
     unfolding stripe_table numbers widths Holds fields_at
     back_low =
         let p : at + 1 + 3 + 3 ≡ at + 7 = omega arith in
@@ -55,7 +55,7 @@ module _ (hd : Head) (left : ℕ) (s : List ℕ) (at : ℕ) where
         (says_offset (has_back (get_or s at 0)) (be32_at s (at + 7)) (be32_at s (at + 11))).told
         (subst₂ (λ (i j : ℕ). offset_ok (has_back (get_or s at 0)) (be32_at s i) (be32_at s j) ≡ true) p q rules.1.1.1.0)
 
-    pub fore_low : has_fore (fields_at s at).kind ≡ true → ((fields_at s at).foreX ≤ 65535) × ((fields_at s at).foreY ≤ 65535)
+    pub fore_low : has_fore (fields_at s at).kind ≡ true → ((fields_at s at).fore_x ≤ 65535) × ((fields_at s at).fore_y ≤ 65535)
     unfolding stripe_table numbers widths Holds fields_at
     fore_low =
         let p : at + 1 + 3 + 3 + 8 ≡ at + 15 = omega arith in

@@ -51,11 +51,11 @@ pub colour_made : (s : List ℕ) (at : ℕ) {a b c : ℕ} → a ≡ get_or s at 
     → ◌≡◌ {A = Colour} (record { c0 = a; c1 = b; c2 = c }) (colour_at s at)
 colour_made s at e f g = rw (e, f, g) refl
 
-pub fields_made : (s : List ℕ) (at : ℕ) {back fore : Colour} {kind bx bY fx fy height mask : ℕ}
+pub fields_made : (s : List ℕ) (at : ℕ) {back fore : Colour} {kind bx b_y fx fy height mask : ℕ}
     → back ≡ colour_at s (at + 1) → fore ≡ colour_at s (at + 4) → kind ≡ get_or s at 0
-    → bx ≡ be32_at s (at + 7) → bY ≡ be32_at s (at + 11) → fx ≡ be32_at s (at + 15) → fy ≡ be32_at s (at + 19)
+    → bx ≡ be32_at s (at + 7) → b_y ≡ be32_at s (at + 11) → fx ≡ be32_at s (at + 15) → fy ≡ be32_at s (at + 19)
     → height ≡ be32_at s (at + 23) → mask ≡ be32_at s (at + 27)
-    → ◌≡◌ {A = Fields} (record { kind = kind; back = back; fore = fore; backX = bx; backY = bY; foreX = fx; foreY = fy; height = height; mask_length = mask }) (fields_at s at)
+    → ◌≡◌ {A = Fields} (record { kind = kind; back = back; fore = fore; back_x = bx; back_y = b_y; fore_x = fx; fore_y = fy; height = height; mask_length = mask }) (fields_at s at)
 unfolding fields_at
 fields_made s at a b c d e f g h i = rw (a, b, c, d, e, f, g, h, i) refl
 
@@ -63,8 +63,8 @@ fields_made s at a b c d e f g h i = rw (a, b, c, d, e, f, g, h, i) refl
 pub stripe_made : (s : List ℕ) (hd : Head) (left at : ℕ) (f : Fields) {r1 r2 r3 r4 r5 r6 r7 : Judged} {type back fore mask hb hf : Bool}
     → f ≡ fields_at s at
     → type ≡ type_ok hd f.kind
-    → hb ≡ has_back f.kind → back ≡ offset_ok hb f.backX f.backY
-    → hf ≡ has_fore f.kind → fore ≡ offset_ok hf f.foreX f.foreY
+    → hb ≡ has_back f.kind → back ≡ offset_ok hb f.back_x f.back_y
+    → hf ≡ has_fore f.kind → fore ≡ offset_ok hf f.fore_x f.fore_y
     → mask ≡ mask_length_ok f.kind f.mask_length
     → r1 ≡ field_of s Fine at 1 type (BadType at)
     → r2 ≡ field_of s r1 (at + 1) 3 true (BadStripe (at + 1))

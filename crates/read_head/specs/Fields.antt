@@ -14,10 +14,10 @@ fields_at s at =
       kind = get_or s at 0;
       back = colour_at s (at + 1);
       fore = colour_at s (at + 4);
-      backX = be32_at s (at + 7);
-      backY = be32_at s (at + 11);
-      foreX = be32_at s (at + 15);
-      foreY = be32_at s (at + 19);
+      back_x = be32_at s (at + 7);
+      back_y = be32_at s (at + 11);
+      fore_x = be32_at s (at + 15);
+      fore_y = be32_at s (at + 19);
       height = be32_at s (at + 23);
       mask_length = be32_at s (at + 27);
     }

@@ -1,4 +1,6 @@
 // The fields of a stripe (9.3), by name and judged: the table `stripe_table` of `mode1_rules` in code, line by line. No other crate knows where they stand.
+#![tactic(auto)]
+
 ghost use Rattle.std.specs.Prelude.{◌≡◌, [], ◌≤◌};
 ghost use Rattle.field_rules.specs.Field.{fields};
 ghost use Rattle.sheet_rules.specs.Record.{colour_at};
@@ -74,12 +76,12 @@ pub fn fields_at(s: &[u8], at: u32) -> Fields
         kind: read_field::octet(s, at),
         back,
         fore,
-        backX: read_field::four(s, at + 7),
-        backY: read_field::four(s, at + 11),
-        foreX: read_field::four(s, at + 15),
-        foreY: read_field::four(s, at + 19),
+        back_x: read_field::four(s, at + 7),
+        back_y: read_field::four(s, at + 11),
+        fore_x: read_field::four(s, at + 15),
+        fore_y: read_field::four(s, at + 19),
         height: read_field::four(s, at + 23),
-        maskLength: read_field::four(s, at + 27),
+        mask_length: read_field::four(s, at + 27),
     }
 }
 
@@ -89,8 +91,8 @@ pub fn judge_stripe(s: &[u8], hd: Head, left: u32, at: u32, f: Fields) -> Judged
     ensures { result ≡ judged_of (fields (stripe_table hd left) [] s.now at) }
 {
     let kind = type_ok(hd, f.kind);
-    let back = offset_ok(has_back(f.kind), f.backX, f.backY);
-    let fore = offset_ok(has_fore(f.kind), f.foreX, f.foreY);
+    let back = offset_ok(has_back(f.kind), f.back_x, f.back_y);
+    let fore = offset_ok(has_fore(f.kind), f.fore_x, f.fore_y);
     let height = (1 <= f.height) & (f.height <= left);
     let mask = mask_length_ok(f.kind, f.mask_length);
     let r = read_field::field(s, Judged::Fine, at, 1, kind, Answer::BadType(at));

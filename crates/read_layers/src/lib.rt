@@ -1,4 +1,6 @@
 // The coded layers of a stripe: the mask's data by its length, the image layers by their walks.
+#![tactic(auto)]
+
 ghost use Rattle.std.specs.Prelude.{◌≡◌, ◌+◌, ◌≤◌};
 ghost use Rattle.answers.specs.Answers.{place_of};
 ghost use Rattle.segment_rules.specs.Rules.{longest_page};
@@ -10,14 +12,14 @@ use jpeg_rules::{Fault, Walk};
 use mode1_rules::LayerData;
 
 // An image layer, or none where the type names none, and the place after it; or why it is refused.
-#[derive(Drop)]
+#[derive(Clone, Copy)]
 pub enum Layer {
     Known { coded: LayerData, next: u32 },
     Refused(Answer),
 }
 
 // Both image layers of a stripe, and the place after its last layer; or why one is refused.
-#[derive(Drop)]
+#[derive(Clone, Copy)]
 pub enum Layers {
     Read {
         back: LayerData,

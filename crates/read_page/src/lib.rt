@@ -1,5 +1,7 @@
 // A page read into a sheet: a verdict on the whole page, which lays the records into a scratch of its own; then the room; then the sheet.
 // So a refusal changes nothing that was lent.
+#![tactic(auto)]
+
 ghost use Rattle.std.specs.Prelude.{◌*◌, ◌≤◌, length};
 ghost use Rattle.sheet_rules.specs.Record.{record_size};
 ghost use Rattle.page_rules.specs.Reading.{page_of, Reads};
@@ -15,7 +17,7 @@ use segment_rules::LONGEST_PAGE;
 use sheet_rules::RECORD_SIZE;
 
 // What a page comes to: how many records its sheet has, or why it is refused.
-#[derive(Drop)]
+#[derive(Clone, Copy)]
 pub enum Verdict {
     Sheet { records: u32 },
     Refused(Answer),

@@ -90,9 +90,9 @@ put_three d i r1 r2 r3 h =
     ∙ ap (put_at d i) (append_assoc (encode r1) (encode r2) (encode r3) ∙ ap (λ (l : List ℕ). encode r1 ++ (encode r2 ++ l)) (sym (append-nil (encode r3))))
 
 pub stripe_put : (out : List ℕ) (to : ℕ) (hd : Head) (k : ℕ) (f : Fields) (mask : ℕ) (back fore : LayerData) {r1 r2 r3 : Record} {o1 o2 o3 : List ℕ} → Room out to f back fore
-    → r1 ≡ image_record hd k 1 f.back f.backX f.backY back
+    → r1 ≡ image_record hd k 1 f.back f.back_x f.back_y back
     → r2 ≡ mask_record hd k f.height (cond (has_mask f.kind) hd.mask 0) (cond (has_mask f.kind) mask 0) f.mask_length
-    → r3 ≡ image_record hd k 3 f.fore f.foreX f.foreY fore
+    → r3 ≡ image_record hd k 3 f.fore f.fore_x f.fore_y fore
     → o1 ≡ put_at out to (encode r1) → o2 ≡ put_at o1 (to + record_size) (encode r2) → o3 ≡ put_at o2 (to + 2 * record_size) (encode r3)
     → o3 ≡ put_at out to (sheet_of (records_of hd k f mask back fore))
 stripe_put out to hd k f mask back fore m a b c x y z =

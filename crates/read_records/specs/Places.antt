@@ -15,5 +15,5 @@ Placed Absent x y = Unit {0}
 pub record Room (out : List ℕ) (to : ℕ) (f : Fields) (back fore : LayerData) : Type 0 where
   pub holds : to + 3 * record_size ≤ length out
   pub height : f.height ≤ 65535
-  pub back_placed : Placed back f.backX f.backY
-  pub fore_placed : Placed fore f.foreX f.foreY
+  pub back_placed : Placed back f.back_x f.back_y
+  pub fore_placed : Placed fore f.fore_x f.fore_y

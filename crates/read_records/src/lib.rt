@@ -1,6 +1,8 @@
 // The three records of a Mode 1 stripe, from its fields and its layers, and their octets in a sheet.
 //
 // A stripe's fields are judged before: a layer that is coded has offsets below 65,536, and so is the height. The caller says so (`Room`), and nothing is cut off.
+#![tactic(auto)]
+
 ghost use Rattle.std.specs.Prelude.{◌≡◌, cond, ◌≤◌};
 ghost use Rattle.octets.specs.Octets.{put_at};
 ghost use Rattle.sheet_rules.specs.Record.{sheet_of};
@@ -133,9 +135,9 @@ pub fn put_stripe(
 {
     let colour1 = f.back;
     let colour3 = f.fore;
-    let r1 = image_record(hd, k, 1, colour1, f.backX, f.backY, back);
+    let r1 = image_record(hd, k, 1, colour1, f.back_x, f.back_y, back);
     let r2 = mask_record(hd, k, f.kind, f.height, mask, f.mask_length);
-    let r3 = image_record(hd, k, 3, colour3, f.foreX, f.foreY, fore);
+    let r3 = image_record(hd, k, 3, colour3, f.fore_x, f.fore_y, fore);
     sheet_record::put_record(out, to, r1);
     sheet_record::put_record(out, to + RECORD_SIZE, r2);
     sheet_record::put_record(out, to + TWO_RECORDS, r3);

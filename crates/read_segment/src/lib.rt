@@ -1,5 +1,7 @@
 // A segment behind the start of page (`segment_of` of `segment_rules`): its marker, its length, its ident, and its body. Nobody else knows where these stand. It is
 // met up to two million times in a page, so that it branches where a table of fields has one way out.
+#![tactic(auto)]
+
 ghost use Rattle.std.specs.Prelude.{◌≡◌, ◌+◌, ◌≤◌, ◌<◌};
 ghost use Rattle.field_rules.specs.Part.{span_of};
 ghost use Rattle.segment_rules.specs.Rules.{longest_page};
@@ -11,7 +13,7 @@ use answers::Answer;
 use segment_rules::{APP13, MRC, STRIPE, Version};
 
 // What a segment is: a stripe, by the place of its body; an optional segment, by the place after it; or what is wrong.
-#[derive(Drop)]
+#[derive(Clone, Copy)]
 pub enum Segment {
     Stripe { body: u32 },
     Optional { next: u32 },

@@ -1,4 +1,6 @@
 // The start of page (9.2.1), and the termination (9.2.3): the table `start_table` of `start_rules` in code, line by line.
+#![tactic(auto)]
+
 ghost use Rattle.std.specs.Prelude.{◌≡◌, []};
 ghost use Rattle.field_rules.specs.Field.{fields};
 ghost use Rattle.segment_rules.specs.declared.Mode.TheVariants.{One};

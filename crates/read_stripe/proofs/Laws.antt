@@ -58,8 +58,8 @@ module _ (out s : List ℕ) (f : Fields) (at first : ℕ) (l : Laying out s f at
       record {
         holds = omega arith;
         height = l.fit.height;
-        back_placed = placed s hd.main _ p.q back p.m f.backX f.backY l.fit.back p.first;
-        fore_placed = placed s hd.main _ p.m fore next f.foreX f.foreY l.fit.fore p.second;
+        back_placed = placed s hd.main _ p.q back p.m f.back_x f.back_y l.fit.back p.first;
+        fore_placed = placed s hd.main _ p.m fore next f.fore_x f.fore_y l.fit.fore p.second;
       }
 
 module _ (hd : Head) (k : ℕ) (f : Fields) (s : List ℕ) (at : ℕ) (r : Layers) (g : r ≡ layers_in s hd.main f.kind f.mask_length at) where

@@ -22,8 +22,8 @@ use Rattle.read_stripe.specs.declared.Step.TheVariants.{Next, Refused}
 
 pub record Fit (f : Fields) : Type 0 where
   pub height : f.height ≤ 65535
-  pub back : has_back f.kind ≡ true → (f.backX ≤ 65535) × (f.backY ≤ 65535)
-  pub fore : has_fore f.kind ≡ true → (f.foreX ≤ 65535) × (f.foreY ≤ 65535)
+  pub back : has_back f.kind ≡ true → (f.back_x ≤ 65535) × (f.back_y ≤ 65535)
+  pub fore : has_fore f.kind ≡ true → (f.fore_x ≤ 65535) × (f.fore_y ≤ 65535)
 
 pub record Laying (out s : List ℕ) (f : Fields) (at first : ℕ) : Type 0 where
   pub holds : (first + most_layers One) * record_size ≤ length out

@@ -1,5 +1,7 @@
 // A Mode 1 stripe from the first octet of its body on (`stripe_read` of `mode1_rules`): its fields, its coded layers, and its records, which are laid where all
 // of it is read. A stripe that is refused leaves nothing.
+#![tactic(auto)]
+
 ghost use Rattle.std.specs.Prelude.{◌≡◌};
 ghost use Rattle.mode1_rules.specs.Reading.{stripe_read};
 ghost use Rattle.read_stripe.specs.Steps.{Laying, Ready, layered, step_of, laid_of};
@@ -12,7 +14,7 @@ use sheet_rules::RECORD_SIZE;
 use start_rules::Head;
 
 // What a stripe comes to: the place after it, its height, and how many records were laid; or why it is refused.
-#[derive(Drop)]
+#[derive(Clone, Copy)]
 pub enum Step {
     Next {
         next: u32,

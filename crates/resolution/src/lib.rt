@@ -1,4 +1,6 @@
 // Resolutions (01, "The page, Mode 1"): the six that are listed, and one that divides another.
+#![tactic(auto)]
+
 ghost use Rattle.std.specs.Prelude.{◌≡◌};
 ghost use Rattle.sheet_rules.specs.Judge.{listed, divides};
 

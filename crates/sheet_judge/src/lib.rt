@@ -1,4 +1,6 @@
 // The judge of a sheet: the fold of specs/Judge.antt of `sheet_rules`, for every octet string.
+#![tactic(auto)]
+
 ghost use Rattle.std.specs.Prelude.{◌≡◌, ◌-◌};
 ghost use Rattle.sheet_rules.specs.Judge.{begin, after, after1, after2, after3, step_of, end_of, judge_of, sheet_answer};
 

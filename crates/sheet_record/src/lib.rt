@@ -1,4 +1,6 @@
 // The record codec: the 28 octets of a record read as values, and put.
+#![tactic(auto)]
+
 ghost use Rattle.std.specs.Prelude.{◌≡◌, ◌+◌, ◌/◌, ◌≤◌, ◌<◌, length};
 ghost use Rattle.octets.specs.Octets.{put_at};
 ghost use Rattle.sheet_rules.specs.Record.{record_size, record_from, record_at, encode};

@@ -1,4 +1,5 @@
 // The types of the sheet and of its judge. The rules stand in specs/, the theorems about them in proofs/Theorems.antt.
+#![tactic(auto)]
 
 // How many octets a record has.
 pub const RECORD_SIZE: usize = 28;
@@ -13,7 +14,7 @@ pub const MOST_RECORDS: usize = 960;
 pub const DECISIVE_SIZE: usize = (MOST_RECORDS + 1) * RECORD_SIZE;
 
 // Three CIELAB code octets, carried as they stand.
-#[derive(Drop)]
+#[derive(Clone, Copy)]
 pub struct Colour {
     pub c0: u8,
     pub c1: u8,
@@ -21,7 +22,7 @@ pub struct Colour {
 }
 
 // A record: the paper's table, field by field.
-#[derive(Drop)]
+#[derive(Clone, Copy)]
 pub struct Record {
     pub stripe: u16,
     pub layer: u8,
@@ -45,7 +46,7 @@ pub struct Record {
 }
 
 // What of the records passed the next one is judged by.
-#[derive(Drop)]
+#[derive(Clone, Copy)]
 pub struct State {
     // of the last record; layer 0 before the first
     pub stripe: u16,
@@ -62,21 +63,21 @@ pub struct State {
 }
 
 // What one record does to the state.
-#[derive(Drop)]
+#[derive(Clone, Copy)]
 pub enum Step {
     Next(State),
     Stop,
 }
 
 // What a sheet is judged to be: good with its counts, or the record at fault.
-#[derive(Drop)]
+#[derive(Clone, Copy)]
 pub enum Verdict {
     Good { records: usize, stripes: usize },
     Refused { record: usize },
 }
 
 // An entry of the stripe table: which records and lines a stripe has.
-#[derive(Drop)]
+#[derive(Clone, Copy)]
 pub struct Extent {
     // its first record and how many it has
     pub first: u32,
@@ -87,14 +88,14 @@ pub struct Extent {
 }
 
 // A stripe that was looked for: its extent.
-#[derive(Drop)]
+#[derive(Clone, Copy)]
 pub enum FoundStripe {
     Has(Extent),
     NoStripe,
 }
 
 // A layer that was looked for: the number of its record.
-#[derive(Drop)]
+#[derive(Clone, Copy)]
 pub enum FoundLayer {
     At(usize),
     NoLayer,

@@ -1,4 +1,6 @@
 // The stripe table: a stripe of a sheet found by its number, and a layer of it.
+#![tactic(auto)]
+
 ghost use Rattle.std.specs.Prelude.{◌≡◌, ◌<◌, min};
 ghost use Rattle.sheet_rules.specs.Record.{height_in};
 ghost use Rattle.sheet_rules.specs.StripeTable.{with_record, found_extent, find_stripe, find_layer};

@@ -3,6 +3,8 @@
 // A test of fields evaluates all its operands (`&` and `|`, never `&&`), so that its value is the definition's expression as it stands. A test
 // that calls costly tests branches, so that a record is put only to those of its layer, and a division is made only where two resolutions differ:
 // the judge takes less than half the time.
+#![tactic(auto)]
+
 ghost use Rattle.std.specs.Prelude.{◌≡◌, ◌+◌};
 ghost use Rattle.sheet_rules.specs.Judge.{zeros_ok, grey_ok, closes, placed, coded, coder_ok, coded_ok, uncoded_ok, data_ok, res_ok, base_ok, page_ok, choice_ok, upper_ok, layer_ok, keeps};
 

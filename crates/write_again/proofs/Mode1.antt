@@ -59,10 +59,10 @@ stripe_lent {hd} {k} {left} {at} z =
     let g = z.good in
     let w = z.widths in
     stripe_each z (Lent hd)
-    (image_lent hd k 1 (at + stripe_body + length z.mask) f.back f.backX f.backY (has_back f.kind) z.back z.back_is z.back_there (omega arith) (λ e. omega arith)
+    (image_lent hd k 1 (at + stripe_body + length z.mask) f.back f.back_x f.back_y (has_back f.kind) z.back z.back_is z.back_there (omega arith) (λ e. omega arith)
     (λ e. g.image_coder (inl e)) w.back g.back)
     (mask_lent hd k f.height (at + stripe_body) f.mask_length (has_mask f.kind) g.mask.1)
-    (image_lent hd k 3 (at + stripe_body + length z.mask + length z.back) f.fore f.foreX f.foreY (has_fore f.kind) z.fore z.fore_is z.fore_there (omega arith)
+    (image_lent hd k 3 (at + stripe_body + length z.mask + length z.back) f.fore f.fore_x f.fore_y (has_fore f.kind) z.fore z.fore_is z.fore_there (omega arith)
     (λ e. omega arith) (λ e. g.image_coder (inr e)) w.fore g.fore)
 
 -- ---- the second record is layer 2: it has the page's main resolution and width
@@ -82,8 +82,8 @@ pub stripe_opened : {hd : Head} {k left at : ℕ} {l : List ℕ} {height : ℕ} 
 unfolding mask_record
 stripe_opened {hd} {k} z =
     let f = z.fields in
-    let l1 = image_opening hd k 1 f.back f.backX f.backY z.back_is in
-    let l3 = image_opening hd k 3 f.fore f.foreX f.foreY z.fore_is in
+    let l1 = image_opening hd k 1 f.back f.back_x f.back_y z.back_is in
+    let l3 = image_opening hd k 3 f.fore f.fore_x f.fore_y z.fore_is in
     record {
       first = back_in z;
       others = mask_in z ∷ fore_in z ∷ [];
@@ -119,12 +119,12 @@ pub stripe_size : (hd : Head) (k left at : ℕ) (l : List ℕ) (height : ℕ) (r
 unfolding sum_of mask_record
 stripe_size hd k left at l height rs z =
     let f = z.fields in
-    let l3 = (image_place hd k 3 f.fore f.foreX f.foreY z.fore_is).1 in
-    let s1 = head_first (back_in z) (image_place hd k 1 f.back f.backX f.backY z.back_is).1 in
+    let l3 = (image_place hd k 3 f.fore f.fore_x f.fore_y z.fore_is).1 in
+    let s1 = head_first (back_in z) (image_place hd k 1 f.back f.back_x f.back_y z.back_is).1 in
     let s2 = head_other (mask_in z) (λ e. omega arith) in
     let s3 = head_other (fore_in z) (λ e. omega arith) in
-    let e1 = image_size hd k 1 (at + stripe_body + length z.mask) f.back f.backX f.backY (has_back f.kind) z.back z.back_is z.back_there in
-    let e3 = image_size hd k 3 (at + stripe_body + length z.mask + length z.back) f.fore f.foreX f.foreY (has_fore f.kind) z.fore z.fore_is z.fore_there in
+    let e1 = image_size hd k 1 (at + stripe_body + length z.mask) f.back f.back_x f.back_y (has_back f.kind) z.back z.back_is z.back_there in
+    let e3 = image_size hd k 3 (at + stripe_body + length z.mask + length z.back) f.fore f.fore_x f.fore_y (has_fore f.kind) z.fore z.fore_is z.fore_there in
     let n = z.size in
     let a = stripe_length z in
     ap (sum_of (size_in One)) z.records ∙ omega arith
@@ -146,7 +146,7 @@ unfolding image_record
 image_again hd k l at base x y b o c (there z) f = (refl, refl, refl)
 image_again hd k l at base x y b o c absent f = let g = f refl in (refl, sym g.0, sym g.1)
 
-fields_same : (f g : Fields) → f.kind ≡ g.kind → f.back ≡ g.back → f.fore ≡ g.fore → f.backX ≡ g.backX → f.backY ≡ g.backY → f.foreX ≡ g.foreX → f.foreY ≡ g.foreY
+fields_same : (f g : Fields) → f.kind ≡ g.kind → f.back ≡ g.back → f.fore ≡ g.fore → f.back_x ≡ g.back_x → f.back_y ≡ g.back_y → f.fore_x ≡ g.fore_x → f.fore_y ≡ g.fore_y
     → f.height ≡ g.height → f.mask_length ≡ g.mask_length → f ≡ g
 fields_same f g e1 e2 e3 e4 e5 e6 e7 e8 e9 = let all : whole f ≡ whole g = cc in all
   where
@@ -156,10 +156,10 @@ fields_same f g e1 e2 e3 e4 e5 e6 e7 e8 e9 = let all : whole f ≡ whole g = cc 
           kind = f.kind;
           back = f.back;
           fore = f.fore;
-          backX = f.backX;
-          backY = f.backY;
-          foreX = f.foreX;
-          foreY = f.foreY;
+          back_x = f.back_x;
+          back_y = f.back_y;
+          fore_x = f.fore_x;
+          fore_y = f.fore_y;
           height = f.height;
           mask_length = f.mask_length;
         }
@@ -170,20 +170,20 @@ module _ {hd : Head} {k left at : ℕ} {l : List ℕ} {height : ℕ} {rs : List 
   fields_again =
       let f = z.fields in
       let b =
-      image_again hd k 1 (at + stripe_body + length z.mask) f.back f.backX f.backY (has_back f.kind) z.back z.back_is z.back_there t.back in
+      image_again hd k 1 (at + stripe_body + length z.mask) f.back f.back_x f.back_y (has_back f.kind) z.back z.back_is z.back_there t.back in
       let c =
-      image_again hd k 3 (at + stripe_body + length z.mask + length z.back) f.fore f.foreX f.foreY (has_fore f.kind) z.fore z.fore_is z.fore_there t.fore in
+      image_again hd k 3 (at + stripe_body + length z.mask + length z.back) f.fore f.fore_x f.fore_y (has_fore f.kind) z.fore z.fore_is z.fore_there t.fore in
       fields_same (fields_by (back_in z) (mask_in z) (fore_in z)) f type_is b.0 c.0 b.1 b.2 c.1 c.2 refl refl
     where
       type_is : type_by (coded (back_in z)) (coded (mask_in z)) (coded (fore_in z)) ≡ z.fields.kind
       type_is =
           let f = z.fields in
           ap (λ (b : Bool). type_by b (coded (mask_in z)) (coded (fore_in z)))
-          (coded_image hd k 1 (at + stripe_body + length z.mask) f.back f.backX f.backY (has_back f.kind) z.back z.back_is z.back_there)
+          (coded_image hd k 1 (at + stripe_body + length z.mask) f.back f.back_x f.back_y (has_back f.kind) z.back z.back_is z.back_there)
           ∙ ap (λ (b : Bool). type_by (has_back f.kind) b (coded (fore_in z)))
           (coded_mask hd k f.height (cond (has_mask f.kind) hd.mask 0) (cond (has_mask f.kind) (at + stripe_body) 0) f.mask_length (has_mask f.kind) z.good.mask)
           ∙ ap (λ (b : Bool). type_by (has_back f.kind) (has_mask f.kind) b)
-          (coded_image hd k 3 (at + stripe_body + length z.mask + length z.back) f.fore f.foreX f.foreY (has_fore f.kind) z.fore z.fore_is z.fore_there)
+          (coded_image hd k 3 (at + stripe_body + length z.mask + length z.back) f.fore f.fore_x f.fore_y (has_fore f.kind) z.fore z.fore_is z.fore_there)
           ∙ type_again f.kind z.good.kind
 
   three_again : (s tail : List ℕ) → drop at s ≡ l ++ tail → rest1 s (back_in z ∷ mask_in z ∷ fore_in z ∷ []) ≡ l

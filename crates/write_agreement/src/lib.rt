@@ -1,5 +1,7 @@
 // Whether an image layer's data agrees with its record: the walk of the record's own octets, and of no other, ends at their end with the record's
 // width, height, resolution and count of components.
+#![tactic(auto)]
+
 ghost use Rattle.std.specs.Prelude.{◌≡◌, cond, ◌+◌, ◌≤◌, eqb, length};
 ghost use Rattle.write_rules.specs.Layer.{ends_as, agrees};
 

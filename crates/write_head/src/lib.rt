@@ -1,4 +1,6 @@
 // The head of a stripe put (9.3): length 37. The fixed octets are those that the reader compares.
+#![tactic(auto)]
+
 ghost use Rattle.std.specs.Prelude.{◌≡◌, ◌++◌, ◌+◌, ◌≤◌, length};
 ghost use Rattle.octets.specs.Octets.{octets32, put_at};
 ghost use Rattle.mode1_rules.specs.Grammar.{fields_of};

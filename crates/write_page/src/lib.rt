@@ -1,5 +1,7 @@
 // A page written from a sheet and the buffer that its starts point into: a verdict on the sheet and its data, then the size, then the room, then the
 // page. So a refusal changes nothing that was lent.
+#![tactic(auto)]
+
 ghost use Rattle.std.specs.Prelude.{◌≡◌, ◌+◌, ◌≤◌, length};
 ghost use Rattle.octets.specs.Octets.{put_at};
 ghost use Rattle.sheet_rules.specs.Record.{records};

@@ -36,10 +36,10 @@ fields_by a b c =
       kind = type_by (coded a) (coded b) (coded c);
       back = colour_by a;
       fore = colour_by c;
-      backX = a.x;
-      backY = a.y;
-      foreX = c.x;
-      foreY = c.y;
+      back_x = a.x;
+      back_y = a.y;
+      fore_x = c.x;
+      fore_y = c.y;
       height = b.height;
       mask_length = b.len;
     }
@@ -63,5 +63,5 @@ stripe1 d q = begins ++ rest1 d q
 -- ---- the writer's form, of a page's stripe
 
 pub record Trimmed (f : Fields) : Type 0 where
-  pub back : has_back f.kind ≡ false → (f.backX ≡ 0) × (f.backY ≡ 0)
-  pub fore : has_fore f.kind ≡ false → (f.foreX ≡ 0) × (f.foreY ≡ 0)
+  pub back : has_back f.kind ≡ false → (f.back_x ≡ 0) × (f.back_y ≡ 0)
+  pub fore : has_fore f.kind ≡ false → (f.fore_x ≡ 0) × (f.fore_y ≡ 0)

@@ -1,4 +1,5 @@
 // The types and sizes of writing a page. Its definitions stand in specs/, the theorems about them in proofs/.
+#![tactic(auto)]
 
 // The octets of the start of page with its termination, and of both the start and the end.
 pub const START_SIZE: usize = 22;
@@ -11,7 +12,7 @@ pub const MODE1_LAYERS: u8 = 3;
 pub const MODE1_HEAD: usize = 39;
 
 // What the records passed make of the page: its coder octets, each the coder used so far or 0, and how many octets it takes so far.
-#[derive(Drop)]
+#[derive(Clone, Copy)]
 pub struct Tally {
     pub mask: u8,
     pub image: u8,

@@ -1,4 +1,6 @@
 // The start of page put: length 16, the version and the mode that are in force. The fixed octets are those that the reader compares.
+#![tactic(auto)]
+
 ghost use Rattle.std.specs.Prelude.{◌≡◌, ◌≤◌, length};
 ghost use Rattle.octets.specs.Octets.{put_at};
 ghost use Rattle.segment_rules.specs.Rules.{version_octet, mode_octet};

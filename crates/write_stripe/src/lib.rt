@@ -1,4 +1,6 @@
 // A stripe put with its coded layers.
+#![tactic(auto)]
+
 ghost use Rattle.std.specs.Prelude.{◌≡◌, [], ◌∷◌, ◌+◌, length};
 ghost use Rattle.octets.specs.Octets.{put_at};
 ghost use Rattle.sheet_rules.specs.Record.{records_from};

@@ -1,4 +1,6 @@
 // The verdict on a sheet that is to be written: the sheet, the mode, then each record in order, Short before Mismatch.
+#![tactic(auto)]
+
 ghost use Rattle.std.specs.Prelude.{◌≡◌, cond, ◌+◌, ◌≤◌, leb, length};
 ghost use Rattle.sheet_rules.specs.Record.{records};
 ghost use Rattle.write_rules.specs.Modes.{head_in};
@@ -13,14 +15,14 @@ use sheet_rules::{Record, TWO_RECORDS, Verdict};
 use write_rules::{FRAME_SIZE, MODE1_HEAD, MODE1_LAYERS, Tally};
 
 // What the records come to: the page that they make, or why it cannot be written.
-#[derive(Drop)]
+#[derive(Clone, Copy)]
 pub enum Pass {
     Next(Tally),
     Refused(Answer),
 }
 
 // The first record above the layers that the mode carries, if there is one.
-#[derive(Drop)]
+#[derive(Clone, Copy)]
 pub enum Layers {
     Low,
     Above(u32),
