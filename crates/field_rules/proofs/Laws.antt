@@ -44,6 +44,8 @@ unfolding Sized put widths
 length_put [] [] z = refl
 length_put (w ∷ ws) (v ∷ vs) z =
     let a = length-append (octets_of w v) (put ws vs) in let b = length_octets w v in let c = length_put ws vs z.1 in omega arith
+length_put [] (v ∷ vs) z = elim z [ ]
+length_put (w ∷ ws) [] z = elim z [ ]
 
 pub numbers_there : (ws : List Width) (vs : List ℕ) → Sized ws vs → (s r : List ℕ) (at : ℕ) → drop at s ≡ put ws vs ++ r → numbers ws s at ≡ vs
 unfolding Sized put numbers
@@ -53,6 +55,8 @@ numbers_there (w ∷ ws) (v ∷ vs) z s r at e =
     let d : drop (at + octet_count w) s ≡ put ws vs ++ r =
     ap (λ (k : ℕ). drop (at + k) s) (sym (length_octets w v)) ∙ drop_next s (octets_of w v) (put ws vs ++ r) at q in
     ap₂ (λ (x : ℕ) (l : List ℕ). x ∷ l) (number_there w s (put ws vs ++ r) at v q) (numbers_there ws vs z.1 s r (at + octet_count w) d)
+numbers_there [] (v ∷ vs) z s r at e = elim z [ ]
+numbers_there (w ∷ ws) [] z s r at e = elim z [ ]
 
 pub numbers_stand : (ws : List Width) (s : List ℕ) (at : ℕ) → Octets s → at + widths ws ≤ length s
     → (drop at s ≡ put ws (numbers ws s at) ++ drop (at + widths ws) s) × Sized ws (numbers ws s at)

@@ -69,6 +69,23 @@ sheet_exactly s a = (λ e. subst (Judges s) e (by (judge_of s) refl), back a)
     back (Done n) (good ok c) =
         ap answer_of ((sheet_accepted s n (stripe_count (records s))).1 (record { sheet = ok.0; whole = ok.1; count = c; stripes = refl }))
     back (BadSheet i) (no_sheet f) = ap answer_of ((sheet_refused s i).1 f)
+    back (Rattle.answers.specs.declared.Answer.TheVariants.Short _) x'' = elim x'' [ ]
+    back (Rattle.answers.specs.declared.Answer.TheVariants.BadMark _) x3 = elim x3 [ ]
+    back (Rattle.answers.specs.declared.Answer.TheVariants.BadLength _) x4 = elim x4 [ ]
+    back (Rattle.answers.specs.declared.Answer.TheVariants.BadVersion _) x5 = elim x5 [ ]
+    back (Rattle.answers.specs.declared.Answer.TheVariants.BadMode _) x6 = elim x6 [ ]
+    back (Rattle.answers.specs.declared.Answer.TheVariants.BadCoder _) x7 = elim x7 [ ]
+    back (Rattle.answers.specs.declared.Answer.TheVariants.BadRes _) x8 = elim x8 [ ]
+    back (Rattle.answers.specs.declared.Answer.TheVariants.BadWidth _) x9 = elim x9 [ ]
+    back (Rattle.answers.specs.declared.Answer.TheVariants.BadType _) x10 = elim x10 [ ]
+    back (Rattle.answers.specs.declared.Answer.TheVariants.BadStripe _) x11 = elim x11 [ ]
+    back (Rattle.answers.specs.declared.Answer.TheVariants.BadLayer _) x12 = elim x12 [ ]
+    back (Rattle.answers.specs.declared.Answer.TheVariants.Trailing _) x13 = elim x13 [ ]
+    back Rattle.answers.specs.declared.Answer.TheVariants.NoRoom x13 = elim x13 [ ]
+    back (Rattle.answers.specs.declared.Answer.TheVariants.BadPlane _) x15 = elim x15 [ ]
+    back (Rattle.answers.specs.declared.Answer.TheVariants.Mismatch _) x16 = elim x16 [ ]
+    back Rattle.answers.specs.declared.Answer.TheVariants.BadLine x16 = elim x16 [ ]
+    back Rattle.answers.specs.declared.Answer.TheVariants.TooLong x17 = elim x17 [ ]
 
 -- ---- at most 64 stripes and 960 records, and nothing but whole records
 
