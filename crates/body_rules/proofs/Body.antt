@@ -153,10 +153,14 @@ module _ (Optional : List ℕ → Type 0) (Stripe : ℕ → ℕ → ℕ → List
     to_after k left acc at l out (due_mark l' (closed p)) = subst (After k left acc at end_mark) (append-nil acc) (after [] (done p))
     to_after k left acc at l out (due_else b) = subst (λ (x : List ℕ). After k left acc at x out) (sym b.octets) (by b.front b.rest out b.value b.first b.second)
       where
+        by_stripe : (f r : List ℕ) (height : ℕ) (rs : List Record) → IsItem Optional Stripe k left at f (striped height rs)
+            → (out : List Record) → Second k left acc (striped height rs) (at + length f) r out → After k left acc at (f ++ r) out
+        by_stripe f r height rs (a_stripe h few z) out (after sr t) =
+            subst (After k left acc at (f ++ r)) (sym (append_assoc acc rs sr)) (after (rs ++ sr) (past_stripe f r rs sr height few z t))
+
         by : (f r : List ℕ) (out : List Record) (it : Item) → IsItem Optional Stripe k left at f it → Second k left acc it (at + length f) r out → After k left acc at (f ++ r) out
         by f r out skipped (an_optional z o) (after rs t) = after rs (past_optional f r z o t)
-        by f r out (striped height rs) (a_stripe h few z) (after sr t) =
-            subst (After k left acc at (f ++ r)) (sym (append_assoc acc rs sr)) (after (rs ++ sr) (past_stripe f r rs sr height few z t))
+        by f r out (striped height rs) i w = by_stripe f r height rs i out w
 
     from_after : (k left : ℕ) (acc : List Record) (at : ℕ) (l : List ℕ) (out : List Record) → After k left acc at l out
         → Due end_mark (Closed k acc) (Both (IsItem Optional Stripe k left at) (Second k left acc) at) l out

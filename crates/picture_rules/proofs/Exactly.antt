@@ -77,6 +77,20 @@ module _ (s : List ℕ) (pl : PlaneList) (d : List ℕ) (k y room : ℕ) where
       (λ a h f.
       let m : width_of scene * 4 ≤ room = omega arith in
       simp (le-ltb room (width_of scene * 4) m) (ap Done (sym e)))
+  gives_line (Rattle.answers.specs.declared.Answer.TheVariants.Short _) x'' = elim x'' [ ]
+  gives_line (Rattle.answers.specs.declared.Answer.TheVariants.BadMark _) x3 = elim x3 [ ]
+  gives_line (Rattle.answers.specs.declared.Answer.TheVariants.BadLength _) x4 = elim x4 [ ]
+  gives_line (Rattle.answers.specs.declared.Answer.TheVariants.BadVersion _) x5 = elim x5 [ ]
+  gives_line (Rattle.answers.specs.declared.Answer.TheVariants.BadMode _) x6 = elim x6 [ ]
+  gives_line (Rattle.answers.specs.declared.Answer.TheVariants.BadCoder _) x7 = elim x7 [ ]
+  gives_line (Rattle.answers.specs.declared.Answer.TheVariants.BadRes _) x8 = elim x8 [ ]
+  gives_line (Rattle.answers.specs.declared.Answer.TheVariants.BadWidth _) x9 = elim x9 [ ]
+  gives_line (Rattle.answers.specs.declared.Answer.TheVariants.BadType _) x10 = elim x10 [ ]
+  gives_line (Rattle.answers.specs.declared.Answer.TheVariants.BadStripe _) x11 = elim x11 [ ]
+  gives_line (Rattle.answers.specs.declared.Answer.TheVariants.BadLayer _) x12 = elim x12 [ ]
+  gives_line (Rattle.answers.specs.declared.Answer.TheVariants.Trailing _) x13 = elim x13 [ ]
+  gives_line (Rattle.answers.specs.declared.Answer.TheVariants.Mismatch _) x14 = elim x14 [ ]
+  gives_line Rattle.answers.specs.declared.Answer.TheVariants.TooLong x14 = elim x14 [ ]
 
   -- ---- each answer is given exactly when the sentences have it
 
@@ -105,6 +119,20 @@ module _ (s : List ℕ) (pl : PlaneList) (d : List ℕ) (k y room : ℕ) where
   gives_refusal (BadPlane i) (no_plane_lem ok has at) h = inr (inr (inl (refl, plane_at_lem (scene_of s pl d k) pl i at)))
   gives_refusal NoRoom (no_room ok has fine less) h = inr (inr (inr refl))
   gives_refusal (Done n) (lined ok has fine e l) h = absurd (h n refl)
+  gives_refusal (Rattle.answers.specs.declared.Answer.TheVariants.Short _) x3 h = elim x3 [ ]
+  gives_refusal (Rattle.answers.specs.declared.Answer.TheVariants.BadMark _) x4 h = elim x4 [ ]
+  gives_refusal (Rattle.answers.specs.declared.Answer.TheVariants.BadLength _) x5 h = elim x5 [ ]
+  gives_refusal (Rattle.answers.specs.declared.Answer.TheVariants.BadVersion _) x6 h = elim x6 [ ]
+  gives_refusal (Rattle.answers.specs.declared.Answer.TheVariants.BadMode _) x7 h = elim x7 [ ]
+  gives_refusal (Rattle.answers.specs.declared.Answer.TheVariants.BadCoder _) x8 h = elim x8 [ ]
+  gives_refusal (Rattle.answers.specs.declared.Answer.TheVariants.BadRes _) x9 h = elim x9 [ ]
+  gives_refusal (Rattle.answers.specs.declared.Answer.TheVariants.BadWidth _) x10 h = elim x10 [ ]
+  gives_refusal (Rattle.answers.specs.declared.Answer.TheVariants.BadType _) x11 h = elim x11 [ ]
+  gives_refusal (Rattle.answers.specs.declared.Answer.TheVariants.BadStripe _) x12 h = elim x12 [ ]
+  gives_refusal (Rattle.answers.specs.declared.Answer.TheVariants.BadLayer _) x13 h = elim x13 [ ]
+  gives_refusal (Rattle.answers.specs.declared.Answer.TheVariants.Trailing _) x14 h = elim x14 [ ]
+  gives_refusal (Rattle.answers.specs.declared.Answer.TheVariants.Mismatch _) x15 h = elim x15 [ ]
+  gives_refusal Rattle.answers.specs.declared.Answer.TheVariants.TooLong x15 h = elim x15 [ ]
 
   pub line_refused : ((n : ℕ) → line_of s pl d k y room ≡ Done n → ⊥) → LineRefusal (length s / record_size) (length pl.entries) (line_of s pl d k y room)
   line_refused h = gives_refusal (line_of s pl d k y room) (line_gives s pl d k y room) h
