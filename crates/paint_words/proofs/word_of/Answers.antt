@@ -1,0 +1,5 @@
+use Rattle.paint_words.proofs.Laws.{making}
+use Rattle.paint_words.proofs.word_of.Goals as goal
+
+pub returns : goal.returns
+returns c = search making
