@@ -82,6 +82,20 @@ module _ (s : List ℕ) (pl : PlaneList) (d : List ℕ) (k room : ℕ) where
       (λ a h f.
       let z = size_octets scene in
       simp (le-ltb room (band_size scene) (omega arith)) (ap Done (z ∙ sym e)))
+  gives_band (Rattle.answers.specs.declared.Answer.TheVariants.Short _) x'' = elim x'' [ ]
+  gives_band (Rattle.answers.specs.declared.Answer.TheVariants.BadMark _) x3 = elim x3 [ ]
+  gives_band (Rattle.answers.specs.declared.Answer.TheVariants.BadLength _) x4 = elim x4 [ ]
+  gives_band (Rattle.answers.specs.declared.Answer.TheVariants.BadVersion _) x5 = elim x5 [ ]
+  gives_band (Rattle.answers.specs.declared.Answer.TheVariants.BadMode _) x6 = elim x6 [ ]
+  gives_band (Rattle.answers.specs.declared.Answer.TheVariants.BadCoder _) x7 = elim x7 [ ]
+  gives_band (Rattle.answers.specs.declared.Answer.TheVariants.BadRes _) x8 = elim x8 [ ]
+  gives_band (Rattle.answers.specs.declared.Answer.TheVariants.BadWidth _) x9 = elim x9 [ ]
+  gives_band (Rattle.answers.specs.declared.Answer.TheVariants.BadType _) x10 = elim x10 [ ]
+  gives_band (Rattle.answers.specs.declared.Answer.TheVariants.BadStripe _) x11 = elim x11 [ ]
+  gives_band (Rattle.answers.specs.declared.Answer.TheVariants.BadLayer _) x12 = elim x12 [ ]
+  gives_band (Rattle.answers.specs.declared.Answer.TheVariants.Trailing _) x13 = elim x13 [ ]
+  gives_band (Rattle.answers.specs.declared.Answer.TheVariants.Mismatch _) x14 = elim x14 [ ]
+  gives_band Rattle.answers.specs.declared.Answer.TheVariants.TooLong x14 = elim x14 [ ]
 
   -- ---- each answer is given exactly when the sentences have it
 

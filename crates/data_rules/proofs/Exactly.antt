@@ -72,6 +72,21 @@ module _ (s page pencil : List ℕ) (k l : ℕ) where
       (λ a z. absurd (z h.place h.layer))
       (λ a j y p. absurd (passes_not page pencil l (nth (records s) j) p (subst (λ (x : ℕ). Fits page pencil l (nth (records s) x)) (same_place a h.place j h.layer y) h.fits)))
       (λ a j y f. ap Done (part_len l (nth (records s) j) ∙ ap (λ (x : ℕ). (nth (records s) x).len) (same_place a j h.place y h.layer) ∙ sym h.count))
+  gives_data (Rattle.answers.specs.declared.Answer.TheVariants.BadMark _) x'' = elim x'' [ ]
+  gives_data (Rattle.answers.specs.declared.Answer.TheVariants.BadLength _) x3 = elim x3 [ ]
+  gives_data (Rattle.answers.specs.declared.Answer.TheVariants.BadVersion _) x4 = elim x4 [ ]
+  gives_data (Rattle.answers.specs.declared.Answer.TheVariants.BadMode _) x5 = elim x5 [ ]
+  gives_data (Rattle.answers.specs.declared.Answer.TheVariants.BadCoder _) x6 = elim x6 [ ]
+  gives_data (Rattle.answers.specs.declared.Answer.TheVariants.BadRes _) x7 = elim x7 [ ]
+  gives_data (Rattle.answers.specs.declared.Answer.TheVariants.BadWidth _) x8 = elim x8 [ ]
+  gives_data (Rattle.answers.specs.declared.Answer.TheVariants.BadType _) x9 = elim x9 [ ]
+  gives_data (Rattle.answers.specs.declared.Answer.TheVariants.BadStripe _) x10 = elim x10 [ ]
+  gives_data (Rattle.answers.specs.declared.Answer.TheVariants.BadLayer _) x11 = elim x11 [ ]
+  gives_data (Rattle.answers.specs.declared.Answer.TheVariants.Trailing _) x12 = elim x12 [ ]
+  gives_data Rattle.answers.specs.declared.Answer.TheVariants.NoRoom x12 = elim x12 [ ]
+  gives_data (Rattle.answers.specs.declared.Answer.TheVariants.BadPlane _) x14 = elim x14 [ ]
+  gives_data (Rattle.answers.specs.declared.Answer.TheVariants.Mismatch _) x15 = elim x15 [ ]
+  gives_data Rattle.answers.specs.declared.Answer.TheVariants.TooLong x15 = elim x15 [ ]
 
   -- ---- each answer is given exactly when the sentences have it
 
@@ -94,6 +109,21 @@ module _ (s page pencil : List ℕ) (k l : ℕ) where
   gives_refusal BadLine (no_layer ok none) h = inr (inl refl)
   gives_refusal (Short i) (passing ok at past) h = let w = at.within in let c = records_count s in inr (inr (refl, omega arith))
   gives_refusal (Done n) (handed ok g) h = absurd (h n refl)
+  gives_refusal (Rattle.answers.specs.declared.Answer.TheVariants.BadMark _) x3 h = elim x3 [ ]
+  gives_refusal (Rattle.answers.specs.declared.Answer.TheVariants.BadLength _) x4 h = elim x4 [ ]
+  gives_refusal (Rattle.answers.specs.declared.Answer.TheVariants.BadVersion _) x5 h = elim x5 [ ]
+  gives_refusal (Rattle.answers.specs.declared.Answer.TheVariants.BadMode _) x6 h = elim x6 [ ]
+  gives_refusal (Rattle.answers.specs.declared.Answer.TheVariants.BadCoder _) x7 h = elim x7 [ ]
+  gives_refusal (Rattle.answers.specs.declared.Answer.TheVariants.BadRes _) x8 h = elim x8 [ ]
+  gives_refusal (Rattle.answers.specs.declared.Answer.TheVariants.BadWidth _) x9 h = elim x9 [ ]
+  gives_refusal (Rattle.answers.specs.declared.Answer.TheVariants.BadType _) x10 h = elim x10 [ ]
+  gives_refusal (Rattle.answers.specs.declared.Answer.TheVariants.BadStripe _) x11 h = elim x11 [ ]
+  gives_refusal (Rattle.answers.specs.declared.Answer.TheVariants.BadLayer _) x12 h = elim x12 [ ]
+  gives_refusal (Rattle.answers.specs.declared.Answer.TheVariants.Trailing _) x13 h = elim x13 [ ]
+  gives_refusal Rattle.answers.specs.declared.Answer.TheVariants.NoRoom x13 h = elim x13 [ ]
+  gives_refusal (Rattle.answers.specs.declared.Answer.TheVariants.BadPlane _) x15 h = elim x15 [ ]
+  gives_refusal (Rattle.answers.specs.declared.Answer.TheVariants.Mismatch _) x16 h = elim x16 [ ]
+  gives_refusal Rattle.answers.specs.declared.Answer.TheVariants.TooLong x16 h = elim x16 [ ]
 
   pub data_refused : ((n : ℕ) → data_of s page pencil k l ≡ Done n → ⊥) → DataRefusal (length s / record_size) (data_of s page pencil k l)
   data_refused h = gives_refusal (data_of s page pencil k l) (data_gives s page pencil k l) h

@@ -55,6 +55,20 @@ module _ (s s' : List ℕ) (pl pl' : PlaneList) (d d' : List ℕ) (k : ℕ) (ok 
       no_room (clears_accepted s s' clears ok).0 (line_there y h) fine' (subst (λ (n : ℕ). room < n * 4) (sym (width_same v w alike)) less)
   gives_same y room (Done n) (lined q h f e fits) =
       lined (clears_accepted s s' clears ok).0 (line_there y h) fine' (e ∙ ap (λ (m : ℕ). m * 4) (sym (width_same v w alike))) fits
+  gives_same y room (Rattle.answers.specs.declared.Answer.TheVariants.Short _) x3 = elim x3 [ ]
+  gives_same y room (Rattle.answers.specs.declared.Answer.TheVariants.BadMark _) x4 = elim x4 [ ]
+  gives_same y room (Rattle.answers.specs.declared.Answer.TheVariants.BadLength _) x5 = elim x5 [ ]
+  gives_same y room (Rattle.answers.specs.declared.Answer.TheVariants.BadVersion _) x6 = elim x6 [ ]
+  gives_same y room (Rattle.answers.specs.declared.Answer.TheVariants.BadMode _) x7 = elim x7 [ ]
+  gives_same y room (Rattle.answers.specs.declared.Answer.TheVariants.BadCoder _) x8 = elim x8 [ ]
+  gives_same y room (Rattle.answers.specs.declared.Answer.TheVariants.BadRes _) x9 = elim x9 [ ]
+  gives_same y room (Rattle.answers.specs.declared.Answer.TheVariants.BadWidth _) x10 = elim x10 [ ]
+  gives_same y room (Rattle.answers.specs.declared.Answer.TheVariants.BadType _) x11 = elim x11 [ ]
+  gives_same y room (Rattle.answers.specs.declared.Answer.TheVariants.BadStripe _) x12 = elim x12 [ ]
+  gives_same y room (Rattle.answers.specs.declared.Answer.TheVariants.BadLayer _) x13 = elim x13 [ ]
+  gives_same y room (Rattle.answers.specs.declared.Answer.TheVariants.Trailing _) x14 = elim x14 [ ]
+  gives_same y room (Rattle.answers.specs.declared.Answer.TheVariants.Mismatch _) x15 = elim x15 [ ]
+  gives_same y room Rattle.answers.specs.declared.Answer.TheVariants.TooLong x15 = elim x15 [ ]
 
   answer_same : (y room : ℕ) → line_of s' pl' d' k y room ≡ line_of s pl d k y room
   answer_same y room = (line_exactly s' pl' d' k y room (line_of s pl d k y room)).1 (gives_same y room (line_of s pl d k y room) ((line_exactly s pl d k y room (line_of s pl d k y room)).0 refl))
@@ -71,6 +85,20 @@ module _ (s s' : List ℕ) (pl pl' : PlaneList) (d d' : List ℕ) (k : ℕ) (ok 
     into_same NoRoom e (no_room q h f less) = stays NoRoom e (λ n z. clash cc)
     into_same (Done n) e (lined q h f m fits) =
         (done_line s' pl' d' k y u out n (answer_same y (length out) ∙ e)).into ∙ ap (put_at out 0) (line_alike v w alike u y) ∙ sym (done_line s pl d k y u out n e).into
+    into_same (Rattle.answers.specs.declared.Answer.TheVariants.Short _) e x4 = elim x4 [ ]
+    into_same (Rattle.answers.specs.declared.Answer.TheVariants.BadMark _) e x5 = elim x5 [ ]
+    into_same (Rattle.answers.specs.declared.Answer.TheVariants.BadLength _) e x6 = elim x6 [ ]
+    into_same (Rattle.answers.specs.declared.Answer.TheVariants.BadVersion _) e x7 = elim x7 [ ]
+    into_same (Rattle.answers.specs.declared.Answer.TheVariants.BadMode _) e x8 = elim x8 [ ]
+    into_same (Rattle.answers.specs.declared.Answer.TheVariants.BadCoder _) e x9 = elim x9 [ ]
+    into_same (Rattle.answers.specs.declared.Answer.TheVariants.BadRes _) e x10 = elim x10 [ ]
+    into_same (Rattle.answers.specs.declared.Answer.TheVariants.BadWidth _) e x11 = elim x11 [ ]
+    into_same (Rattle.answers.specs.declared.Answer.TheVariants.BadType _) e x12 = elim x12 [ ]
+    into_same (Rattle.answers.specs.declared.Answer.TheVariants.BadStripe _) e x13 = elim x13 [ ]
+    into_same (Rattle.answers.specs.declared.Answer.TheVariants.BadLayer _) e x14 = elim x14 [ ]
+    into_same (Rattle.answers.specs.declared.Answer.TheVariants.Trailing _) e x15 = elim x15 [ ]
+    into_same (Rattle.answers.specs.declared.Answer.TheVariants.Mismatch _) e x16 = elim x16 [ ]
+    into_same Rattle.answers.specs.declared.Answer.TheVariants.TooLong e x16 = elim x16 [ ]
 
     pub lines_same : (line_of s' pl' d' k y (length out) ≡ line_of s pl d k y (length out)) × (line_into s' pl' d' k y u out ≡ line_into s pl d k y u out)
     lines_same = (answer_same y (length out), into_same (line_of s pl d k y (length out)) refl ((line_exactly s pl d k y (length out) (line_of s pl d k y (length out))).0 refl))

@@ -5,63 +5,49 @@
 #![tactic(auto)]
 
 use answers::Answer;
-use libc::{STDIN_FILENO, STDOUT_FILENO};
 use sheet_rules::{DECISIVE_SIZE, RECORD_SIZE, Record};
+use std::io;
+use std::io::{Input, Read};
 
-fn main() {
+fn main(rt: HostRuntime) -> io::Result<()> {
     let mut buffer = [0u8; DECISIVE_SIZE];
-    let n = io::read_full(STDIN_FILENO, &mut buffer);
-    list(&buffer[..n]);
+    let n = read_full(&rt, &mut buffer)?;
+    list(&rt, &buffer[..n])
 }
 
-fn list(sheet: &[u8]) {
+// Reads until the buffer is full or the input ends: one read may give fewer octets.
+fn read_full(rt: &HostRuntime, buffer: &mut [u8]) -> io::Result<usize>
+    ensures { IfOk result (λ n. n ≤ length buffer.new) }
+{
+    let mut input = rt.reader();
+    let mut n: usize = 0;
+    while n < buffer.len() {
+        let more = input.read(&mut buffer[n..])?;
+        if more == 0 {
+            return Ok(n);
+        }
+        n += more;
+    }
+    Ok(n)
+}
+
+fn list(rt: &HostRuntime, sheet: &[u8]) -> io::Result<()> {
     let judged: Answer = sheet_judge::sheet_answer(sheet);
     let answer = answers_report::reported(judged);
     if answer.number == 0 {
-        list_records(sheet);
+        list_records(rt, sheet)
     } else {
-        io::write_all(STDOUT_FILENO, b"refused ");
-        put_number(answer.number, b" ");
-        put_number(answer.place, b"\n");
+        println!(rt; "refused {answer.number} {answer.place}")
     }
 }
 
-fn list_records(sheet: &[u8]) {
-    let n = sheet.len() / RECORD_SIZE;
-    let mut i: usize = 0;
-    while i < n {
-        if put_line(sheet_record::record_at(sheet, i)) {
-            i += 1;
-        } else {
-            return;
-        }
+fn list_records(rt: &HostRuntime, sheet: &[u8]) -> io::Result<()> {
+    for i in 0..sheet.len() / RECORD_SIZE {
+        put_line(rt, sheet_record::record_at(sheet, i))?;
     }
+    Ok(())
 }
 
-// Answers whether the line could be written: nobody is told of a reader that went away, and the listing stops.
-fn put_line(r: Record) -> bool {
-    put_field(r.stripe as u32);
-    put_field(r.layer as u32);
-    put_field(r.coder as u32);
-    put_field(r.x as u32);
-    put_field(r.y as u32);
-    put_field(r.width as u32);
-    put_field(r.height as u32);
-    put_field(r.res as u32);
-    put_field(r.base0 as u32);
-    put_field(r.base1 as u32);
-    put_field(r.base2 as u32);
-    put_field(r.start);
-    put_field(r.len);
-    put_number(r.octet17 as u32, b"\n")
-}
-
-// A number and a blank.
-fn put_field(n: u32) {
-    put_number(n, b" ");
-}
-
-fn put_number(n: u32, behind: &[u8]) -> bool {
-    io::print_decimal(STDOUT_FILENO, n as u64);
-    io::write_all(STDOUT_FILENO, behind)
+fn put_line(rt: &HostRuntime, r: Record) -> io::Result<()> {
+    println!(rt; "{r.stripe} {r.layer} {r.coder} {r.x} {r.y} {r.width} {r.height} {r.res} {r.base0} {r.base1} {r.base2} {r.start} {r.len} {r.octet17}")
 }

@@ -319,7 +319,7 @@ to_bad s x (bad_later f r hd st (bad_later m t rs a b)) = at_end_of b
     bodied : BodyOf hd (length f) m rs
     bodied = to_body hd (length f) m rs (subst (λ (j : ℕ). Behind hd j m rs) z a)
 
-    trails : {u : List ℕ} {x : Answer} {e : ℕ} → e ≡ length f + length m + 2 → NoZeros e u x → BadPage (f ++ (m ++ (end_mark ++ u))) x
+    trails : {u : List ℕ} {e : ℕ} {x : Answer} → e ≡ length f + length m + 2 → NoZeros e u x → BadPage (f ++ (m ++ (end_mark ++ u))) x
     trails e (no_zero n y rest d) =
         subst (BadPage (f ++ (m ++ (end_mark ++ (replicate n 0 ++ (y ∷ rest)))))) (ap (λ (j : ℕ). Trailing (j + n)) (sym e)) (trailing f m rest hd rs n y st bodied d)
 

@@ -61,3 +61,15 @@ gives_write s d o room TooLong (too_long k long) = sound_size s d o room k ∙ s
 gives_write s d o room NoRoom (no_room k short less) = sound_size s d o room k ∙ simp (le-ltb longest_page (size_of One (records s)) short, lt-ltb room (size_of One (records s)) less)
 gives_write s d o room (Done n) (written k e short fits) =
     sound_size s d o room k ∙ ap (size_answer room) (sym e) ∙ simp (le-ltb longest_page n short, le-ltb room n fits)
+gives_write s d o room (Rattle.answers.specs.declared.Answer.TheVariants.BadMark _) x'' = elim x'' [ ]
+gives_write s d o room (Rattle.answers.specs.declared.Answer.TheVariants.BadLength _) x3 = elim x3 [ ]
+gives_write s d o room (Rattle.answers.specs.declared.Answer.TheVariants.BadVersion _) x4 = elim x4 [ ]
+gives_write s d o room (Rattle.answers.specs.declared.Answer.TheVariants.BadCoder _) x5 = elim x5 [ ]
+gives_write s d o room (Rattle.answers.specs.declared.Answer.TheVariants.BadRes _) x6 = elim x6 [ ]
+gives_write s d o room (Rattle.answers.specs.declared.Answer.TheVariants.BadWidth _) x7 = elim x7 [ ]
+gives_write s d o room (Rattle.answers.specs.declared.Answer.TheVariants.BadType _) x8 = elim x8 [ ]
+gives_write s d o room (Rattle.answers.specs.declared.Answer.TheVariants.BadStripe _) x9 = elim x9 [ ]
+gives_write s d o room (Rattle.answers.specs.declared.Answer.TheVariants.BadLayer _) x10 = elim x10 [ ]
+gives_write s d o room (Rattle.answers.specs.declared.Answer.TheVariants.Trailing _) x11 = elim x11 [ ]
+gives_write s d o room (Rattle.answers.specs.declared.Answer.TheVariants.BadPlane _) x12 = elim x12 [ ]
+gives_write s d o room Rattle.answers.specs.declared.Answer.TheVariants.BadLine x12 = elim x12 [ ]

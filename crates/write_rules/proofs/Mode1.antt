@@ -240,6 +240,10 @@ module _ (d : List ℕ) (hd : Head) (rs : List Record) (y : Ready d hd rs) (k le
             trim d hd k left at a b c t (y.sized a ma) (y.sized b mb) (y.sized c mc) (y.long a ma) (y.long b mb) (y.long c mc) ya yc (λ e. y.mask b mb e l.1)
             (λ e. y.image a ma e na) (λ e. y.image c mc e nc);
       }
+  stripe_lands1 [] f x'' = elim x'' [ ]
+  stripe_lands1 (a ∷ []) f x6 = elim x6 [ ]
+  stripe_lands1 (a ∷ (b ∷ [])) f x10 = elim x10 [ ]
+  stripe_lands1 (a ∷ (b ∷ (c ∷ (_ ∷ _)))) f x16 = elim x16 [ ]
 
 -- ---- the records are those lent, but for the starts of the coded ones
 
@@ -250,6 +254,10 @@ stripe_same1 d hd k left at (a ∷ b ∷ c ∷ []) (three t) =
     cons_same (bare_placed a (at + stripe_body + length (layer_octets d b)) k.0)
     (cons_same (bare_placed b (at + stripe_body) k.1)
     (cons_same (bare_placed c (at + stripe_body + length (layer_octets d b) + length (layer_octets d a)) k.2) refl))
+stripe_same1 d hd k left at [] x' = elim x' [ ]
+stripe_same1 d hd k left at (a ∷ []) x4 = elim x4 [ ]
+stripe_same1 d hd k left at (a ∷ (b ∷ [])) x7 = elim x7 [ ]
+stripe_same1 d hd k left at (a ∷ (b ∷ (c ∷ (_ ∷ _)))) x12 = elim x12 [ ]
 
 -- ---- and their data is the data of those lent
 
@@ -280,6 +288,10 @@ stripe_data1 d hd k left at (a ∷ b ∷ c ∷ []) (three t) n s more e =
     (cons_same
     (data_placed d s more c (at + stripe_body + length (layer_octets d b) + length (layer_octets d a)) (n c (Memᴰ.tail (Memᴰ.tail (Memᴰ.head refl)))) (at_fore d s more a b c at e))
     refl))
+stripe_data1 d hd k left at [] x3 n s more e = elim x3 [ ]
+stripe_data1 d hd k left at (a ∷ []) x8 n s more e = elim x8 [ ]
+stripe_data1 d hd k left at (a ∷ (b ∷ [])) x13 n s more e = elim x13 [ ]
+stripe_data1 d hd k left at (a ∷ (b ∷ (c ∷ (_ ∷ _)))) x20 n s more e = elim x20 [ ]
 
 -- ---- its octets are as many as were counted
 
@@ -318,3 +330,7 @@ stripe_length1 d hd k left (a ∷ b ∷ c ∷ []) (three t) n =
     let nc = n c (Memᴰ.tail (Memᴰ.tail (Memᴰ.head refl))) in
     let y = length_stripe d a b c in
     omega arith
+stripe_length1 d hd k left [] x'' n = elim x'' [ ]
+stripe_length1 d hd k left (a ∷ []) x6 n = elim x6 [ ]
+stripe_length1 d hd k left (a ∷ (b ∷ [])) x10 n = elim x10 [ ]
+stripe_length1 d hd k left (a ∷ (b ∷ (c ∷ (_ ∷ _)))) x16 n = elim x16 [ ]

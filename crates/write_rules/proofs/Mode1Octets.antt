@@ -61,3 +61,7 @@ stripe_octets1 d hd k left (a ∷ b ∷ c ∷ []) (three t) low o z =
     (octets_append (fields_of (fields_by a b c)) (layer_octets d b ++ (layer_octets d a ++ layer_octets d c)) (head_octets hd k left a b c t za zb zc low)
     (octets_append (layer_octets d b) (layer_octets d a ++ layer_octets d c) (data_octets d o b)
     (octets_append (layer_octets d a) (layer_octets d c) (data_octets d o a) (data_octets d o c))))
+stripe_octets1 d hd k left [] x4 low o z = elim x4 [ ]
+stripe_octets1 d hd k left (a ∷ []) x10 low o z = elim x10 [ ]
+stripe_octets1 d hd k left (a ∷ (b ∷ [])) x16 low o z = elim x16 [ ]
+stripe_octets1 d hd k left (a ∷ (b ∷ (c ∷ (_ ∷ _)))) x24 low o z = elim x24 [ ]

@@ -30,6 +30,10 @@ front hd k left (a ∷ b ∷ c ∷ []) rest (three t) h =
     let ec = head_other c (λ z. omega arith) in
     let z : length (a ∷ b ∷ c ∷ rest) - 1 ≡ suc (suc (suc (length rest - 1))) = omega arith in
     (omega arith, ap (λ (j : ℕ). (nth (a ∷ b ∷ c ∷ rest) j).stripe + 1) z)
+front hd k left [] rest x'' h = elim x'' [ ]
+front hd k left (a ∷ []) rest x6 h = elim x6 [ ]
+front hd k left (a ∷ (b ∷ [])) rest x10 h = elim x10 [ ]
+front hd k left (a ∷ (b ∷ (c ∷ (_ ∷ _)))) rest x16 h = elim x16 [ ]
 
 last : (hd : Head) (k left : ℕ) (q : List Record) → IsThree hd k left q → (sum_of head1 (q ++ []) ≡ 39) × (stripe_count (q ++ []) ≡ k + 1)
 unfolding sum_of
@@ -39,9 +43,17 @@ last hd k left (a ∷ b ∷ c ∷ []) (three t) =
     let eb = head_other b (λ z. omega arith) in
     let ec = head_other c (λ z. omega arith) in
     (omega arith, ap (λ (n : ℕ). n + 1) t.stripes.2)
+last hd k left [] x' = elim x' [ ]
+last hd k left (a ∷ []) x4 = elim x4 [ ]
+last hd k left (a ∷ (b ∷ [])) x7 = elim x7 [ ]
+last hd k left (a ∷ (b ∷ (c ∷ (_ ∷ _)))) x12 = elim x12 [ ]
 
 some : (hd : Head) (k left : ℕ) (q rest : List Record) → IsThree hd k left q → 0 < length (q ++ rest)
 some hd k left (a ∷ b ∷ c ∷ []) rest (three t) = omega arith
+some hd k left [] rest x' = elim x' [ ]
+some hd k left (a ∷ []) rest x4 = elim x4 [ ]
+some hd k left (a ∷ (b ∷ [])) rest x7 = elim x7 [ ]
+some hd k left (a ∷ (b ∷ (c ∷ (_ ∷ _)))) rest x12 = elim x12 [ ]
 
 heads_sum : (hd : Head) (rs : List Record) → Under One hd rs → {k left : ℕ} {qs : List (List Record)} → Lots rs k left qs → 0 < length qs
     → sum_of head1 (together qs) + k * 39 ≡ stripe_count (together qs) * 39

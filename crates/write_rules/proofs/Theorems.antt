@@ -55,6 +55,18 @@ gives_refusal s d room (Mismatch i) (differing a low k) h = let w = k.within in 
 gives_refusal s d room TooLong (too_long k long) h = record { kind = inr (inr (inr (inr (inl refl)))); place = omega arith }
 gives_refusal s d room NoRoom (no_room k short less) h = record { kind = inr (inr (inr (inr (inr refl)))); place = omega arith }
 gives_refusal s d room (Done n) (written k e short fits) h = absurd (h n refl)
+gives_refusal s d room (Rattle.answers.specs.declared.Answer.TheVariants.BadMark _) x3 h = elim x3 [ ]
+gives_refusal s d room (Rattle.answers.specs.declared.Answer.TheVariants.BadLength _) x4 h = elim x4 [ ]
+gives_refusal s d room (Rattle.answers.specs.declared.Answer.TheVariants.BadVersion _) x5 h = elim x5 [ ]
+gives_refusal s d room (Rattle.answers.specs.declared.Answer.TheVariants.BadCoder _) x6 h = elim x6 [ ]
+gives_refusal s d room (Rattle.answers.specs.declared.Answer.TheVariants.BadRes _) x7 h = elim x7 [ ]
+gives_refusal s d room (Rattle.answers.specs.declared.Answer.TheVariants.BadWidth _) x8 h = elim x8 [ ]
+gives_refusal s d room (Rattle.answers.specs.declared.Answer.TheVariants.BadType _) x9 h = elim x9 [ ]
+gives_refusal s d room (Rattle.answers.specs.declared.Answer.TheVariants.BadStripe _) x10 h = elim x10 [ ]
+gives_refusal s d room (Rattle.answers.specs.declared.Answer.TheVariants.BadLayer _) x11 h = elim x11 [ ]
+gives_refusal s d room (Rattle.answers.specs.declared.Answer.TheVariants.Trailing _) x12 h = elim x12 [ ]
+gives_refusal s d room (Rattle.answers.specs.declared.Answer.TheVariants.BadPlane _) x13 h = elim x13 [ ]
+gives_refusal s d room Rattle.answers.specs.declared.Answer.TheVariants.BadLine x13 h = elim x13 [ ]
 
 pub write_refused : (s d : List ℕ) → Octets d → (room : ℕ) → ((n : ℕ) → write_of s d room ≡ Done n → ⊥) → WriteRefusal (length (records s)) (write_of s d room)
 write_refused s d o room = gives_refusal s d room (write_of s d room) (write_gives s d o room)

@@ -1,0 +1,17 @@
+use Rattle.jpeg_marks.proofs.Laws.{frame_laws}
+use Rattle.jpeg_marks.proofs.frame_step.Goals as goal
+
+pub returns-then-st : goal.returns-then-st
+returns-then-st c = search frame_laws
+
+pub returns-then-st-eq0 : goal.returns-then-st-eq0
+returns-then-st-eq0 c = search frame_laws
+
+pub frame_body-requires : goal.frame_body-requires
+frame_body-requires c = search frame_laws
+
+pub returns-in-Refused : goal.returns-in-Refused
+returns-in-Refused c = search frame_laws
+
+pub returns-in-Body : goal.returns-in-Body
+returns-in-Body c = search frame_laws

@@ -1,0 +1,6 @@
+use Rattle.sheet_rules.specs.Judge.{after2}
+use Rattle.sheet_judge.proofs.after_second.Goals as goal
+
+pub returns : goal.returns
+unfolding after2
+returns c = simp (c.less.ensures, c.is_coded.ensures)

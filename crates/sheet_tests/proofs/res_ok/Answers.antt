@@ -1,0 +1,11 @@
+use Rattle.sheet_tests.proofs.Laws.{testing}
+use Rattle.sheet_tests.proofs.res_ok.Goals as goal
+
+pub returns-then-res-main : goal.returns-then-res-main
+returns-then-res-main c = search testing
+
+pub returns-then-is_coded : goal.returns-then-is_coded
+returns-then-is_coded c = search testing
+
+pub returns : goal.returns
+returns c = search testing
