@@ -66,13 +66,13 @@ bench:
 	@bash bench/run
 
 clean:
-	rm -rf build target
+	rm -rf build crates/*/out
 
-build/libspirerook.a: $(shell find crates -name '*.rt' -o -name '*.antt' 2>/dev/null) crates.txt
+build/libspirerook.a: $(shell find crates -name out -prune -o \( -name '*.rt' -o -name '*.antt' \) -print 2>/dev/null) crates.txt
 	@command -v rt >/dev/null 2>&1 || { echo "no command 'rt': the library is proved and built by the Rattle toolchain" >&2; exit 1; }
 	@mkdir -p build
 	bash tools/archive spirerook
-	cp target/staticlib/libspirerook.a $@
+	cp crates/spirerook/out/libspirerook.a $@
 
 # nothing may be left undefined but what the C library has, and no text is relocated
 build/libspirerook.so: build/libspirerook.a

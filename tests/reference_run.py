@@ -76,7 +76,7 @@ def build_archive(name, sources=SOURCES, flags=("-O2",)):
 
 def library_is_listed():
     with open(os.path.join(ROOT, "crates.txt"), encoding="utf-8") as lines:
-        return any(re.match(r"\s*spirerook\s*:", line) for line in lines)
+        return any(re.match(r"\s*spirerook(\s[^:#]*)?:", line) for line in lines)
 
 
 def archive():

@@ -15,13 +15,13 @@ file() { mkdir -p "$(dirname "$1")" && cat >"$1"; }
 fresh() {
   rm -rf "$room/repo" && mkdir -p "$room/repo/tests" "$room/repo/stub" && cd "$room/repo" || exit 1
   cp -r "$here/.ci" "$here/Makefile" . && cp "$here"/tests/{run,tally,need,spent.py} tests/
-  mkdir tools && cp "$here/tools/leftovers" tools/ && echo 'exec rt staticlib "$1"' >tools/archive # rt is a stub, its kit none
+  mkdir tools && cp "$here/tools/leftovers" tools/ && cp "$here/tools/archive" tools/
   echo 'one:' >crates.txt
-  printf '%s\n' 'rt: one proved (7 s)' 'rt: must-fail one/a: refused, as it must be (first at src/lib.rt:1:1; 5 s)' \
-    "rt: two ran as nobody, and wrote what its file 'stdout' has (3 s)" '4 passed, 0 failed' >stub/ci
-  echo 0 >stub/ci.status; echo 0 >stub/fmt.status
+  printf '%s\n' 'rt: one proved' 'rt: must-fail one/a.edit: refused, as it must be: ./proofs/x.antt:1:1: error: `f`: the two types differ only where one has `1`' \
+    'rt: two ran, and wrote what its file stdout has' \
+    'rt: ok; handles allowed: none; must-fail edits: 1 refused; every proof and must-fail edit was done in this run' '4 passed, 0 failed' >stub/ci
+  echo 0 >stub/ci.status
   echo 'file: src/lib.rt' | file crates/one/must-fail/a.edit
-  file target/must-fail/one/a/.log <<<'x.antt:1:1: error: `f`: the two types differ only where one has `1` and the other `2`'
   echo 'print("2 passed, 0 failed")' >tests/test_p.py
   echo 'echo "1 passed, 0 failed"' >tests/test_s.sh
   printf '#include <stdio.h>\nint main(void) { puts("3 passed, 0 failed"); return 0; }\n' >tests/test_c.c
@@ -29,9 +29,8 @@ fresh() {
 file "$room/bin/rt" <<'STUB'
 #!/bin/sh
 case $1 in
-fmt) echo "badly laid out" >&2; exit "$(cat stub/fmt.status)" ;;
-ci) [ ! -f stub/prove ] || . stub/prove; cat stub/ci; exit "$(cat stub/ci.status)" ;;
-staticlib) mkdir -p target/staticlib; cp stub/archive target/staticlib/libspirerook.a ;;
+ci) echo "$*:$(ls -A | tr '\n' ' ')" >../ci.found; [ ! -f stub/prove ] || . stub/prove; cat stub/ci; exit "$(cat stub/ci.status)" ;;
+lib) mkdir -p out; cp ../../stub/archive out/libspirerook.a ;;
 esac
 STUB
 # each gate starts three programs in Python: without what a site adds they start twice as fast
@@ -48,10 +47,18 @@ gate() { # NAME STATUS LAST
 said() { check "not said: $1" grep -qF -- "$1" out; }
 
 fresh; gate green 0 '10 passed, 0 failed'
-check "times of rt, slowest first" [ "$(grep -A 3 '^the slowest' out | tail -n 3 | tr -s ' ' | tr '\n' ';')" = ' 7 proof of one; 5 must-fail one/a; 3 run of two;' ]
 check "total time" grep -q '^total time: [0-9]* s$' out
-fresh; for i in 1 2 3 4 5 6 7 8 9; do echo "rt: many_$i proved (1$i s)"; done >>stub/ci; echo '4 passed, 0 failed' >>stub/ci; gate many 0 '10 passed, 0 failed'
-check "the ten slowest" [ "$(sed '1,/^the slowest/d; /^total/,$d' out | awk '{print $1}' | tr '\n' ' ')" = '19 18 17 16 15 14 13 12 11 7 ' ]
+check "a time of rt ci" grep -q '^ *[0-9.]*  rt ci$' out
+# rt ci is run with no names, and finds what was there and nothing else; what stood in build/ is not trusted after it
+fresh; echo old | file build/tests/old; echo kept | file crates/one/out/kept; before=$(ls -A | tr '\n' ' '); gate 'a checkout that was used' 0 '10 passed, 0 failed'
+check "rt ci as it stands" [ "$(sed 's/\(err\|out\) //g' ../ci.found)" = "ci:$before" ]
+check "what rt left is left to it" [ -f crates/one/out/kept ]; check "what stood in build/ is gone" [ ! -e build/tests/old ]
+# what the processor's seconds were, by a program that tells made-up ones
+seconds() { printf 'import sys\nif sys.argv[1] == "steps":\n    print("%s")\n' "$1" >tests/spent.py; } # LINES
+fresh; seconds '3003\tproof of two\n3007\tproof of one\n3005\tmust-fail one/a'; gate 'times' 0 '10 passed, 0 failed'
+check "times of rt, slowest first" [ "$(grep -A 3 '^the slowest' out | tail -n 3 | tr -s ' ' | tr '\n' ';')" = ' 3007 proof of one; 3005 must-fail one/a; 3003 proof of two;' ]
+fresh; seconds "$(for i in 1 2 3 4 5 6 7 8 9; do printf '301%s\\tproof of many_%s\\n' $i $i; done)3007\\tproof of one"; gate many 0 '10 passed, 0 failed'
+check "the ten slowest" [ "$(sed '1,/^the slowest/d; /^total/,$d' out | awk '{print $1}' | tr '\n' ' ')" = '3019 3018 3017 3016 3015 3014 3013 3012 3011 3007 ' ]
 fresh; printf 'print("2 passed, 1 failed")\nraise SystemExit(1)\n' >tests/test_p.py; gate 'failing test' 1 '10 passed, 1 failed'; said 'FAILED tests/test_p.py: 1 failed'
 fresh; echo 'echo "1 passed, 2 failed"' >tests/test_s.sh; gate 'failures and status 0' 1 '10 passed, 3 failed'
 fresh; printf 'echo "1 passed, 0 failed"\nexit 3\n' >tests/test_s.sh; gate 'status 3 and no failure' 1 '10 passed, 1 failed'
@@ -63,22 +70,36 @@ fresh; printf 'printf "1 passed, 0 failed"\necho late >&2\n' >tests/test_s.sh; g
 fresh; sed -i 's/{ puts/{ int unused; puts/' tests/test_c.c; gate 'a warning of cc' 1 '7 passed, 1 failed'
 fresh; rm tests/test_*; gate 'no host test' 0 '4 passed, 0 failed'
 fresh; echo '3 passed, 1 failed' >>stub/ci; echo 1 >stub/ci.status; gate 'an unproved crate' 1 '3 passed, 1 failed'; said 'host tests are not run'
-fresh; echo '3 passed, 1 failed' >>stub/ci; echo 1 >stub/ci.status; rm target/must-fail/one/a/.log; gate 'an edit not tried since its crate is unproved' 1 '3 passed, 1 failed'
+fresh; echo '3 passed, 1 failed' >>stub/ci; echo 1 >stub/ci.status; sed -i '/must-fail/d' stub/ci; gate 'an edit not tried since its crate is unproved' 1 '3 passed, 1 failed'
 fresh; for t in view demo view_limits; do echo 'print("9 passed, 0 failed")' >tests/test_$t.py; done; gate 'tests that take long' 0 '37 passed, 0 failed'
 check "they come first, each once" [ "$(grep '^the step' out | cut -d: -f1 | tr '\n' ';')" = 'the step rt ci;the step tests/test_view_limits.py;the step tests/test_demo.py;the step tests/test_view.py;the step tests/test_p.py;the step tests/test_s.sh;the step tests/test_c.c;' ]
 fresh; echo 'print("cases of all tests")' >tests/counts.py; gate 'the sum of cases' 0 '10 passed, 0 failed'; said 'cases of all tests'
 fresh; echo 'print(1 / 0)' >tests/counts.py; gate 'no sum of cases' 0 '10 passed, 0 failed'
 fresh; echo 1 >stub/ci.status; gate 'rt ends badly' 1 '4 passed, 1 failed'
 fresh; echo 'rt: broken' >stub/ci; echo 2 >stub/ci.status; gate 'rt without tally' 1 '0 passed, 1 failed'
-fresh; echo 1 >stub/fmt.status; gate 'bad layout' 1 '10 passed, 1 failed'; said 'FAILED rt fmt --check: badly laid out'
-fresh; printf 'note\nx.antt:1:1: error: the module has no `Need-returns-3`\n' >target/must-fail/one/a/.log; gate 'an edit that unfits its proof' 1 '10 passed, 1 failed'; said 'one/a is refused only because'
-fresh; printf 'x.antt:1:1: error: `f-spec`: expected type `tie.Need-returns`, but this has type `tie.Need-add`\n' >target/must-fail/one/a/.log; gate 'an edit that asks one need more' 1 '10 passed, 1 failed'; said 'one/a is refused only because'
-fresh; printf 'x.antt:1:1: error: `f`: `*` is not in scope\n' >target/must-fail/one/a/.log; gate 'an edit with a name that is not known' 1 '10 passed, 1 failed'; said 'one/a is refused only because'
-fresh; printf 'y.antt:1:1: error: has no `Need-b`\n' >>target/must-fail/one/a/.log; gate 'the same as a second error' 0 '10 passed, 0 failed'
-fresh; printf 'x.antt:1:1: error: `f`: `search` stopped 5 lemmas deep, with lemmas still to try\n' >target/must-fail/one/a/.log; gate 'an edit whose log has no plain fact' 1 '10 passed, 1 failed'; said 'one/a is refused, and its log has no plain fact'
-fresh; printf 'x.antt:1:1: error: `f`: `omega`: All of that holds, and the goal fails, at `n` = 3\n' >target/must-fail/one/a/.log; gate 'an edit that fails at a number' 0 '10 passed, 0 failed'
-fresh; rm target/must-fail/one/a/.log; gate 'an edit that was not tried' 1 '10 passed, 1 failed'
-fresh; echo 'spirerook :' >>crates.txt; echo 'int three(void); int three(void) { return 3; }' | cc -c -x c -o o.o - && ar rc stub/archive o.o
+# rt ci tells of a crate that is not laid out, and counts it as not proved
+fresh; printf '%s\n' 'rt: run rt fmt in the crate folder' 'rt: one NOT PROVED' 'rt: FAILED: one' '3 passed, 1 failed' >stub/ci; echo 1 >stub/ci.status
+gate 'bad layout' 1 '3 passed, 1 failed'; said 'FAILED rt ci: 1 failed'; said 'rt: run rt fmt'
+edit() { sed -i "s|^rt: must-fail one/a.*|rt: must-fail one/a.edit: ${1//&/\\&}|" stub/ci; } # WHAT RT TELLS OF IT
+fresh; edit 'refused, as it must be (only because a proof file names what the edit took away, so this says little of the contract: change a value and keep the names): ./proofs/x.antt:1:1: error: the module has no `returns-3`'
+gate 'an edit that unfits its proof' 1 '10 passed, 1 failed'; said 'one/a is refused only because'
+fresh; edit 'refused, as it must be: ./proofs/x.antt:1:1: error: the record `Goals` has no field `returns-add`'; gate 'an edit that asks one goal more' 1 '10 passed, 1 failed'; said 'one/a is refused only because'
+fresh; edit 'refused, as it must be: ./proofs/x.antt:1:1: error: `f`: `*` is not in scope'; gate 'an edit with a name that is not known' 1 '10 passed, 1 failed'; said 'one/a is refused only because'
+fresh; sed -i '/must-fail one/a note: ./proofs/y.antt:1:1: error: has no `b`' stub/ci; gate 'the same as a second error' 0 '10 passed, 0 failed'
+fresh; edit 'refused, as it must be: ./proofs/x.antt:1:1: error: `f`: `search` stopped 5 lemmas deep, with lemmas still to try'; gate 'an edit with no plain fact' 1 '10 passed, 1 failed'; said 'one/a is refused, and rt tells no plain fact'
+fresh; edit 'refused, as it must be (only by a limit of the prover, which gave no verdict, so this says less of the contract: choose a change that it refuses sooner): x: error'; gate 'an edit at a limit' 1 '10 passed, 1 failed'; said 'one/a is refused, and rt tells no plain fact'
+fresh; edit 'refused, as it must be'; gate 'an edit of which no goal is told' 1 '10 passed, 1 failed'; said 'one/a is refused, and rt tells no plain fact'
+fresh; edit 'refused, as it must be: ./proofs/x.antt:1:1: error: `f`: `omega`: All of that holds, and the goal fails, at `n` = 3'; gate 'an edit that fails at a number' 0 '10 passed, 0 failed'
+fresh; edit 'refused, as it must be: ./proofs/f/Answers.antt:14:27: error: `returns`: `search`: no proof of `a ◌≡◌ b`'; gate 'an edit at which a goal has no proof' 0 '10 passed, 0 failed'
+fresh; edit 'refused, as it must be: src/lib.rt:3:1: error: `f`: not proved: the goal is still open'; gate 'an edit that leaves a goal open' 0 '10 passed, 0 failed'
+fresh; sed -i '/must-fail one/d' stub/ci; gate 'an edit that was not tried' 1 '10 passed, 1 failed'; said 'one/a was not tried'
+bad_edits() { sed -i "s/must-fail edits: 1 refused/must-fail edits: 1 refused, $1/" stub/ci; } # WHAT RT COUNTS
+fresh; bad_edits '1 bad'; gate 'a bad edit that rt counts' 1 '10 passed, 1 failed'; said 'FAILED must-fail edits: rt ci passed with 1 bad must-fail edits'
+fresh; bad_edits '1 of them only by a limit, 12 bad'; gate 'bad edits behind other words' 1 '10 passed, 1 failed'; said 'rt ci passed with 12 bad must-fail edits'
+fresh; edit "BAD EDIT: an 'old:' text is in src/lib.rt 0 times, and not once"; gate 'a bad edit that rt tells' 1 '10 passed, 1 failed'; said 'one/a shows nothing: BAD EDIT'
+fresh; edit 'NOT REFUSED: the crate is still proved with this edit'; sed -i '/^rt: ok/d' stub/ci; echo '3 passed, 1 failed' >>stub/ci; echo 1 >stub/ci.status; gate 'an edit that is not refused' 1 '3 passed, 1 failed'
+fresh; echo 'rt: note: 0 bad' >>stub/ci; echo '4 passed, 0 failed' >>stub/ci; gate 'other words of bad ones' 0 '10 passed, 0 failed'
+fresh; mkdir -p crates/spirerook && echo 'spirerook  staticlib :' >>crates.txt; echo 'int three(void); int three(void) { return 3; }' | cc -c -x c -o o.o - && ar rc stub/archive o.o
 printf '#include <stdio.h>\nint three(void);\nint main(void) { printf("%%d passed, 0 failed\\n", three()); return 0; }\n' >tests/test_c.c; gate 'the archive' 0 '10 passed, 0 failed'
 rm stub/archive; gate 'no archive' 1 '7 passed, 2 failed'; said 'FAILED archive:'
 
@@ -86,15 +107,22 @@ rm stub/archive; gate 'no archive' 1 '7 passed, 2 failed'; said 'FAILED archive:
 said_row() { check "no row $*" grep -qxE "$(IFS=' '; echo "$*" | sed 's/ / +/g')" out; } # CELL ..
 fresh; mkdir -p "$room/opt/bin" && cp "$(command -v bash)" "$room/opt/bin/rattle"
 prover() { echo "\"$room/opt/bin/rattle\" -c 'end=\$((SECONDS + 2)); while [ \$SECONDS -lt \$end ]; do :; done' build --crate-name one \"$1\" &"; } # SOURCE
-{ prover "$room/repo/crates/one/src/lib.rt"; prover target/must-fail/one/a/src/lib.rt; prover "$room/other/crates/else/src/lib.rt"; echo wait; } >stub/prove
+echo 'pub fn f() {}' | file crates/one/src/lib.rt; printf 'file: src/lib.rt\nold: fn f\nnew: fn g\n' >crates/one/must-fail/a.edit
+# an edit is proved in a folder of its own, which has rt's number in its name; here once as it is, and once the crate as it stands
+for k in a b; do mkdir -p "$room/edits/$k/src"; cp crates/one/src/lib.rt "$room/edits/$k/src/"; done; sed -i 's/fn f/fn g/' "$room/edits/a/src/lib.rt"
+{ prover "$room/repo/crates/one/src/lib.rt"; prover "$room/other/crates/else/src/lib.rt"
+  for k in a b; do echo "cp -r '$room/edits/$k' '$room/rt-edit-'\$\$-$k; (cd '$room/rt-edit-'\$\$-$k; $(prover src/lib.rt) wait) &"; done; echo wait; } >stub/prove
 gate 'processes of the prover' 0 '10 passed, 0 failed'
 said_row one '[0-9.]*[1-9][0-9.]*' 1 '[0-9.]*[1-9][0-9.]*'; said_row all of 1 '[0-9.]+' 1 '[0-9.]+'
 check "a process of another folder has no row" eval '! grep -q "^else " out'
+check "the crate, its edit, and the crate as it stands below it" [ "$(python3 tests/spent.py steps build/spent.json | grep -v '^0.0' | cut -f 2 | sort | tr '\n' ';')" = 'must-fail one/(as it stands);must-fail one/a;proof of one;' ]
 fresh; gate 'no process of the prover' 0 '10 passed, 0 failed'; said "no table of the processor's seconds: "
 fresh; echo 'raise SystemExit(5)' >tests/spent.py; gate 'a table that fails' 0 '10 passed, 0 failed'; said "no table of the processor's seconds"
 fresh; echo '[["one", "", 45.5], ["one", "a", 12.5], ["two", "", 60], ["three", "", 45], ["three", "b", 12]]' >spent.json
 python3 tests/spent.py table spent.json >out 2>&1
 check "the dearest first" [ "$(awk '{print $1}' out | tr '\n' ' ')" = 'seconds crate two one three all ' ]
+check "steps of it" [ "$(python3 tests/spent.py steps spent.json | tr '\t\n' ' ;')" = '45.5 proof of one;12.5 must-fail one/a;60.0 proof of two;45.0 proof of three;12.0 must-fail three/b;' ]
+check "no file, no steps" [ -z "$(python3 tests/spent.py steps nowhere.json)" ]
 said_row two 60.0 0 0.0 '! its check is over 45 s'; said_row one 45.5 1 12.5 '! its check is over 45 s' '! edit a: 12.5 s'
 said_row three 45.0 1 12.0; said_row all of 3 150.5 2 24.5
 python3 tests/spent.py table nowhere.json >out 2>&1

@@ -1,7 +1,7 @@
 """Compares the listing program with the reference, octet for octet of output.
 
-The program is target/bin/listing, which tools/listing runs on any processor,
-or what the environment variable LISTING names; SEED makes a run again.
+The program is crates/listing/out/listing, which tools/listing runs, or what
+the environment variable LISTING names; SEED makes a run again.
 """
 
 import collections
@@ -131,7 +131,7 @@ def check_random(tally, pair, rng):
 def main():
     seed = int(os.environ.get("SEED") or random.randrange(2 ** 32))
     print("SEED=%d" % seed)
-    built = os.path.join(reference_run.ROOT, "target", "bin", "listing")
+    built = os.path.join(reference_run.ROOT, "crates", "listing", "out", "listing")
     listing = os.environ.get("LISTING") or os.path.join(reference_run.ROOT, "tools", "listing")
     tally = reference_run.Tally()
     tally.check("LISTING" in os.environ or os.access(built, os.X_OK), "no program %s" % built)
