@@ -1,0 +1,5 @@
+use Rattle.read_head.proofs.Stripe.{stripe_laws}
+use Rattle.read_head.proofs.fields_at.Goals as goal
+
+pub returns : goal.returns
+returns c = search stripe_laws
