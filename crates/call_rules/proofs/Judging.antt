@@ -32,6 +32,23 @@ module _ (sheet : List ℕ) (r : Report) (c : JudgeCall sheet r) where
       is : (a : Answer) → Judges sheet a → a ≡ Done n → Accepted sheet × (n ≡ length (records sheet))
       is (Done m) (good k e) q = let z : m ≡ n = cc in (k, sym z ∙ e)
       is (BadSheet i) (no_sheet f) q = absurd (let z : ◌≡◌ {A = ℕ} 0 1 = cc in omega arith)
+      is (Rattle.answers.specs.declared.Answer.TheVariants.Short _) x3 q = elim x3 [ ]
+      is (Rattle.answers.specs.declared.Answer.TheVariants.BadMark _) x4 q = elim x4 [ ]
+      is (Rattle.answers.specs.declared.Answer.TheVariants.BadLength _) x5 q = elim x5 [ ]
+      is (Rattle.answers.specs.declared.Answer.TheVariants.BadVersion _) x6 q = elim x6 [ ]
+      is (Rattle.answers.specs.declared.Answer.TheVariants.BadMode _) x7 q = elim x7 [ ]
+      is (Rattle.answers.specs.declared.Answer.TheVariants.BadCoder _) x8 q = elim x8 [ ]
+      is (Rattle.answers.specs.declared.Answer.TheVariants.BadRes _) x9 q = elim x9 [ ]
+      is (Rattle.answers.specs.declared.Answer.TheVariants.BadWidth _) x10 q = elim x10 [ ]
+      is (Rattle.answers.specs.declared.Answer.TheVariants.BadType _) x11 q = elim x11 [ ]
+      is (Rattle.answers.specs.declared.Answer.TheVariants.BadStripe _) x12 q = elim x12 [ ]
+      is (Rattle.answers.specs.declared.Answer.TheVariants.BadLayer _) x13 q = elim x13 [ ]
+      is (Rattle.answers.specs.declared.Answer.TheVariants.Trailing _) x14 q = elim x14 [ ]
+      is Rattle.answers.specs.declared.Answer.TheVariants.NoRoom x14 q = elim x14 [ ]
+      is (Rattle.answers.specs.declared.Answer.TheVariants.BadPlane _) x16 q = elim x16 [ ]
+      is (Rattle.answers.specs.declared.Answer.TheVariants.Mismatch _) x17 q = elim x17 [ ]
+      is Rattle.answers.specs.declared.Answer.TheVariants.BadLine x17 q = elim x17 [ ]
+      is Rattle.answers.specs.declared.Answer.TheVariants.TooLong x18 q = elim x18 [ ]
 
   -- and BadSheet at record i exactly if the octets are at fault there
   pub judged_bad : (i : ℕ) → r ≡ record { number = 14; place = i; count = 0 } ↔ BadSheetAt sheet i
@@ -41,3 +58,20 @@ module _ (sheet : List ℕ) (r : Report) (c : JudgeCall sheet r) where
       is : (a : Answer) → Judges sheet a → a ≡ BadSheet i → BadSheetAt sheet i
       is (Done m) (good k e) q = absurd (let z : ◌≡◌ {A = ℕ} 0 1 = cc in omega arith)
       is (BadSheet j) (no_sheet f) q = let z : j ≡ i = cc in subst (BadSheetAt sheet) z f
+      is (Rattle.answers.specs.declared.Answer.TheVariants.Short _) x3 q = elim x3 [ ]
+      is (Rattle.answers.specs.declared.Answer.TheVariants.BadMark _) x4 q = elim x4 [ ]
+      is (Rattle.answers.specs.declared.Answer.TheVariants.BadLength _) x5 q = elim x5 [ ]
+      is (Rattle.answers.specs.declared.Answer.TheVariants.BadVersion _) x6 q = elim x6 [ ]
+      is (Rattle.answers.specs.declared.Answer.TheVariants.BadMode _) x7 q = elim x7 [ ]
+      is (Rattle.answers.specs.declared.Answer.TheVariants.BadCoder _) x8 q = elim x8 [ ]
+      is (Rattle.answers.specs.declared.Answer.TheVariants.BadRes _) x9 q = elim x9 [ ]
+      is (Rattle.answers.specs.declared.Answer.TheVariants.BadWidth _) x10 q = elim x10 [ ]
+      is (Rattle.answers.specs.declared.Answer.TheVariants.BadType _) x11 q = elim x11 [ ]
+      is (Rattle.answers.specs.declared.Answer.TheVariants.BadStripe _) x12 q = elim x12 [ ]
+      is (Rattle.answers.specs.declared.Answer.TheVariants.BadLayer _) x13 q = elim x13 [ ]
+      is (Rattle.answers.specs.declared.Answer.TheVariants.Trailing _) x14 q = elim x14 [ ]
+      is Rattle.answers.specs.declared.Answer.TheVariants.NoRoom x14 q = elim x14 [ ]
+      is (Rattle.answers.specs.declared.Answer.TheVariants.BadPlane _) x16 q = elim x16 [ ]
+      is (Rattle.answers.specs.declared.Answer.TheVariants.Mismatch _) x17 q = elim x17 [ ]
+      is Rattle.answers.specs.declared.Answer.TheVariants.BadLine x17 q = elim x17 [ ]
+      is Rattle.answers.specs.declared.Answer.TheVariants.TooLong x18 q = elim x18 [ ]

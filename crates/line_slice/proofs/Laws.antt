@@ -1,0 +1,48 @@
+-- What a turn of each loop does, and its end. Assumes nothing.
+use Rattle.std.proofs.Common.{◌≡◌, ◌≢◌, ℕ, ◌+◌, ◌<◌, ◌≤◌, List, ◌∷◌, length, get_or, drop, sym, ap, ◌∙◌, add-one, drop-cons, arith}
+use lib.ListN.{drop_of_length-le}
+use lib.Dec.{eqb}
+use borrow.Author.Tests.{eq-eqb, ne_eqb}
+use mathlib.Core.Bool.{Bool, cond}
+use Rattle.pixel_rules.specs.declared.Plane.{Plane}
+use Rattle.pixel_rules.specs.declared.Start.{Start}
+use Rattle.pixel_rules.specs.declared.Start.TheVariants.{From, Unread}
+use Rattle.pixel_rules.specs.Planes.{plane_start}
+use Rattle.line_planes.specs.declared.Listing.{Listing}
+use Rattle.line_planes.specs.Listing.{no_planes, with_plane, gathered}
+
+module _ (ps : List Plane) (i : ℕ) where
+  opens : (d : Plane) → i < length ps → drop i ps ≡ get_or ps i d ∷ drop (i + 1) ps
+  opens d h = rw (add-one, drop-cons ps i d)
+
+  -- the entries of the list
+  pub gather_next : (d : Plane) (t x : Listing) → i < length ps → gathered no_planes ps ≡ gathered t (drop i ps) → x ≡ with_plane t (get_or ps i d)
+      → gathered no_planes ps ≡ gathered x (drop (i + 1) ps)
+  unfolding gathered
+  gather_next d t x h e w = e ∙ ap (λ (l : List Plane). gathered t l) (opens d h) ∙ ap (λ (y : Listing). gathered y (drop (i + 1) ps)) (sym w)
+
+  pub gather_end : (t : Listing) → length ps ≤ i → gathered no_planes ps ≡ gathered t (drop i ps) → t ≡ gathered no_planes ps
+  unfolding gathered
+  gather_end t h e = sym (e ∙ ap (λ (l : List Plane). gathered t l) (drop_of_length-le ps h))
+
+  -- the start of a layer
+  module _ (l : ℕ) (e : plane_start ps l ≡ plane_start (drop i ps) l) where
+    pub start_here : (d : Plane) (x : Start) → i < length ps → (get_or ps i d).layer ≡ l → x ≡ From (get_or ps i d).start → x ≡ plane_start ps l
+    unfolding plane_start
+    start_here d x h q w =
+        sym
+        (e
+        ∙ ap (λ (y : List Plane). plane_start y l) (opens d h)
+        ∙ ap (λ (b : Bool). cond b (From (get_or ps i d).start) (plane_start (drop (i + 1) ps) l)) (eq-eqb (get_or ps i d).layer l q)
+        ∙ sym w)
+
+    pub start_next : (d : Plane) → i < length ps → (get_or ps i d).layer ≢ l → plane_start ps l ≡ plane_start (drop (i + 1) ps) l
+    unfolding plane_start
+    start_next d h q =
+        e
+        ∙ ap (λ (y : List Plane). plane_start y l) (opens d h)
+        ∙ ap (λ (b : Bool). cond b (From (get_or ps i d).start) (plane_start (drop (i + 1) ps) l)) (ne_eqb (get_or ps i d).layer l q)
+
+    pub start_none : (x : Start) → length ps ≤ i → x ≡ Unread → x ≡ plane_start ps l
+    unfolding plane_start
+    start_none x h w = w ∙ sym (e ∙ ap (λ (y : List Plane). plane_start y l) (drop_of_length-le ps h))

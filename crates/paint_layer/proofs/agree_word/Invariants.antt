@@ -1,0 +1,12 @@
+use Prim.Native.Nat.{◌-◌}
+use Rattle.paint_coat.specs.Coat.{flat}
+use Rattle.paint_words.specs.Words.{octets_of}
+use Rattle.paint_layer.specs.Layer.{agrees}
+use Rattle.paint_layer.proofs.Laws.{Going}
+use Rattle.paint_layer.proofs.agree_word.Given as goal
+
+abbrev pub invariant-loop-x : goal.invariant-loop-x
+invariant-loop-x l = Going (agrees (flat (octets_of l.w)) (octets_of l.u)) l.initial.out l.a l.n l.out l.x
+
+abbrev pub decreases-loop-x : goal.decreases-loop-x
+decreases-loop-x l = l.n - l.x

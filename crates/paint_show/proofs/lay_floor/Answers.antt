@@ -1,0 +1,14 @@
+use Rattle.paint_show.proofs.Laws.{flooring}
+use Rattle.paint_show.proofs.lay_floor.Goals as goal
+
+pub returns-then-c-eq-DARK : goal.returns-then-c-eq-DARK
+returns-then-c-eq-DARK c = search flooring
+
+pub row_at-r-requires : goal.row_at-r-requires
+row_at-r-requires c = search flooring
+
+pub lay_image-requires : goal.lay_image-requires
+lay_image-requires c = search flooring
+
+pub returns : goal.returns
+returns c = search flooring

@@ -1,0 +1,5 @@
+use Rattle.write_start.proofs.Laws.{starting}
+use Rattle.write_start.proofs.put_start.Goals as goal
+
+pub returns : goal.returns
+returns c = search starting
