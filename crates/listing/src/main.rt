@@ -4,50 +4,57 @@
 // input of any length, endless too, is answered.
 #![tactic(auto)]
 
+ghost use Rattle.std.specs.Prelude.{◌≤◌, length};
+
 use answers::Answer;
 use sheet_rules::{DECISIVE_SIZE, RECORD_SIZE, Record};
 use std::io;
-use std::io::{Input, Read};
+use std::io::{Input, Print, Read};
 
-fn main(rt: HostRuntime) -> io::Result<()> {
+// Nobody is told of a reader that went away: the listing stops.
+fn main(rt: HostRuntime) {
     let mut buffer = [0u8; DECISIVE_SIZE];
-    let n = read_full(&rt, &mut buffer)?;
-    list(&rt, &buffer[..n])
+    let n = read_full(&rt, &mut buffer);
+    let _ = list(&rt, &buffer[..n]);
 }
 
-// Reads until the buffer is full or the input ends: one read may give fewer octets.
-fn read_full(rt: &HostRuntime, buffer: &mut [u8]) -> io::Result<usize>
-    ensures { IfOk result (λ n. n ≤ length buffer.new) }
+// Reads until the buffer is full or the input ends, and answers how many octets: one read may give fewer. An input that
+// cannot be read further has ended.
+fn read_full(rt: &impl Input, buffer: &mut [u8]) -> usize
+    ensures { result ≤ length buffer.new }
 {
     let mut input = rt.reader();
     let mut n: usize = 0;
     while n < buffer.len() {
-        let more = input.read(&mut buffer[n..])?;
-        if more == 0 {
-            return Ok(n);
+        match input.read(&mut buffer[n..]) {
+            Ok(0) => return n,
+            Ok(more) => n += more,
+            Err(_) => return n,
         }
-        n += more;
     }
-    Ok(n)
+    n
 }
 
-fn list(rt: &HostRuntime, sheet: &[u8]) -> io::Result<()> {
+fn list(rt: &impl Print, sheet: &[u8]) -> io::Result<()> {
     let judged: Answer = sheet_judge::sheet_answer(sheet);
     let answer = answers_report::reported(judged);
     if answer.number == 0 {
         list_records(rt, sheet)
     } else {
-        println!(rt; "refused {answer.number} {answer.place}")
+        println!(rt; "refused {} {}", answer.number, answer.place)
     }
 }
 
-fn list_records(rt: &HostRuntime, sheet: &[u8]) -> io::Result<()> {
+fn list_records(rt: &impl Print, sheet: &[u8]) -> io::Result<()> {
     for i in 0..sheet.len() / RECORD_SIZE {
         put_line(rt, sheet_record::record_at(sheet, i))?;
     }
     Ok(())
 }
 
-fn put_line(rt: &HostRuntime, r: Record) -> io::Result<()> {
-    println!(rt; "{r.stripe} {r.layer} {r.coder} {r.x} {r.y} {r.width} {r.height} {r.res} {r.base0} {r.base1} {r.base2} {r.start} {r.len} {r.octet17}")
+fn put_line(rt: &impl Print, r: Record) -> io::Result<()> {
+    print!(rt; "{} {} {} ", r.stripe, r.layer, r.coder)?;
+    print!(rt; "{} {} {} {} ", r.x, r.y, r.width, r.height)?;
+    print!(rt; "{} {} {} {} ", r.res, r.base0, r.base1, r.base2)?;
+    println!(rt; "{} {} {}", r.start, r.len, r.octet17)
 }
