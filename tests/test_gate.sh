@@ -131,6 +131,11 @@ check "no file, no table" [ "$?:$(cut -d: -f1 out)" = "0:no table of the process
 # leftovers, one of each kind
 fresh; printf 'use other::thing;\nuse other::more;\npub fn f() { thing() }\n' | file crates/one/src/lib.rt; echo 'one: other' >crates.txt; gate 'a name that is not used' 1 '10 passed, 1 failed'
 said 'crates/one/src/lib.rt:2: more is brought in and not used'
+fresh; printf 'use other::{more, thing};\nuse std::io::Read;\npub fn f() { thing() }\n' | file crates/one/src/lib.rt; echo 'one staticlib: other' >crates.txt; gate 'one of two in braces' 1 '10 passed, 1 failed'
+said 'crates/one/src/lib.rt:1: more is brought in and not used'; check "dropped by itself" [ "$(python3 tools/leftovers --drop >/dev/null; head -n 1 crates/one/src/lib.rt)" = 'use other::thing;' ]
+fresh; printf 'use lib.Nat.{◌-◌, ◌<◌}\n\nthere : Type\nthere = a-b < c\n' | file crates/one/specs/A.antt; file crates/one/out/rlib/one.rlib/A.antt <crates/one/specs/A.antt
+gate 'an operator that is not used' 1 '10 passed, 1 failed'; said 'crates/one/specs/A.antt:1: ◌-◌ is brought in and not used'
+check "no word of what rt made" eval '! grep -q "crates/one/out" out'
 fresh; echo 'one: other' >crates.txt; gate 'a crate that is not used' 1 '10 passed, 1 failed'; said 'FAILED leftovers: crates.txt: one names other and does not use it'
 fresh; printf -- '--   there   a name\n--   gone    another\n\nthere : Type\n' | file crates/one/specs/A.antt; gate 'a name that is explained and not there' 1 '10 passed, 1 failed'
 said 'the glossary explains gone, which the file does not define'
