@@ -232,7 +232,7 @@ module _ (s : List ℕ) (extent : Extent) (d ns : List ℕ) (y width : ℕ) (out
   pub some_room : (n : ℕ) → y + n ≤ extent.height → (y * width + n * width) * 4 ≤ length out
   unfolding band_size
   some_room n h =
-      let f = c.lines.ranges in
+      let f = c.lines.fits in
       let e = c.lines.wide in
       let m : (y + n) * width ≤ extent.height * width = mul-le-mul_right width h in
       let a = add-mul y n width in

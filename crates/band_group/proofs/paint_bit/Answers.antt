@@ -1,0 +1,12 @@
+-- src/lib.rt:77:5
+use Rattle.band_group.proofs.Rows.{two_rows, put_fits, put_plain, bit_painted}
+use Rattle.band_group.proofs.paint_bit.Goals as goal
+
+pub give_bit-requires : goal.give_bit-requires
+give_bit-requires c = two_rows _ _ _ _ 0 c.requires.0 c.requires.2
+
+pub paint_at-requires : goal.paint_at-requires
+paint_at-requires c = (put_fits _ _ _ _ _ _ c.requires.0 c.requires.2 c.give_bit.ensures, put_plain _ _ _ _ _ _ c.requires.0 c.requires.2 c.give_bit.ensures c.requires.1, c.requires.3, c.requires.4, c.requires.5, c.requires.6, c.requires.7, c.requires.8, c.requires.9, c.requires.10)
+
+pub returns : goal.returns
+returns c = (bit_painted _ _ _ _ _ _ _ _ _ _ _ c.give_bit.ensures c.paint_at.ensures, c.give_bit.ensures)

@@ -1,0 +1,5 @@
+use Rattle.spirerook.proofs.Laws.{calls}
+use Rattle.spirerook.proofs.spirerook_data.Goals as goal
+
+pub returns : goal.returns
+returns c = search calls
