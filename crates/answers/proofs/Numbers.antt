@@ -1,4 +1,4 @@
--- The paper's table "Numbers that a call returns" once more, each name beside its number. `numbers` (specs/Answers.antt) has the names in an order and
+-- The paper's table "Numbers that a call returns" once more, each name beside its number. `numbers` (Table.antt) has the names in an order and
 -- counts them, so that two names exchanged there and in `told_of` would agree.
 -- Assumes nothing.
 use Prim.Native.Nat.{ℕ}

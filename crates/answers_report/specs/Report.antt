@@ -5,7 +5,8 @@
 use Rattle.std.specs.Prelude.{◌≡◌, ℕ}
 use Rattle.std.proofs.Common.{ap}
 use Rattle.answers.specs.declared.Answer.{Answer}
-use Rattle.answers.specs.Answers.{number_of, place_of, count_of, answer_by_values}
+use Rattle.answers.specs.Answers.{number_of, place_of, count_of}
+use Rattle.answers.proofs.Table.{answer_by_values}
 use Rattle.answers_report.specs.declared.Report.{Report}
 
 abbrev pub refusal_of : ℕ → ℕ → Report

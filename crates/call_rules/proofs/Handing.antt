@@ -10,7 +10,7 @@ use Rattle.laws.proofs.Cases.{clash}
 use Rattle.octets.specs.Octets.{Octets}
 use Rattle.sheet_rules.specs.Record.{record_size}
 use Rattle.answers.specs.declared.Answer.TheVariants.{Done}
-use Rattle.answers.specs.Answers.{refusal_count}
+use Rattle.answers.proofs.Table.{refusal_count}
 use Rattle.answers_report.specs.declared.Report.{Report}
 use Rattle.answers_report.specs.Report.{report_of}
 use Rattle.data_rules.specs.declared.Source.{Source}

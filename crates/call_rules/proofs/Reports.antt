@@ -5,7 +5,8 @@ use mathlib.Core.Path.{◌≡◌, sym, ap, ◌∙◌}
 use lib.ListN.{get_or}
 use Rattle.answers.specs.declared.Answer.{Answer}
 use Rattle.answers.specs.declared.Answer.TheVariants.{Done, TooLong}
-use Rattle.answers.specs.Answers.{number_of, place_of, count_of, table, answer_back}
+use Rattle.answers.specs.Answers.{number_of, place_of, count_of, table}
+use Rattle.answers.proofs.Table.{answer_back}
 use Rattle.answers_report.specs.declared.Report.{Report}
 use Rattle.answers_report.specs.Report.{report_of}
 

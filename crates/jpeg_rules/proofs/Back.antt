@@ -27,7 +27,7 @@ use Rattle.jpeg_rules.specs.Marker.{class_of, marker_of}
 use Rattle.jpeg_rules.specs.Grammar.{marker, Piece, alone, segment, lengthed, octets_of, pieces_of, Fits, Good, is_scan, tagged, resolution, Each, Scanned, Components, said_by, Layer}
 use Rattle.jpeg_rules.specs.Walk.{seg_of, resolves, tag_of, framed, moved, frame_said, components_ok, begun, walk_of}
 use Rattle.laws.proofs.Cases.{cond_with, clash}
-use Rattle.jpeg_rules.proofs.Codes.{class_coded}
+use Rattle.jpeg_rules.proofs.CodesBack.{class_coded}
 use Rattle.jpeg_rules.proofs.Leaves.{two_stand}
 use Rattle.jpeg_rules.proofs.Runs.{length_marker, marker_back}
 use Rattle.jpeg_rules.proofs.Turns.{frame_says}

@@ -91,7 +91,7 @@ coded_class c Segment (inr (inr (inl e))) = ap class_of e
 coded_class c Segment (inr (inr (inr h))) = lies_class c codes 14 (omega arith)
 
 -- a code that is an octet lies in a row, and has the sentence of its class
-codes_by : (c : ℕ) (P : Class → Type 0) → ((k : Class) → Coded k c → P k) → (0xFF < c → P Segment) → P (class_in codes c)
+pub codes_by : (c : ℕ) (P : Class → Type 0) → ((k : Class) → Coded k c → P k) → (0xFF < c → P Segment) → P (class_in codes c)
 unfolding codes Lies kind_at
 codes_by c P go beyond =
     rows_by c P (drop 1 codes) (omega arith) (λ h. go Wrong (inr (inr (inl (omega arith))))) λ l.
@@ -111,12 +111,6 @@ codes_by c P go beyond =
     rows_by c P (drop 15 codes) l (λ h. go Segment (inr (inr (inr (omega arith))))) λ l.
     rows_by c P (drop 16 codes) l (λ h. go Wrong (inr (inr (inr (inl (omega arith)))))) λ l.
     subst P (sym (lies_class c [] 0 tt)) (beyond l)
-
--- that the code is an octet is wanted for the class of all that lies in no row
-pub class_coded : (c : ℕ) (k : Class) → (k ≡ Segment → c < 256) → class_of c ≡ k → Coded k c
-unfolding class_of
-class_coded c k o =
-    codes_by c (λ x. x ≡ k → Coded k c) (λ x s e. subst (λ (y : Class). Coded y c) e s) (λ h e. let l = o (sym e) in absurd (omega arith))
 
 -- a code has one sentence
 pub coded_once : (c : ℕ) (j k : Class) → Coded j c → Coded k c → j ≡ k

@@ -30,9 +30,10 @@ use Rattle.jpeg_rules.specs.declared.Turn.TheVariants.{Go, Stop}
 use Rattle.jpeg_rules.specs.Codes.{IsFrame, HasLength}
 use Rattle.jpeg_rules.specs.Marker.{class_of, marker_of}
 use Rattle.jpeg_rules.specs.Grammar.{marker, Piece, alone, segment, scan, lengthed, Good}
-use Rattle.jpeg_rules.specs.Walk.{seg_of, scan_of, resolves, tag_of, framed, passed, moved, refused, on_body, on_found, on_tag, components_ok, frame_body_of, frame_of, scan_step_of, segment_of, end_of, mark_of, on_marker, turn_of, begun, walk_of}
+use Rattle.jpeg_rules.specs.Walk.{seg_of, scan_of, resolves, tag_of, passed, moved, refused, on_body, on_found, on_tag, components_ok, frame_body_of, frame_of, scan_step_of, segment_of, end_of, mark_of, on_marker, turn_of, begun, walk_of}
 use Rattle.jpeg_rules.specs.Faults.{Known, height_of, width_of, components_of, res_of, FrameDue, May, past, framing, Next, any, no_data, Least, of_segment, of_scan, of_frame, BadLength, cut_length, small, cut_body, BadMarker, cut, cut_run, no_marker, wrong_code, second_frame, no_resolution, no_frame, no_scan, bad_length, no_height, no_width, bad_components, bad_resolution, endless, BadFrom, here, past_piece, past_frame, BadLayer, cut_start, no_start, started}
-use Rattle.jpeg_rules.proofs.Codes.{Coded, class_coded}
+use Rattle.jpeg_rules.proofs.Codes.{Coded}
+use Rattle.jpeg_rules.proofs.CodesBack.{class_coded}
 use Rattle.jpeg_rules.proofs.Leaves.{two_stand}
 use Rattle.jpeg_rules.proofs.Runs.{fill_end, Marked, marker_by, marker_back, code_octet, run_cut}
 use Rattle.jpeg_rules.proofs.Turns.{number_is, octet_is}

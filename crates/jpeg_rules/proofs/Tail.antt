@@ -23,9 +23,9 @@ use Rattle.jpeg_rules.specs.declared.Walk.{Walk}
 use Rattle.jpeg_rules.specs.declared.Walk.TheVariants.{Ends}
 use Rattle.jpeg_rules.specs.Marker.{class_of, marker_of}
 use Rattle.jpeg_rules.specs.Grammar.{marker, Piece, alone, segment, scan, lengthed, octets_of, pieces_of, Fits, Good, is_scan, g3fax, tagged, Each, Scanned}
-use Rattle.jpeg_rules.specs.Walk.{seg_of, scan_of, tag_of, framed}
+use Rattle.jpeg_rules.specs.Walk.{seg_of, scan_of, tag_of}
 use Rattle.laws.proofs.Cases.{cond_with, clash, bool_else}
-use Rattle.jpeg_rules.proofs.Codes.{class_coded}
+use Rattle.jpeg_rules.proofs.CodesBack.{class_coded}
 use Rattle.jpeg_rules.proofs.Leaves.{seg_back}
 use Rattle.jpeg_rules.proofs.Runs.{length_marker, Marked, marker_back, code_octet}
 use Rattle.jpeg_rules.proofs.Scans.{scan_back, scan_split}

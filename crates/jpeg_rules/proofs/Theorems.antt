@@ -18,7 +18,8 @@ use Rattle.jpeg_rules.specs.Marker.{class_of}
 use Rattle.jpeg_rules.specs.Grammar.{Layer}
 use Rattle.jpeg_rules.specs.Walk.{walk_of}
 use Rattle.jpeg_rules.specs.Faults.{BadLayer}
-use Rattle.jpeg_rules.proofs.Codes.{Coded, class_coded, coded_class, coded_once}
+use Rattle.jpeg_rules.proofs.Codes.{Coded, coded_class, coded_once}
+use Rattle.jpeg_rules.proofs.CodesBack.{class_coded}
 use Rattle.jpeg_rules.proofs.Scans.{scan_split}
 use Rattle.jpeg_rules.proofs.There.{layer_walk}
 use Rattle.jpeg_rules.proofs.Back.{walk_layer}

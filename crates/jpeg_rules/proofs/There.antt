@@ -11,7 +11,6 @@ use lib.Dec.{eqb}
 use borrow.Author.Tests.{eq-eqb, ne_eqb, le-ltb}
 use Rattle.octets.specs.Octets.{be16_at, octets16, begins}
 use Rattle.octets.proofs.Laws.{length_octets16}
-use Rattle.sheet_rules.specs.Judge.{listed, divides}
 use Rattle.sheet_rules.specs.Sentences.{Listed}
 use Rattle.laws.proofs.Says.{Says, says_eq, says_le, says_and, says_or, says_true, says_as, says_else}
 use Rattle.sheet_rules.proofs.New.{says_listed, says_divides}

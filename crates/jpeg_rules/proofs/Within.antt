@@ -28,7 +28,7 @@ use Rattle.jpeg_rules.specs.declared.Turn.{Turn}
 use Rattle.jpeg_rules.specs.declared.Turn.TheVariants.{Go, Stop}
 use Rattle.jpeg_rules.specs.Marker.{class_of, marker_of}
 use Rattle.jpeg_rules.specs.Grammar.{g3fax}
-use Rattle.jpeg_rules.specs.Walk.{seg_of, scan_of, resolves, tag_of, framed, passed, moved, refused, on_body, on_found, on_tag, components_ok, frame_body_of, frame_of, scan_step_of, segment_of, end_of, mark_of, on_marker, turn_of, begun, walk_of}
+use Rattle.jpeg_rules.specs.Walk.{seg_of, scan_of, resolves, tag_of, passed, moved, refused, on_body, on_found, on_tag, components_ok, frame_body_of, frame_of, scan_step_of, segment_of, end_of, mark_of, on_marker, turn_of, begun, walk_of}
 use Rattle.jpeg_rules.proofs.Runs.{marker_back}
 use Rattle.jpeg_rules.proofs.Scans.{scan_back}
 use Rattle.jpeg_rules.proofs.Walks.{Walks, stops, goes, walks_from}

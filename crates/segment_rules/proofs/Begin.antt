@@ -1,6 +1,6 @@
 -- A segment's beginning by its table: as the grammar has it, and refused as the sentences say.
 -- Assumes nothing.
-use Prim.Native.Nat.{ℕ, ◌+◌, ◌-◌, ◌≤◌, ◌<◌}
+use Prim.Native.Nat.{ℕ, ◌+◌, ◌≤◌, ◌<◌}
 use native.Mathlib.Omega.{arith}
 use mathlib.Core.Path.{◌≡◌, refl, sym, ap, subst, ◌∙◌}
 use mathlib.Core.Bool.{Bool, true, false, not, false≢true}
@@ -17,6 +17,7 @@ use Rattle.field_rules.specs.Fault.{Faulted, late, BadMarked, BadNumbers, the}
 use Rattle.field_rules.proofs.Laws.{end_apart, mark_apart, again_apart, one_apart, four_apart}
 use Rattle.field_rules.proofs.Refused.{rows_size}
 use Rattle.field_rules.proofs.Faults.{fault_here, past_mark, past_val, none_at_fault, fault_mark, fault_again, fault_one, fault_four, broken_mark, mark_broken, broken_numbers, numbers_broken, broken_again}
+use Rattle.segment_rules.proofs.Places.{at_ident}
 use Rattle.segment_rules.specs.declared.Version.{Version}
 use Rattle.segment_rules.specs.declared.Version.TheVariants.{Base}
 use Rattle.segment_rules.specs.Segment.{Due, Named, begin_of, length_ok, mrc, open_table, Ident, ident, BadSegment, bad_marker, bad_length, bad_ident, too_many}
@@ -92,9 +93,6 @@ module _ (version : Version) (due : Due) where
     abbrev Bad : List ℕ → Answer → Type 0
     Bad = BadSegment version due at
 
-    at_ident : at + 2 + 2 + 4 - 4 ≡ at + 4
-    at_ident = omega arith
-
     pub faulted_begin : (l : List ℕ) (x : Answer) → Faulted (open_table version due) [] at l x → Bad l x
     unfolding open_table begin_of octets16 put widths Sized
     faulted_begin l x f =
@@ -108,7 +106,7 @@ module _ (version : Version) (due : Due) where
         (λ b.
         let k = broken_again b in
         ident_apart (λ m r c. Bad (0xFF ∷ 0xED ∷ octets16 size ++ (m ∷ r ∷ c ∷ n ∷ l3)) x) m r c n g3
-        (λ g. subst (Bad (begin_of n size ++ l3)) (ap BadStripe (sym at_ident) ∙ sym k.1) (too_many n size l3 lo b2 bn g (not-true (due.full n) k.0))))
+        (λ g. subst (Bad (begin_of n size ++ l3)) (ap BadStripe (sym (at_ident at)) ∙ sym k.1) (too_many n size l3 lo b2 bn g (not-true (due.full n) k.0))))
         (λ g4 l4 f4. absurd (none_at_fault f4))
       where
         two_two : at + 2 + 2 ≡ at + 4
@@ -143,5 +141,5 @@ module _ (version : Version) (due : Due) where
     full_faulted l n size lo hi oc g f =
         past_length size lo hi
         (past_val {ws = one ∷ one ∷ one ∷ one ∷ []} (0x4D ∷ 0x52 ∷ 0x43 ∷ n ∷ []) (lit< tt, (lit< tt, (lit< tt, (oc, tt)))) g
-        (subst (Faulted (drop 3 (open_table version due)) (size ∷ 0x4D ∷ 0x52 ∷ 0x43 ∷ n ∷ []) (at + 2 + 2 + 4) l) (ap BadStripe at_ident)
+        (subst (Faulted (drop 3 (open_table version due)) (size ∷ 0x4D ∷ 0x52 ∷ 0x43 ∷ n ∷ []) (at + 2 + 2 + 4) l) (ap BadStripe (at_ident at))
         (fault_here (late (ap not f)))))

@@ -1,3 +1,4 @@
+pub mod Places
 pub mod Begin
 pub mod Exactly
 pub mod Named
