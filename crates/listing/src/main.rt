@@ -49,5 +49,7 @@ fn list_records(rt: &HostRuntime, sheet: &[u8]) -> io::Result<()> {
 }
 
 fn put_line(rt: &HostRuntime, r: Record) -> io::Result<()> {
-    println!(rt; "{r.stripe} {r.layer} {r.coder} {r.x} {r.y} {r.width} {r.height} {r.res} {r.base0} {r.base1} {r.base2} {r.start} {r.len} {r.octet17}")
+    println!(rt;
+        "{r.stripe} {r.layer} {r.coder} {r.x} {r.y} {r.width} {r.height} {r.res} {r.base0} {r.base1} {r.base2} {r.start} {r.len} {r.octet17}"
+    )
 }
