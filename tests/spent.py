@@ -86,7 +86,7 @@ def told(process, name):
 
 def look(process, known):
     """((process, when it began), what it proves, its seconds until now), or None. What it proves is
-    asked for once; a helper that a prover has started counts to that, which waits for it."""
+    asked for once; a process that a prover has started counts to that one, which waits for it."""
     if PROVER not in told(process, "cmdline").split("\0")[0]:
         return None
     numbers = told(process, "stat").rpartition(")")[2].split()
