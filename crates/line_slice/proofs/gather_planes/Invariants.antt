@@ -1,5 +1,5 @@
 -- What is gathered of the list is what the rest adds to what was gathered so far.
-use Rattle.std.proofs.Common.{length, drop, ◌-◌, ◌≡◌, ◌≤◌}
+use Rattle.std.proofs.Common.{length, drop, ◌-◌, ◌≡◌}
 use Rattle.line_planes.specs.Listing.{no_planes, gathered}
 use Rattle.line_slice.proofs.gather_planes.Given as goal
 

@@ -1,5 +1,5 @@
 -- The start is found in the whole list as in what is left of it.
-use Rattle.std.proofs.Common.{length, drop, ◌-◌, ◌≡◌, ◌≤◌}
+use Rattle.std.proofs.Common.{length, drop, ◌-◌, ◌≡◌}
 use Rattle.pixel_rules.specs.Planes.{plane_start}
 use Rattle.line_slice.proofs.plane_start.Given as goal
 

@@ -1,4 +1,3 @@
-use Prim.Native.Nat.{◌-◌}
 use Rattle.octets.proofs.Turns.{turns}
 use Rattle.octets_get.proofs.stands_at.Goals as goal
 
