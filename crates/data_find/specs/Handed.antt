@@ -2,7 +2,7 @@
 --
 --   spot d n                         where octet n of the slice d lies in memory
 --   PartAt d start n r               r is n octets of the slice d from a start on, where they lie
---   lent_from page pencil x           the slice that holds the part
+--   lent_from page pencil x          the slice that holds the part
 --   HandsPart s page pencil k l r    r is the part that is handed out: a part of the page or of the pencil file that was lent, and no copy
 use Rattle.std.specs.Prelude.{ℕ, ◌+◌, ◌≡◌, List, take, drop}
 use Rattle.std.specs.Borrow.{Bor}
@@ -10,7 +10,7 @@ use Rattle.data_rules.specs.declared.Source.{Source}
 use Rattle.data_rules.specs.declared.Source.TheVariants.{Page, Pencil}
 use Rattle.data_rules.specs.Data.{part_of, part_source, part_start}
 
--- a slice is where it begins, a block of memory and an octet of it (ptr), and its octets (now)
+-- a slice is where it begins, a block of memory and an octet of it (ref_ptr), and its octets (now)
 abbrev pub spot : Bor (List ℕ) → ℕ → ℕ × ℕ
 spot d n = (d.ref_ptr.0, n + d.ref_ptr.1)
 
