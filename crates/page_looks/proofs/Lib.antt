@@ -5,6 +5,7 @@ pub mod Segment
 pub mod Start
 pub mod Body
 pub mod Mode1
+pub mod Mode1Stripe
 pub mod Page
 pub mod Decided
 pub mod Theorems

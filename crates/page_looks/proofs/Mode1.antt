@@ -14,14 +14,13 @@ use lib.ListN.{length}
 use lib.Dec.{lit≤}
 use Rattle.octets.specs.Octets.{Octets}
 use Rattle.laws.proofs.Cases.{clash}
-use Rattle.answers.specs.declared.Answer.TheVariants.{Short, BadLength, BadRes, BadType, BadStripe, BadLayer}
+use Rattle.answers.specs.declared.Answer.TheVariants.{BadType, BadStripe}
 use Rattle.answers.specs.Answers.{place_of}
-use Rattle.field_rules.specs.Field.{ok, bind, widths, fields}
+use Rattle.field_rules.specs.Field.{widths, fields}
 use Rattle.field_rules.specs.Part.{span_of}
 use Rattle.page_looks.proofs.Hangs.{reach, Whole}
 use Rattle.page_looks.proofs.Fields.{Looks}
-use Rattle.page_looks.proofs.Looked.{onward, beyond, Near, near, fill_by, Nearby, ◌&◌, Looked, looked_ok, looked_no, looked_then, looked_bind, looked_map, looked_span, looked_fields}
-use Rattle.sheet_rules.specs.declared.Record.{Record}
+use Rattle.page_looks.proofs.Looked.{onward, beyond, Near, near, fill_by, Nearby, ◌&◌, Looked, looked_ok, looked_no, looked_then}
 use Rattle.jpeg_rules.specs.declared.Fault.{Fault}
 use Rattle.jpeg_rules.specs.declared.Fault.TheVariants as F
 use Rattle.jpeg_rules.specs.declared.Walk.{Walk}
@@ -31,13 +30,11 @@ use Rattle.jpeg_looks.proofs.Look.{walk_look, walk_beyond}
 use Rattle.jpeg_rules.proofs.Within.{place_of as place_of_fault}
 use Rattle.jpeg_looks.proofs.Hangs as J
 use Rattle.start_rules.specs.declared.Head.{Head}
-use Rattle.body_rules.specs.Body.{striped}
 use Rattle.mode1_rules.specs.declared.Fields.{Fields}
 use Rattle.mode1_rules.specs.declared.LayerData.{LayerData}
 use Rattle.mode1_rules.specs.declared.LayerData.TheVariants.{There, Absent}
 use Rattle.mode1_rules.specs.Kinds.{has_back, has_fore}
-use Rattle.mode1_rules.specs.Grammar.{records_of}
-use Rattle.mode1_rules.specs.Reading.{stripe_table, fields_from, fault_of, on_walk, walked, layers_of, stripe_read}
+use Rattle.mode1_rules.specs.Reading.{stripe_table, fields_from, fault_of, on_walk, walked}
 
 unfoldable pub layer_look : List ℕ → ℕ → Bool → ℕ → ℕ
 layer_look s main present at = cond present (walk_look s at main) at
@@ -56,7 +53,7 @@ stripe_look hd left s at =
 
 -- ---- the fields: each is at most as wide as `beyond` says
 
-stripe_near : (at : ℕ) (hd : Head) (left : ℕ) → Looks Near at (stripe_table hd left)
+pub stripe_near : (at : ℕ) (hd : Head) (left : ℕ) → Looks Near at (stripe_table hd left)
 unfolding Looks stripe_table widths place_of beyond
 stripe_near at hd left =
     near at 1 (BadType at) refl (lit≤ tt) (lit≤ tt)
@@ -90,33 +87,8 @@ module _ (s : List ℕ) (o : Octets s) (main : ℕ) where
       looked_then s (λ (t : List ℕ). walk_of t at main) (λ (x : Walk) (t : List ℕ). on_walk x at) (Refused f) (walk_look s at main) (walk_look s at main) at q y.hangs
       (looked_no s (fault_of f) (walk_look s at main) (walk_look s at main) (omega arith) y.hangs.inside (near_fault s f (walk_look s at main) (subst (J.NearWalk s (walk_look s at main)) q y.near)))
 
-  looked_walked : (present : Bool) (at : ℕ) → at ≤ length s → Whole (walked s main present at)
+  pub looked_walked : (present : Bool) (at : ℕ) → at ≤ length s → Whole (walked s main present at)
       → Looked (layer_look s main present at) (λ (t : List ℕ). walked t main present at) s at
   unfolding walked layer_look
   looked_walked true at h w = walk_looked at (walk_of s at main) refl w
   looked_walked false at h w = looked_ok s Absent at h
-
-module _ (s : List ℕ) (o : Octets s) (hd : Head) where
-  layers_looked : (k : ℕ) (f : Fields) (at : ℕ) → Whole (layers_of hd k f s at) → Looked (layers_look hd f s at) (λ (t : List ℕ). layers_of hd k f t at) s at
-  unfolding layers_of layers_look
-  layers_looked k f at =
-      looked_bind s (λ (t : List ℕ). span_of t at f.mask_length)
-      (λ (n p : ℕ) (t : List ℕ).
-      bind (walked t hd.main (has_back f.kind) p) (λ (back : LayerData) (q : ℕ).
-      bind (walked t hd.main (has_fore f.kind) q) (λ (fore : LayerData) (e : ℕ). ok (records_of hd k f at back fore) e)))
-      (at + f.mask_length) _ at (looked_span s at f.mask_length) λ n p hp ip ep.
-      looked_bind s (λ (t : List ℕ). walked t hd.main (has_back f.kind) p)
-      (λ (back : LayerData) (q : ℕ) (t : List ℕ). bind (walked t hd.main (has_fore f.kind) q) (λ (fore : LayerData) (e : ℕ). ok (records_of hd k f at back fore) e))
-      (layer_look s hd.main (has_back f.kind) p) _ p (looked_walked s o hd.main (has_back f.kind) p ip) λ back q hq iq eq.
-      looked_map s (λ (t : List ℕ). walked t hd.main (has_fore f.kind) q) (λ (fore : LayerData). records_of hd k f at back fore)
-      (layer_look s hd.main (has_fore f.kind) q) q (looked_walked s o hd.main (has_fore f.kind) q iq)
-
-  pub stripe_looked : (k left at : ℕ) → at ≤ length s → Whole (stripe_read hd k left s at)
-      → Looked (stripe_look hd left s at) (λ (t : List ℕ). stripe_read hd k left t at) s at
-  unfolding stripe_read stripe_look
-  stripe_looked k left at h =
-      looked_bind s (λ (t : List ℕ). fields (stripe_table hd left) [] t at)
-      (λ (vs : List ℕ) (n : ℕ) (t : List ℕ). bind (layers_of hd k (fields_from vs) t n) (λ (rs : List Record) (e : ℕ). ok (striped (fields_from vs).height rs) e))
-      (reach (stripe_table hd left) [] s at) _ at (looked_fields s (stripe_table hd left) at h (stripe_near at hd left)) λ vs n hn ni en.
-      looked_map s (λ (t : List ℕ). layers_of hd k (fields_from vs) t n) (λ (rs : List Record). striped (fields_from vs).height rs) (layers_look hd (fields_from vs) s n) n
-      (layers_looked k (fields_from vs) n)

@@ -37,6 +37,7 @@ use Rattle.page_looks.proofs.Start.{start_look}
 use Rattle.body_rules.specs.Body.{Item, skipped, body_from}
 use Rattle.page_looks.proofs.Body.{body_look}
 use Rattle.page_looks.proofs.Mode1 as M1
+use Rattle.page_looks.proofs.Mode1Stripe as S1
 use Rattle.page_rules.specs.Reading.{due_at, stripe_read_in, item_of, zeros_of, end_table}
 
 -- ---- the definitions
@@ -66,7 +67,7 @@ page_look s =
 
 stripe_looked : (m : Mode) (s : List ℕ) → Octets s → (hd : Head) (k left at : ℕ) → at ≤ length s → Whole (stripe_read_in m hd k left s at)
     → Looked (stripe_look_in m hd left s at) (λ (t : List ℕ). stripe_read_in m hd k left t at) s at
-stripe_looked One s o hd k left at = M1.stripe_looked s o hd k left at
+stripe_looked One s o hd k left at = S1.stripe_looked s o hd k left at
 
 module _ (s : List ℕ) (o : Octets s) (hd : Head) (k left at : ℕ) (h : at ≤ length s) where
   abbrev version : Version

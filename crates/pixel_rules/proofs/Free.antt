@@ -5,12 +5,10 @@
 --   value_put          values by sample, with another one at one sample
 --   Freed v w .. c    a possible content that has the colour c at one sample and is else as w; FreedBit: that has the bit b
 -- Assumes nothing.
-use Prim.Native.Nat.{ℕ, ◌-◌, ◌/◌, ◌<◌}
+use Prim.Native.Nat.{ℕ, ◌-◌, ◌/◌}
 use mathlib.Core.Path.{◌≡◌, refl, sym, ap, ap₂, subst}
-use mathlib.Core.Logic.{◌≢◌}
 use mathlib.Core.Bool.{Bool, true, ◌&&◌, cond}
 use lib.Dec.{eqb}
-use borrow.Author.Tests.{eq-eqb, ne_eqb}
 use Rattle.laws.proofs.Cases.{cond_with}
 use Rattle.laws.proofs.Says.{Says, says_eq, says_and, says_as, says_fails}
 use Rattle.sheet_rules.specs.declared.Colour.{Colour}
@@ -23,7 +21,6 @@ use Rattle.pixel_rules.specs.Planes.{plane_start}
 use Rattle.pixel_rules.specs.Samples.{Scene, record_of, main_of}
 use Rattle.pixel_rules.specs.Content.{Content, CanHold, Possible, mask_under, image_under}
 use Rattle.pixel_rules.proofs.Places.{image_unread, mask_unread}
-use Rattle.pixel_rules.proofs.Held.{grey_holds, colour_holds}
 
 -- ---- the statements
 
@@ -67,7 +64,7 @@ module _ (l : ℕ) (i j : SamplePos) where
 -- ---- any value that the layer can hold
 
 module _ (v : Scene) (w : Content) (ok : Possible v w) (l : ℕ) (i j : SamplePos) where
-  held_free : (c : Colour) → CanHold (record_of v l) c → Freed v w l i j c
+  pub held_free : (c : Colour) → CanHold (record_of v l) c → Freed v w l i j c
   held_free c h =
       record {
         content = record { bit = w.bit; colour = value_put l i j w.colour c };
@@ -79,18 +76,6 @@ module _ (v : Scene) (w : Content) (ok : Possible v w) (l : ℕ) (i j : SamplePo
         elsewhere = put_elsewhere l i j w.colour c;
         bits = λ m p q. refl;
       }
-
-  -- three octets, whichever, where octet 17 of the layer's record is not 1
-  pub colour_free : (record_of v l).octet17 ≢ 1 → (c0 c1 c2 : ℕ) → c0 < 256 → c1 < 256 → c2 < 256 → Freed v w l i j (record { c0 = c0; c1 = c1; c2 = c2 })
-  colour_free g c0 c1 c2 h0 h1 h2 =
-      let c : Colour = record { c0 = c0; c1 = c1; c2 = c2 } in
-      held_free c ((colour_holds (record_of v l) c (ne_eqb (record_of v l).octet17 1 g)).1 (h0, h1, h2))
-
-  -- any lightness and no colour where it is 1
-  pub shade_free : (record_of v l).octet17 ≡ 1 → (n : ℕ) → n < 256 → Freed v w l i j (record { c0 = n; c1 = 128; c2 = 96 })
-  shade_free g n h =
-      let c : Colour = record { c0 = n; c1 = 128; c2 = 96 } in
-      held_free c ((grey_holds (record_of v l) c (eq-eqb (record_of v l).octet17 1 g)).1 (n, h, refl))
 
   -- both values of a mask
   pub bit_free : (b : Bool) → FreedBit v w l i j b

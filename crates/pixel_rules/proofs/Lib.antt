@@ -4,6 +4,7 @@ pub mod Rule
 pub mod Seen
 pub mod Held
 pub mod Free
+pub mod FreeColours
 pub mod Highest
 pub mod Down
 pub mod Starts
