@@ -86,19 +86,18 @@ def told(process, name):
 
 def look(process, known):
     """((process, when it began), what it proves, its seconds until now), or None. What it proves is
-    asked for once; a process that a prover has started counts to that one, which waits for it."""
+    asked for once. A prover starts others, of the same words, and each is looked at by itself."""
     if PROVER not in told(process, "cmdline").split("\0")[0]:
         return None
     numbers = told(process, "stat").rpartition(")")[2].split()
     key = process, numbers[19]
     if key not in known:
         words = told(process, "cmdline").split("\0")
-        helps = PROVER in told("/proc/" + numbers[1], "cmdline").split("\0")[0]
-        known[key] = None if helps else work_of(words, os.readlink(os.path.join(process, "cwd")))
+        known[key] = work_of(words, os.readlink(os.path.join(process, "cwd")))
     if known[key] is None:
         return None
-    # user and system time, its own and that of what it has started and waited for
-    return key, known[key], sum(map(int, numbers[11:15])) / os.sysconf("SC_CLK_TCK")
+    # user and system time, its own alone: what it has started and waited for was seen too
+    return key, known[key], sum(map(int, numbers[11:13])) / os.sysconf("SC_CLK_TCK")
 
 
 def save(path, seen):

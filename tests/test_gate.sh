@@ -116,6 +116,13 @@ gate 'processes of the prover' 0 '10 passed, 0 failed'
 said_row one '[0-9.]*[1-9][0-9.]*' 1 '[0-9.]*[1-9][0-9.]*'; said_row all of 1 '[0-9.]+' 1 '[0-9.]+'
 check "a process of another folder has no row" eval '! grep -q "^else " out'
 check "the crate, its edit, and the crate as it stands below it" [ "$(python3 tests/spent.py steps build/spent.json | grep -v '^0.0' | cut -f 2 | sort | tr '\n' ';')" = 'must-fail one/(as it stands);must-fail one/a;proof of one;' ]
+# a prover that has started another and waited for it: its seconds count once, and are those that it tells itself
+fresh; echo 'pub fn f() {}' | file crates/one/src/lib.rt; echo 'file: src/lib.rt' >crates/one/must-fail/a.edit
+file "$room/inner" <<<"\"$room/opt/bin/rattle\" -c 'end=\$((SECONDS + 3)); while [ \$SECONDS -lt \$end ]; do :; done; times >\"$room/took\"' build --crate-name one crates/one/src/lib.rt; sleep 1"
+echo "\"$room/opt/bin/rattle\" -c '. \"$room/inner\"' build --crate-name one crates/one/src/lib.rt" >stub/prove
+gate 'a prover that starts another' 0 '10 passed, 0 failed'
+took=$(head -n 1 "$room/took" | tr 'ms' '  ' | awk '{ print $2 + $4 }')
+check "$took seconds once: $(grep '^one ' out)" [ "$(awk -v took="$took" '$1 == "one" { print ($2 > 0 && $2 < 1.4 * took) }' out)" = 1 ]
 fresh; gate 'no process of the prover' 0 '10 passed, 0 failed'; said "no table of the processor's seconds: "
 fresh; echo 'raise SystemExit(5)' >tests/spent.py; gate 'a table that fails' 0 '10 passed, 0 failed'; said "no table of the processor's seconds"
 fresh; echo '[["one", "", 45.5], ["one", "a", 12.5], ["two", "", 60], ["three", "", 45], ["three", "b", 12]]' >spent.json
