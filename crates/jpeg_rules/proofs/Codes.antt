@@ -11,7 +11,6 @@ use mathlib.Core.Path.{◌≡◌, refl, sym, ap, subst, ◌∙◌}
 use mathlib.Core.Logic.{◌≢◌, inl, inr, ⊎_elim}
 use mathlib.Core.Bool.{Bool, cond}
 use mathlib.Core.List.{List, [], ◌∷◌}
-use lib.ListN.{drop}
 use Rattle.laws.proofs.Cases.{clash}
 use Rattle.laws.proofs.Says.{says_eq, says_le, says_within, says_else, says_fails}
 use Rattle.jpeg_rules.specs.declared.Class.{Class}
@@ -30,7 +29,7 @@ Coded Segment c = HasLength c
 
 -- ---- the table
 
-kind_at : List Row → ℕ → Class
+unfoldable pub kind_at : List Row → ℕ → Class
 kind_at [] n = Segment
 kind_at (row low high k ∷ rows) zero = k
 kind_at (row low high k ∷ rows) (suc n) = kind_at rows n
@@ -45,19 +44,19 @@ module _ (c : ℕ) where
   behind_row low high k rows h =
       ap (λ (b : Bool). cond b k (class_in rows c)) (says_fails (says_within low high c) (λ z. let l = z.1 in omega arith))
 
-  Lies : List Row → ℕ → Type 0
+  unfoldable pub Lies : List Row → ℕ → Type 0
   Lies [] n = Unit {0}
   Lies (row low high k ∷ rows) zero = (low ≤ c) × (c ≤ high)
   Lies (row low high k ∷ rows) (suc n) = (high < c) × Lies rows n
 
-  lies_class : (rows : List Row) (n : ℕ) → Lies rows n → class_in rows c ≡ kind_at rows n
+  pub lies_class : (rows : List Row) (n : ℕ) → Lies rows n → class_in rows c ≡ kind_at rows n
   unfolding Lies kind_at class_in
   lies_class [] n l = refl
   lies_class (row low high k ∷ rows) zero l = in_row low high k rows l.0 l.1
   lies_class (row low high k ∷ rows) (suc n) l = behind_row low high k rows l.0 ∙ lies_class rows n l.1
 
   -- each row begins where the one before it ended
-  rows_by : (P : Class → Type 0) {low high : ℕ} {k : Class} (rows : List Row) → low ≤ c → (c ≤ high → P k) → (high < c → P (class_in rows c))
+  pub rows_by : (P : Class → Type 0) {low high : ℕ} {k : Class} (rows : List Row) → low ≤ c → (c ≤ high → P k) → (high < c → P (class_in rows c))
       → P (class_in (row low high k ∷ rows) c)
   rows_by P {low = low} {high = high} {k = k} rows l here on =
       ⊎_elim (λ (h : c ≤ high). subst P (sym (in_row low high k rows l h)) (here h))
@@ -89,28 +88,6 @@ coded_class c Segment (inl e) = ap class_of e
 coded_class c Segment (inr (inl e)) = ap class_of e
 coded_class c Segment (inr (inr (inl e))) = ap class_of e
 coded_class c Segment (inr (inr (inr h))) = lies_class c codes 14 (omega arith)
-
--- a code that is an octet lies in a row, and has the sentence of its class
-pub codes_by : (c : ℕ) (P : Class → Type 0) → ((k : Class) → Coded k c → P k) → (0xFF < c → P Segment) → P (class_in codes c)
-unfolding codes Lies kind_at
-codes_by c P go beyond =
-    rows_by c P (drop 1 codes) (omega arith) (λ h. go Wrong (inr (inr (inl (omega arith))))) λ l.
-    rows_by c P (drop 2 codes) l (λ h. go Alone (omega arith)) λ l.
-    rows_by c P (drop 3 codes) l (λ h. go Wrong (inr (inr (inr (inr (omega arith)))))) λ l.
-    rows_by c P (drop 4 codes) l (λ h. go Frame (omega arith)) λ l.
-    rows_by c P (drop 5 codes) l (λ h. go Segment (inl (omega arith))) λ l.
-    rows_by c P (drop 6 codes) l (λ h. go Frame (omega arith)) λ l.
-    rows_by c P (drop 7 codes) l (λ h. go Segment (inr (inl (omega arith)))) λ l.
-    rows_by c P (drop 8 codes) l (λ h. go Frame (omega arith)) λ l.
-    rows_by c P (drop 9 codes) l (λ h. go Segment (inr (inr (inl (omega arith))))) λ l.
-    rows_by c P (drop 10 codes) l (λ h. go Frame (omega arith)) λ l.
-    rows_by c P (drop 11 codes) l (λ h. go Wrong (inl (omega arith))) λ l.
-    rows_by c P (drop 12 codes) l (λ h. go Wrong (inr (inl (omega arith)))) λ l.
-    rows_by c P (drop 13 codes) l (λ h. go End (omega arith)) λ l.
-    rows_by c P (drop 14 codes) l (λ h. go Scan (omega arith)) λ l.
-    rows_by c P (drop 15 codes) l (λ h. go Segment (inr (inr (inr (omega arith))))) λ l.
-    rows_by c P (drop 16 codes) l (λ h. go Wrong (inr (inr (inr (inl (omega arith)))))) λ l.
-    subst P (sym (lies_class c [] 0 tt)) (beyond l)
 
 -- a code has one sentence
 pub coded_once : (c : ℕ) (j k : Class) → Coded j c → Coded k c → j ≡ k

@@ -1,5 +1,6 @@
 pub mod Grey
 pub mod Codes
+pub mod CodesBy
 pub mod CodesBack
 pub mod Leaves
 pub mod Runs
