@@ -45,6 +45,7 @@ fn lines_of(w: Lane, y: usize) -> usize
 }
 
 // Of g lines from y on, those in which layer l has one row; layer 2 may have another in each.
+#[tactic(auto, using(crate::proofs::Laws::fewering))]
 fn fewer(lanes: &[usize], l: usize, y: usize, g: usize) -> usize
     requires { (1 ≤ l) × (l * lane_size ≤ length lanes.now) × (1 ≤ g) × LaneFits (lane_at lanes.now l) }
     ensures { Fewer lanes.now l y g result }

@@ -30,6 +30,7 @@ pub fn no_planes() -> Listing
 }
 
 // One entry more, after those that are there.
+#[tactic(auto, using(crate::proofs::Laws::plane_kept, crate::proofs::Laws::plane_passed))]
 pub fn with_plane(list: Listing, p: Plane) -> Listing
     ensures { result ≡ with_plane list p }
 {
