@@ -1,4 +1,3 @@
--- src/lib.rt:53:33
 use Rattle.band_group.proofs.Rows.{bit_put}
 use Rattle.band_group.proofs.give_bit.Goals as goal
 

@@ -1,4 +1,3 @@
--- src/lib.rt:94:5
 use Rattle.band_group.proofs.Lines.{next_sample, two_lines, part_long, lines_mixed}
 use native.Mathlib.Omega.{arith}
 use native.Mathlib.Nat.{zero-mul, one-mul}

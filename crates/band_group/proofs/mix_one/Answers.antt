@@ -1,4 +1,3 @@
--- src/lib.rt:71:36
 use Rattle.band_group.proofs.Lines.{one_mixed}
 use Rattle.band_group.proofs.mix_one.Goals as goal
 

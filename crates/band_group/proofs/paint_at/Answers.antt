@@ -1,4 +1,3 @@
--- src/lib.rt:31:14
 use Rattle.band_group.proofs.Lines.{at_room, at_painted}
 use borrow.Author.Rules.{rules}
 use Rattle.band_group.proofs.paint_at.Goals as goal

@@ -1,4 +1,3 @@
--- src/lib.rt:77:5
 use Rattle.band_group.proofs.Rows.{two_rows, put_fits, put_plain, bit_painted}
 use Rattle.band_group.proofs.paint_bit.Goals as goal
 

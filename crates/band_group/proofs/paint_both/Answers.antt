@@ -1,4 +1,3 @@
--- src/lib.rt:101:5
 use Rattle.band_group.proofs.Rows.{put_fits, put_plain, both_painted}
 use native.Mathlib.Omega.{arith}
 use Rattle.band_group.proofs.paint_both.Goals as goal

@@ -1,4 +1,3 @@
--- src/lib.rt:180:9
 use Rattle.band_group.proofs.Rows.{group_put, both_room}
 use Rattle.band_group.proofs.put_group.Goals as goal
 

@@ -1,4 +1,3 @@
--- src/lib.rt:82:17
 use mathlib.Core.Path.{refl}
 use native.Mathlib.Omega.{arith}
 use native.Mathlib.Nat.{one-mul}

@@ -1,4 +1,3 @@
--- src/lib.rt:149:40
 use native.Mathlib.Omega.{arith}
 use Rattle.band_lines.proofs.Laws.{rows_again, rows_fit}
 use Rattle.band_lines.proofs.put_some.Goals as goal

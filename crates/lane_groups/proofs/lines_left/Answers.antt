@@ -1,4 +1,3 @@
--- src/lib.rt:22:9
 use Rattle.lane_groups.proofs.Laws.{leaving, left_one, left_some}
 use Rattle.lane_groups.proofs.lines_left.Goals as goal
 

@@ -1,4 +1,3 @@
--- src/lib.rt:36:16
 use Rattle.lane_groups.proofs.Laws.{lining, same_sample_lem}
 use Rattle.lane_groups.proofs.lines_of.Goals as goal
 

@@ -1,4 +1,3 @@
--- src/lib.rt:80:9
 use Rattle.lane_groups.proofs.Laws.{steadies}
 use Rattle.lane_groups.proofs.steady.Goals as goal
 

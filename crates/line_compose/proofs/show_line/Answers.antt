@@ -1,4 +1,3 @@
--- src/lib.rt:28:49
 use Rattle.line_compose.proofs.Laws.{showing}
 use Rattle.line_compose.proofs.show_line.Goals as goal
 

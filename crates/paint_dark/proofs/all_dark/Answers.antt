@@ -1,4 +1,3 @@
--- src/lib.rt:64:40
 use Rattle.paint_dark.proofs.Laws.{losing}
 use Rattle.paint_dark.proofs.all_dark.Goals as goal
 

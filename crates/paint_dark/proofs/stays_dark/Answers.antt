@@ -1,4 +1,3 @@
--- src/lib.rt:15:12
 use Rattle.paint_dark.proofs.Laws.{darkening}
 use Rattle.paint_dark.proofs.stays_dark.Goals as goal
 
