@@ -43,9 +43,6 @@ overflow_add-b-in-loop-x c = search pairings
 pub overflow_mul-b-in-loop-x : goal.overflow_mul-b-in-loop-x
 overflow_mul-b-in-loop-x c = search pairings
 
-pub bounds-k-x : goal.bounds-k-x
-bounds-k-x c = search pairings
-
 pub either-requires-in-loop-x : goal.either-requires-in-loop-x
 either-requires-in-loop-x c = search pairings
 

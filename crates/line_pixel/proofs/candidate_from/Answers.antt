@@ -6,9 +6,6 @@ use Rattle.line_pixel.proofs.candidate_from.Goals as goal
 pub loop-j-init : goal.loop-j-init
 loop-j-init c = (omega arith, refl)
 
-pub overflow_mul-j : goal.overflow_mul-j
-overflow_mul-j c = search leading
-
 pub row_at-requires : goal.row_at-requires
 row_at-requires c = search leading
 
