@@ -1,11 +1,12 @@
-// What a call answers. A refusal holds its place: the octet of the page, or the record or list entry, at fault. The three refusals whose place is
-// always 0 hold none, so that no other can be given them.
+// What a call answers: the records or octets written, or the length of the part handed out; or its refusal.
 #![tactic(auto)]
 
+pub type Answer = Result<u64, Refusal>;
+
+// A refusal holds its place: the octet of the page, or the record or list entry, at fault. The three refusals whose place is always 0 hold none, so that no
+// other can be given them.
 #[derive(Clone, Copy)]
-pub enum Answer {
-    // The work was done; the records or octets written, or the length of the part handed out.
-    Done(u64),
+pub enum Refusal {
     // A field, or coded data, does not fit whole.
     Short(u32),
     // A page marker or an ident that is due is not there.

@@ -13,8 +13,8 @@ use mir.Val.{Fits}
 use mir.Syntax.{w64}
 use borrow.Author.Rules.{rules}
 use Rattle.octets.specs.Octets.{put_at}
-use Rattle.answers.specs.declared.Answer.{Answer}
-use Rattle.answers.specs.declared.Answer.TheVariants.{Done, NoRoom}
+use Rattle.answers.specs.Answers.{Answer}
+use Rattle.answers.specs.declared.Refusal.TheVariants.{NoRoom}
 use Rattle.sheet_rules.specs.declared.Colour.{Colour}
 use Rattle.sheet_rules.specs.declared.Extent.{Extent}
 use Rattle.sheet_rules.specs.declared.Record.{Record}
@@ -25,8 +25,8 @@ use Rattle.band_rules.specs.Band.{band_lines, band_size, band_answer, band_of, b
 use Rattle.band_rules.proofs.Bands.{bands_first}
 use Rattle.line_planes.specs.declared.Listing.{Listing}
 use Rattle.line_planes.specs.Listing.{listing_of}
-use Rattle.line_verdict.specs.declared.Ruled.{Ruled}
-use Rattle.line_verdict.specs.declared.Ruled.TheVariants.{Shows, Refused}
+use Rattle.std.specs.Prelude.{Result, Ok, Err}
+use Rattle.answers.specs.declared.Refusal.{Refusal}
 use Rattle.line_verdict.specs.Ruled.{list_from, ruled_of}
 use Rattle.line_compose.specs.Composing.{scene_from, Showable}
 use Rattle.line_compose.proofs.Laws.{shown_place, shown_wide, ruled_refused, ruled_shown, line_shown, listed_first}
@@ -60,30 +60,30 @@ module _ (s : List ℕ) (extent : Extent) (t : Listing) (d : List ℕ) (g : Show
     pub band_fits : (room : ℕ) → size ≤ room → LinesFit (scene_from s extent t d) width room
     band_fits room h = record { shown = g; wide = shown_wide s extent t d 0 g second width es ew; fits = subst (λ (n : ℕ). n ≤ room) size_is h }
 
-    pub band_no_room : (u : Colour) (out : List ℕ) → length out < size → Banded (scene_from s extent t d) u out NoRoom out
+    pub band_no_room : (u : Colour) (out : List ℕ) → length out < size → Banded (scene_from s extent t d) u out (Err NoRoom) out
     unfolding band_answer band_holds
     band_no_room u out h =
         let z = lt-ltb (length out) (band_size (scene_from s extent t d)) (subst (λ (n : ℕ). length out < n) size_is h) in
         record { answers = rw z refl; holds = rw z refl }
 
-    pub band_done : (u : Colour) (out e : List ℕ) → size ≤ length out → e ≡ put_at out 0 (band_lines u (scene_from s extent t d) extent.height) → Banded (scene_from s extent t d) u out (Done size) e
+    pub band_done : (u : Colour) (out e : List ℕ) → size ≤ length out → e ≡ put_at out 0 (band_lines u (scene_from s extent t d) extent.height) → Banded (scene_from s extent t d) u out (Ok size) e
     unfolding band_answer band_holds
     band_done u out e h ee =
         let z = le-ltb (length out) (band_size (scene_from s extent t d)) (subst (λ (n : ℕ). n ≤ length out) size_is h) in
-        record { answers = rw z (ap Done size_is); holds = rw z ee }
+        record { answers = rw z (ap Ok size_is); holds = rw z ee }
 
 pub ruleset showing = (rules, band_place, band_no_room, band_fits, band_done)
 
 -- ---- after the verdict
 
-module _ (s : List ℕ) (t : Listing) (part : Bool) (d : List ℕ) (k : ℕ) (r : Ruled) (e : r ≡ ruled_of (ruling_of s (list_from t part) d k 0)) where
-  pub band_refused : (u : Colour) (a : Answer) (out : List ℕ) → r ≡ Refused a → Bands s (list_from t part) d k u out a out
+module _ (s : List ℕ) (t : Listing) (part : Bool) (d : List ℕ) (k : ℕ) (r : Result Extent Refusal) (e : r ≡ ruled_of (ruling_of s (list_from t part) d k 0)) where
+  pub band_refused : (u : Colour) (a : Refusal) (out : List ℕ) (x : Answer) → r ≡ Err a → x ≡ Err a → Bands s (list_from t part) d k u out x out
   unfolding band_of band_into band_answer band_holds
-  band_refused u a out z =
+  band_refused u a out x z w =
       let q = ruled_refused s t part d k 0 r e a z in
-      record { answers = sym (ap (band_answer (length out)) q); holds = sym (ap (band_holds u out) q) }
+      record { answers = w ∙ sym (ap (band_answer (length out)) q); holds = sym (ap (band_holds u out) q) }
 
-  pub band_composed : (extent : Extent) (u : Colour) (out : List ℕ) (a : Answer) (f : List ℕ) → r ≡ Shows extent → Banded (scene_from s extent t d) u out a f → Bands s (list_from t part) d k u out a f
+  pub band_composed : (extent : Extent) (u : Colour) (out : List ℕ) (a : Answer) (f : List ℕ) → r ≡ Ok extent → Banded (scene_from s extent t d) u out a f → Bands s (list_from t part) d k u out a f
   unfolding band_of band_into
   band_composed extent u out a f z c =
       let q = ruled_shown s t part d k 0 r e extent z in

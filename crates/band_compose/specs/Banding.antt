@@ -2,7 +2,7 @@
 --
 --   Banded     the answer and the buffer after the ruling that shows the scene, u being the unseen colour
 use Rattle.std.specs.Prelude.{ℕ, ◌≡◌, List, length}
-use Rattle.answers.specs.declared.Answer.{Answer}
+use Rattle.answers.specs.Answers.{Answer}
 use Rattle.sheet_rules.specs.declared.Colour.{Colour}
 use Rattle.pixel_rules.specs.Samples.{Scene}
 use Rattle.picture_rules.specs.Line.{shows}

@@ -8,9 +8,8 @@ ghost use Rattle.line_verdict.specs.Ruled.{list_from};
 ghost use Rattle.line_compose.specs.Composing.{scene_from, Showable};
 ghost use Rattle.band_compose.specs.Banding.{Banded};
 
-use answers::Answer;
+use answers::{Answer, Refusal};
 use line_planes::{Listing, PLANE_SIZE};
-use line_verdict::Ruled;
 use sheet_rules::{Colour, Extent};
 
 // Four octets a pixel, width by height.
@@ -37,13 +36,13 @@ pub fn show_band(
     let width = octets_get::wide16(second.width);
     let size = band_size(width, extent.height as usize);
     if out.len() < size {
-        return Answer::NoRoom;
+        return Err(Refusal::NoRoom);
     }
     band_lines::put_lines(out, sheet, extent, list, samples, width, unseen);
-    Answer::Done(size as u64)
+    Ok(size as u64)
 }
 
-// A band of a stripe by its number, the plane list being parallel numbers. The stripe is ruled as its line 0 is.
+// A band of a stripe by its number, the plane list held by value. The stripe is ruled as its line 0 is.
 pub fn compose_band(
     sheet: &[u8],
     list: Listing,
@@ -55,10 +54,8 @@ pub fn compose_band(
 ) -> Answer
     ensures { Bands sheet.now (list_from list part) samples.now stripe unseen out.old result out.new }
 {
-    match line_verdict::judge_line(sheet, list, part, samples, stripe, 0) {
-        Ruled::Refused(a) => a,
-        Ruled::Shows(extent) => show_band(sheet, extent, list, samples, unseen, out),
-    }
+    let extent = line_verdict::judge_line(sheet, list, part, samples, stripe, 0)?;
+    show_band(sheet, extent, list, samples, unseen, out)
 }
 
 // The same for a plane list in octets, as C lends it.

@@ -17,7 +17,7 @@ use Rattle.octets.specs.Octets.{put_at}
 use Rattle.octets.proofs.Laws.{put_length, put_get_d, put_get_d_before, put_get_d_after}
 use Rattle.sheet_rules.specs.declared.Colour.{Colour}
 use Rattle.pixel_rules.specs.declared.MainPos.{MainPos}
-use Rattle.pixel_rules.specs.declared.Sample.{Sample}
+use Rattle.std.specs.Prelude.{Option}
 use Rattle.pixel_rules.specs.Decide.{decide}
 use Rattle.picture_rules.specs.Line.{four_of, pixels}
 use Rattle.picture_rules.proofs.Fours.{length_pixels}
@@ -85,7 +85,7 @@ module _ (out : List ℕ) (first n : ℕ) (h : (first + n) * 4 ≤ length out) w
       → Coated (over (row_four u s d ns pairs first)) out first (first + n) (take (first * 4) out ++ (e ++ drop (length out - first * 4) (drop (first * 4) out)))
   unfolding row_four
   at_painted u s d ns pairs e q =
-      let f : MainPos → Sample = λ (x : MainPos). decide (row_stack s d ns x) pairs in
+      let f : MainPos → Option Colour = λ (x : MainPos). decide (row_stack s d ns x) pairs in
       let l = length_pixels u f n in
       coated_line (row_four u s d ns pairs first) out (pixels u f n) (take (first * 4) out ++ (e ++ drop (length out - first * 4) (drop (first * 4) out))) first n l h
       (ap (λ (a : List ℕ). take (first * 4) out ++ (a ++ drop (length out - first * 4) (drop (first * 4) out))) q ∙ part_back out (first * 4) (pixels u f n) (omega arith))

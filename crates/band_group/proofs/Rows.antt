@@ -16,7 +16,7 @@ use Rattle.laws.proofs.Says.{says_eq, says_lt, says_else}
 use Rattle.octets.specs.Octets.{put_at}
 use Rattle.octets.proofs.Laws.{put_length, put_take, put_rest, put_get_d, put_get_d_before, put_get_d_after}
 use Rattle.sheet_rules.specs.declared.Colour.{Colour}
-use Rattle.pixel_rules.specs.declared.Sample.{Sample}
+use Rattle.std.specs.Prelude.{Option}
 use Rattle.pixel_rules.specs.declared.Mask.{Mask}
 use Rattle.pixel_rules.specs.Decide.{Stack, pair_step, decide}
 use Rattle.picture_rules.specs.Line.{four_of}
@@ -179,7 +179,7 @@ decide_above st ot j (suc n) h e f g =
     ⊎_elim
     (λ (z : j < suc n).
     ap (λ (o : Mask). pair_step o (decide st n) (st.image (suc n))) (f (suc n) z)
-    ∙ ap₂ (λ (p q : Sample). pair_step (ot.mask (suc n)) p q) (decide_above st ot j n (omega arith) e f g) (g (suc n) z))
+    ∙ ap₂ (λ (p q : Option Colour). pair_step (ot.mask (suc n)) p q) (decide_above st ot j n (omega arith) e f g) (g (suc n) z))
     (λ (z : j < suc n → ⊥). let y : j ≡ suc n = omega arith in subst (λ (m : ℕ). decide st m ≡ decide ot m) y e)
     (says_else (says_lt j (suc n)))
 
@@ -230,7 +230,7 @@ module _ (u : Colour) (s d ns : List ℕ) (pairs first width c : ℕ) (fit : Row
 
 module _ (u : Colour) (s d ns : List ℕ) (pairs at step first width c g : ℕ) (fit : RowsFit s d ns pairs) (some : 1 ≤ pairs) (two : 2 ≤ g) (k : c ≤ width) (tail : Tail ns pairs width c)
     (l p e : List ℕ) (f : BothPainted u s d ns pairs first width c l p) (m : Coated (over (mixed_four p d at step first width c)) p first (first + g * width) e) where
-  abbrev sample : ℕ → ℕ → Sample
+  abbrev sample : ℕ → ℕ → Option Colour
   sample n x = decide (row_stack s d (bit_rows ns n) (record { 0 = x })) pairs
 
   both : (b : Bool) (x : ℕ) → sample 0 x ≡ sample 1 x → four_of u (sample 0 x) ≡ cond b (four_of u (sample 0 x)) (four_of u (sample 1 x))

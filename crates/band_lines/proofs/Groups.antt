@@ -11,7 +11,8 @@ use lib.ListN.{length, get_or}
 use lib.Dec.{eqb}
 use borrow.Author.Tests.{eq-eqb, ne_eqb}
 use Rattle.laws.proofs.Says.{says_eq, says_else}
-use Rattle.pixel_rules.specs.declared.Sample.{Sample}
+use Rattle.std.specs.Prelude.{Option}
+use Rattle.sheet_rules.specs.declared.Colour.{Colour}
 use Rattle.pixel_rules.specs.declared.Mask.{Mask}
 use Rattle.pixel_rules.specs.Place.{scale}
 use Rattle.pixel_rules.specs.Samples.{bit_of}
@@ -34,7 +35,7 @@ unfolding decide
 decide_same st ot zero f g = g 0 (omega arith)
 decide_same st ot (suc n) f g =
     ap (λ (o : Mask). pair_step o (decide st n) (st.image (suc n))) (f (suc n) (omega arith) (omega arith))
-    ∙ ap₂ (λ (p q : Sample). pair_step (ot.mask (suc n)) p q) (decide_same st ot n (λ j a b. f j a (omega arith)) (λ j a. g j (omega arith))) (g (suc n) (omega arith))
+    ∙ ap₂ (λ (p q : Option Colour). pair_step (ot.mask (suc n)) p q) (decide_same st ot n (λ j a b. f j a (omega arith)) (λ j a. g j (omega arith))) (g (suc n) (omega arith))
 
 -- ---- layer 2 in each line
 

@@ -14,7 +14,7 @@ use Rattle.octets.specs.Octets.{put_at}
 use Rattle.sheet_rules.specs.declared.Colour.{Colour}
 use Rattle.sheet_rules.specs.declared.Extent.{Extent}
 use Rattle.pixel_rules.specs.declared.MainPos.{MainPos}
-use Rattle.pixel_rules.specs.declared.Sample.{Sample}
+use Rattle.std.specs.Prelude.{Option}
 use Rattle.pixel_rules.specs.Planes.{PlaneList}
 use Rattle.pixel_rules.specs.Samples.{Scene, width_of}
 use Rattle.pixel_rules.specs.Decide.{decide, pixel_at}
@@ -144,7 +144,7 @@ module _ (s : List ℕ) (extent : Extent) (t : Listing) (d ns : List ℕ) (width
       two_rows : 2 * row_size ≤ length rows
       two_rows = let f = ((line_fits y h base r rows e).pair 1 (omega arith) (let q = layers_three in omega arith)).room in omega arith
 
-      abbrev sample : ℕ → ℕ → Sample
+      abbrev sample : ℕ → ℕ → Option Colour
       sample v x = decide (row_stack s d (bit_rows rows v) (record { 0 = x })) (extent.layers / 2)
 
       -- of column x in line q
@@ -158,7 +158,7 @@ module _ (s : List ℕ) (extent : Extent) (t : Listing) (d ns : List ℕ) (width
           (group_pixel s d ns rows line extent.layers y most n width q x k o two_rows a b (row_is y h base r rows e) (row_is (y + q) (omega arith) base r line refl) layers_three layers_odd)
           ∙ line_four (y + q) (omega arith) base r line refl u x b
         where
-          by : (p low up : Sample) (z : Bool) → p ≡ cond z low up → cond z (four_of u low) (four_of u up) ≡ four_of u p
+          by : (p low up : Option Colour) (z : Bool) → p ≡ cond z low up → cond z (four_of u low) (four_of u up) ≡ four_of u p
           by p low up true i = ap (four_of u) (sym i)
           by p low up false i = ap (four_of u) (sym i)
 

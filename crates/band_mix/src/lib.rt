@@ -13,11 +13,9 @@ pub fn copy_line(out: &mut [u8], a: usize, t: usize, n: usize)
     requires { (a + n ≤ t) × ((t + n) * 4 ≤ length out.old) }
     ensures { Coated (over (copied_from out.old a t)) out.old t (t + n) out.new }
 {
-    let mut x = 0;
-    while x < n {
+    for x in 0..n {
         let w = paint_words::word(out, (a + x) * 4);
         paint_words::put_word(out, (t + x) * 4, w);
-        x += 1;
     }
 }
 
@@ -26,12 +24,10 @@ fn mix_few(out: &mut [u8], a: usize, b: usize, t: usize, m: &[u8], p: usize, q: 
     requires { (p ≤ q) × (a + q ≤ t) × (b + q ≤ t) × ((t + q) * 4 ≤ length out.old) × (q ≤ length m.now) }
     ensures { Coated (over (mixed_from out.old m.now a b t)) out.old (t + p) (t + q) out.new }
 {
-    let mut x = p;
-    while x < q {
+    for x in p..q {
         let low = paint_words::word(out, (a + x) * 4);
         let up = paint_words::word(out, (b + x) * 4);
         paint_words::put_word(out, (t + x) * 4, paint_words::either(m[x], low, up));
-        x += 1;
     }
 }
 
@@ -66,7 +62,7 @@ fn mix_step(out: &mut [u8], a: usize, b: usize, t: usize, m: &[u8], x: usize, n:
         return n;
     }
     if paint_blocks::uniform(m, x) {
-        let i = paint_blocks::place(m[x], a, b);
+        let i = paint_words::pick(m[x], a, b);
         copy_block(out, t + x, i + x);
         return x + BLOCK;
     }
@@ -92,13 +88,11 @@ fn two_few(out: &mut [u8], a: usize, b: usize, m: &[u8], k: &[u8], p: usize, q: 
     requires { (p ≤ q) × (a + q ≤ b) × ((b + q) * 4 ≤ length out.old) × (q ≤ length m.now) × (q ≤ length k.now) }
     ensures { TwoPart m.now k.now a b p q out.old out.new }
 {
-    let mut x = p;
-    while x < q {
+    for x in p..q {
         let low = paint_words::word(out, (a + x) * 4);
         let up = paint_words::word(out, (b + x) * 4);
         paint_words::put_word(out, (a + x) * 4, paint_words::either(m[x], low, up));
         paint_words::put_word(out, (b + x) * 4, paint_words::either(k[x], low, up));
-        x += 1;
     }
 }
 
@@ -155,8 +149,8 @@ fn two_step(out: &mut [u8], a: usize, b: usize, m: &[u8], k: &[u8], x: usize, n:
         return n;
     }
     if paint_blocks::uniform(m, x) & paint_blocks::uniform(k, x) {
-        let i = paint_blocks::place(m[x], a, b);
-        let j = paint_blocks::place(k[x], a, b);
+        let i = paint_words::pick(m[x], a, b);
+        let j = paint_words::pick(k[x], a, b);
         both_block(out, a + x, b + x, i + x, j + x);
         return x + BLOCK;
     }

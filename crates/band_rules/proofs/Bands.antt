@@ -1,6 +1,7 @@
 -- A band is the lines of its stripe, one behind the other, as the line call puts them, and it is nothing else. The statement is `LineByLine` of
 -- specs/Sentences.antt.
 -- Assumes nothing.
+use Rattle.std.specs.Prelude.{Ok}
 use Prim.Native.Nat.{ℕ, ◌+◌, ◌*◌, ◌≤◌, ◌<◌}
 use native.Mathlib.Omega.{arith}
 use mathlib.Core.Path.{◌≡◌, refl, sym, ap, ap₂, subst, ◌∙◌}
@@ -14,8 +15,7 @@ use borrow.Author.Tests.{ltb-false}
 use Rattle.laws.proofs.Cases.{cond_with, cond_both, clash}
 use Rattle.octets.specs.Octets.{put_at}
 use Rattle.octets.proofs.Laws.{put_rest, put_length}
-use Rattle.answers.specs.declared.Answer.{Answer}
-use Rattle.answers.specs.declared.Answer.TheVariants.{Done}
+use Rattle.answers.specs.Answers.{Answer}
 use Rattle.sheet_rules.specs.declared.Colour.{Colour}
 use Rattle.sheet_rules.specs.Sentences.{Accepted}
 use Rattle.pixel_rules.specs.declared.Plane.{Plane}
@@ -57,15 +57,15 @@ module _ (s : List ℕ) (pl : PlaneList) (d : List ℕ) (k : ℕ) (u : Colour) (
   abbrev high : ℕ
   high = scene.extent.height
 
-  done_band : (n : ℕ) → band_of s pl d k (length out) ≡ Done n → DoneBand s pl d k u out n
+  done_band : (n : ℕ) → band_of s pl d k (length out) ≡ Ok n → DoneBand s pl d k u out n
   unfolding band_of band_answer band_into band_holds
   done_band n =
-      band_cases s pl d k (λ r. ruling_of s pl d k 0 ≡ r → band_answer (length out) r ≡ Done n → DoneBand s pl d k u out n)
+      band_cases s pl d k (λ r. ruling_of s pl d k 0 ≡ r → band_answer (length out) r ≡ Ok n → DoneBand s pl d k u out n)
       (λ i b e q. clash cc)
       (λ a b e q. clash cc)
       (λ a b i f e q. clash cc)
       (λ a b f e.
-      cond_both (λ x z. band_holds u out (shows scene) ≡ z → x ≡ Done n → DoneBand s pl d k u out n) (ltb (length out) (band_size scene))
+      cond_both (λ x z. band_holds u out (shows scene) ≡ z → x ≡ Ok n → DoneBand s pl d k u out n) (ltb (length out) (band_size scene))
       (λ t h q. clash cc)
       (λ t h q.
       let z : band_size scene ≡ n = cc in
@@ -80,7 +80,7 @@ module _ (s : List ℕ) (pl : PlaneList) (d : List ℕ) (k : ℕ) (u : Colour) (
       → take (line_size scene) (line_into s pl d k y u buffer) ≡ line_pixels u scene y
   unfolding put_at
   line_put y a h f buffer l =
-      let q = (line_exactly s pl d k y (length buffer) (Done (line_size scene))).1 (lined a h f refl l) in
+      let q = (line_exactly s pl d k y (length buffer) (Ok (line_size scene))).1 (lined a h f refl l) in
       ap (take (line_size scene)) (done_line s pl d k y u buffer (line_size scene) q).into
       ∙ take_at (line_pixels u scene y) (drop (0 + length (line_pixels u scene y)) buffer) (line_size scene) (length_line u scene y)
 
@@ -97,7 +97,7 @@ module _ (s : List ℕ) (pl : PlaneList) (d : List ℕ) (k : ℕ) (u : Colour) (
 
   -- ---- the theorem, both ways
 
-  band_lines_lem : (n : ℕ) → band_of s pl d k (length out) ≡ Done n → LineByLine s pl d k u out n (band_into s pl d k u out)
+  band_lines_lem : (n : ℕ) → band_of s pl d k (length out) ≡ Ok n → LineByLine s pl d k u out n (band_into s pl d k u out)
   band_lines_lem n q =
       let b = done_band n q in
       let m = b.size in
@@ -117,7 +117,7 @@ module _ (s : List ℕ) (pl : PlaneList) (d : List ℕ) (k : ℕ) (u : Colour) (
         same = ap length b.into ∙ put_length out 0 (band_lines u scene high) (omega arith);
       }
 
-  lines_band : (n : ℕ) (e : List ℕ) → LineByLine s pl d k u out n e → Bands s pl d k u out (Done n) e
+  lines_band : (n : ℕ) (e : List ℕ) → LineByLine s pl d k u out n e → Bands s pl d k u out (Ok n) e
   unfolding put_at
   lines_band n e g =
       let q = (band_done s pl d k (length out) (length out + line_size scene) (omega arith) n).1 (g.lined (length out + line_size scene) (omega arith), g.size, g.room) in
@@ -138,18 +138,18 @@ module _ (s : List ℕ) (pl : PlaneList) (d : List ℕ) (k : ℕ) (u : Colour) (
         holds = sym (take-append-drop n e) ∙ ap₂ (λ (a c : List ℕ). a ++ c) front (g.past ∙ ap (λ (x : ℕ). drop x out) i) ∙ sym b.into;
       }
 
-  pub bands_lines : (n : ℕ) (e : List ℕ) → Bands s pl d k u out (Done n) e ↔ LineByLine s pl d k u out n e
+  pub bands_lines : (n : ℕ) (e : List ℕ) → Bands s pl d k u out (Ok n) e ↔ LineByLine s pl d k u out n e
   bands_lines n e = (λ b. subst (LineByLine s pl d k u out n) (sym b.holds) (band_lines_lem n (sym b.answers)), lines_band n e)
 
   -- ---- a refusal changes nothing, and the buffer's length stays in any case
 
-  pub refused_band : ((n : ℕ) → band_of s pl d k (length out) ≡ Done n → ⊥) → band_into s pl d k u out ≡ out
+  pub refused_band : ((n : ℕ) → band_of s pl d k (length out) ≡ Ok n → ⊥) → band_into s pl d k u out ≡ out
   unfolding band_of band_answer band_into band_holds
   refused_band = by (ruling_of s pl d k 0)
     where
-      by : (r : Ruling) → ((n : ℕ) → band_answer (length out) r ≡ Done n → ⊥) → band_holds u out r ≡ out
+      by : (r : Ruling) → ((n : ℕ) → band_answer (length out) r ≡ Ok n → ⊥) → band_holds u out r ≡ out
       by (shows v) =
-          cond_both (λ x z. ((n : ℕ) → x ≡ Done n → ⊥) → z ≡ out) (ltb (length out) (band_size v)) (λ t h. refl) (λ t h. absurd (h (band_size v) refl))
+          cond_both (λ x z. ((n : ℕ) → x ≡ Ok n → ⊥) → z ≡ out) (ltb (length out) (band_size v)) (λ t h. refl) (λ t h. absurd (h (band_size v) refl))
       by (refused a) = λ h. refl
 
   pub band_length : length (band_into s pl d k u out) ≡ length out
@@ -178,7 +178,7 @@ four_shared l r m x e h = part l ∙ ap₂ (λ (p q : List ℕ). drop (length p)
     upto : (n : ℕ) → n ≤ m → take n l ≡ take n r
     upto n b = sym (take-take n m l b) ∙ ap (take n) e ∙ take-take n m r b
 
-module _ (s : List ℕ) (pl : PlaneList) (d : List ℕ) (k : ℕ) (u : Colour) (out : List ℕ) (n : ℕ) (e : List ℕ) (b : Bands s pl d k u out (Done n) e) where
+module _ (s : List ℕ) (pl : PlaneList) (d : List ℕ) (k : ℕ) (u : Colour) (out : List ℕ) (n : ℕ) (e : List ℕ) (b : Bands s pl d k u out (Ok n) e) where
   -- pixel x of line y is four octets, y lines and x pixels down, and says what every content of the unread layers gives there
   pub bands_pixels : (y x : ℕ) → y < (scene_of s pl d k).extent.height → x < width_of (scene_of s pl d k)
       → Tells u (scene_of s pl d k) y x (four_at e (y * width_of (scene_of s pl d k) + x))
@@ -188,7 +188,7 @@ module _ (s : List ℕ) (pl : PlaneList) (d : List ℕ) (k : ℕ) (u : Colour) (
       let f = g.room in
       let z = size_lines (scene_of s pl d k) in
       let w = lines_below y (scene_of s pl d k).extent.height (line_size (scene_of s pl d k)) hy in
-      let q = (line_exactly s pl d k y (length out) (Done (line_size (scene_of s pl d k)))).1 (lined g.accepted (record { stripe = g.stripe; line = hy }) g.listed refl (omega arith)) in
+      let q = (line_exactly s pl d k y (length out) (Ok (line_size (scene_of s pl d k)))).1 (lined g.accepted (record { stripe = g.stripe; line = hy }) g.listed refl (omega arith)) in
       let j : (y * width_of (scene_of s pl d k) + x) * 4 ≡ y * line_size (scene_of s pl d k) + x * 4 = omega arith in
       let c : four_at e (y * width_of (scene_of s pl d k) + x) ≡ four_at (line_into s pl d k y u out) x =
       ap (λ (i : ℕ). take 4 (drop i e)) j

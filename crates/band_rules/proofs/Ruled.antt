@@ -9,9 +9,9 @@ use lib.ListN.{length}
 use lib.Dec.{lit≤}
 use borrow.Author.Tests.{lt-ltb}
 use Rattle.laws.proofs.Says.{says_lt, says_else}
-use Rattle.answers.specs.declared.Answer.TheVariants.{BadSheet, BadLine, BadPlane}
-use Rattle.sheet_rules.specs.declared.Verdict.{Verdict}
-use Rattle.sheet_rules.specs.declared.Verdict.TheVariants.{Good}
+use Rattle.answers.specs.declared.Refusal.TheVariants.{BadSheet, BadLine, BadPlane}
+use Rattle.std.specs.Prelude.{Result, Ok, Err}
+use Rattle.sheet_rules.specs.declared.Counts.{Counts}
 use Rattle.sheet_rules.specs.Record.{records, nth}
 use Rattle.sheet_rules.specs.Judge.{judge_of}
 use Rattle.sheet_rules.specs.Sentences.{stripe_count, Accepted, BadSheetAt}
@@ -27,7 +27,7 @@ use Rattle.band_rules.specs.Sentences.{HasStripe}
 
 -- ---- every stripe has a line 0
 
-pub accepted_good : (s : List ℕ) → Accepted s → judge_of s ≡ Good (length (records s)) (stripe_count (records s))
+pub accepted_good : (s : List ℕ) → Accepted s → judge_of s ≡ Ok (record { records = length (records s); stripes = stripe_count (records s) })
 accepted_good s a = (sheet_accepted s (length (records s)) (stripe_count (records s))).1 (record { sheet = a.0; whole = a.1; count = refl; stripes = refl })
 
 pub stripe_high : (s : List ℕ) (k : ℕ) → Accepted s → HasStripe s k → 0 < (extent_of k (records s)).height
@@ -62,12 +62,12 @@ module _ (s : List ℕ) (pl : PlaneList) (d : List ℕ) (k : ℕ) where
   unfolding ruling_of sheet_ruling stripe_ruling
   ruling_any_line y l = by (judge_of s) refl
     where
-      by : (x : Verdict) → judge_of s ≡ x → sheet_ruling s pl d k y x ≡ sheet_ruling s pl d k 0 x
-      by (Verdict.Refused i) g = refl
-      by (Good n m) g =
+      by : (x : Result Counts ℕ) → judge_of s ≡ x → sheet_ruling s pl d k y x ≡ sheet_ruling s pl d k 0 x
+      by (Err i) g = refl
+      by (Ok c) g =
           ⊎_elim
-          (λ (h : k < m).
+          (λ (h : k < c.stripes).
           let z : 0 < (extent_of k (records s)).height = omega arith in
-          simp (stripe_found_lem s n m g k h, lt-ltb y (extent_of k (records s)).height l, lt-ltb 0 (extent_of k (records s)).height z) refl)
-          (λ (h : k < m → ⊥). simp (stripe_missing s n m g k (omega arith)) refl)
-          (says_else (says_lt k m))
+          simp (stripe_found_lem s c.records c.stripes g k h, lt-ltb y (extent_of k (records s)).height l, lt-ltb 0 (extent_of k (records s)).height z) refl)
+          (λ (h : k < c.stripes → ⊥). simp (stripe_missing s c.records c.stripes g k (omega arith)) refl)
+          (says_else (says_lt k c.stripes))

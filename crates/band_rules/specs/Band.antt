@@ -6,10 +6,10 @@
 --   band_of             what the call answers, where the buffer holds so many octets
 --   band_into           what the buffer holds afterwards
 --   Bands              the call's promise: it answers a, and the buffer is then e
-use Rattle.std.specs.Prelude.{ℕ, zero, suc, ◌*◌, ◌≡◌, cond, List, [], ◌++◌, length, ltb}
+use Rattle.std.specs.Prelude.{ℕ, zero, suc, ◌*◌, ◌≡◌, cond, List, [], ◌++◌, length, ltb, Ok, Err}
 use Rattle.octets.specs.Octets.{put_at}
-use Rattle.answers.specs.declared.Answer.{Answer}
-use Rattle.answers.specs.declared.Answer.TheVariants.{Done, NoRoom}
+use Rattle.answers.specs.Answers.{Answer}
+use Rattle.answers.specs.declared.Refusal.TheVariants.{NoRoom}
 use Rattle.sheet_rules.specs.declared.Colour.{Colour}
 use Rattle.pixel_rules.specs.Planes.{PlaneList}
 use Rattle.pixel_rules.specs.Samples.{Scene, width_of}
@@ -26,8 +26,8 @@ band_size v = width_of v * v.extent.height * 4
 
 unfoldable pub band_answer : ℕ → Ruling → Answer
 unfolding band_size
-band_answer room (shows v) = cond (ltb room (band_size v)) NoRoom (Done (band_size v))
-band_answer room (refused a) = a
+band_answer room (shows v) = cond (ltb room (band_size v)) (Err NoRoom) (Ok (band_size v))
+band_answer room (refused r) = Err r
 
 -- ruled as line 0 is: every stripe of a good sheet has a line 0, so that BadLine means only the stripe, and its plane list is judged as for any line
 unfoldable pub band_of : List ℕ → PlaneList → List ℕ → ℕ → ℕ → Answer

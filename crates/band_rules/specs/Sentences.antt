@@ -4,10 +4,10 @@
 --   HasStripe s k         the sheet has a stripe k
 --   line_size, band_octets  four octets a pixel: of a line, and of width by height of the stripe
 --   GivesBand .. room a   the call answers a, where the buffer holds so many octets
---   LineByLine ..         what a call that answers Done n leaves: each line as a line call puts it, and the octets past the band
-use Rattle.std.specs.Prelude.{ℕ, ◌*◌, ◌≤◌, ◌<◌, ◌≡◌, List, length, take, drop}
-use Rattle.answers.specs.declared.Answer.{Answer}
-use Rattle.answers.specs.declared.Answer.TheVariants.{Done, NoRoom, BadSheet, BadPlane, BadLine}
+--   LineByLine ..         what a call that answers Ok n leaves: each line as a line call puts it, and the octets past the band
+use Rattle.std.specs.Prelude.{ℕ, ◌*◌, ◌≤◌, ◌<◌, ◌≡◌, List, length, take, drop, Ok, Err}
+use Rattle.answers.specs.Answers.{Answer}
+use Rattle.answers.specs.declared.Refusal.TheVariants.{NoRoom, BadSheet, BadPlane, BadLine}
 use Rattle.sheet_rules.specs.declared.Colour.{Colour}
 use Rattle.sheet_rules.specs.Record.{records}
 use Rattle.sheet_rules.specs.Sentences.{stripe_count, Accepted, BadSheetAt}
@@ -29,19 +29,19 @@ band_octets v = 4 * width_of v * v.extent.height
 
 -- one line for each answer that a band call gives; it gives no other
 pub data GivesBand (s : List ℕ) (pl : PlaneList) (d : List ℕ) (k room : ℕ) : Answer → Type 0 where
-  no_sheet : {i : ℕ} → BadSheetAt s i → GivesBand s pl d k room (BadSheet i)
-  no_stripe : Accepted s → (HasStripe s k → ⊥) → GivesBand s pl d k room BadLine
-  no_plane_lem : {i : ℕ} → Accepted s → HasStripe s k → PlaneAt (scene_of s pl d k) pl i → GivesBand s pl d k room (BadPlane i)
-  no_room : Accepted s → HasStripe s k → AllFine (scene_of s pl d k) pl → room < band_octets (scene_of s pl d k) → GivesBand s pl d k room NoRoom
+  no_sheet : {i : ℕ} → BadSheetAt s i → GivesBand s pl d k room (Err (BadSheet i))
+  no_stripe : Accepted s → (HasStripe s k → ⊥) → GivesBand s pl d k room (Err BadLine)
+  no_plane_lem : {i : ℕ} → Accepted s → HasStripe s k → PlaneAt (scene_of s pl d k) pl i → GivesBand s pl d k room (Err (BadPlane i))
+  no_room : Accepted s → HasStripe s k → AllFine (scene_of s pl d k) pl → room < band_octets (scene_of s pl d k) → GivesBand s pl d k room (Err NoRoom)
   banded : {n : ℕ} → Accepted s → HasStripe s k → AllFine (scene_of s pl d k) pl → n ≡ band_octets (scene_of s pl d k) → n ≤ room
-      → GivesBand s pl d k room (Done n)
+      → GivesBand s pl d k room (Ok n)
 
 -- ---- the octets
 
 -- the buffer was `out` and is `e`
 pub record LineByLine (s : List ℕ) (pl : PlaneList) (d : List ℕ) (k : ℕ) (u : Colour) (out : List ℕ) (n : ℕ) (e : List ℕ) : Type 0 where
   -- line 0 has no fault, and the band's own size fits
-  pub lined : (room : ℕ) → line_size (scene_of s pl d k) ≤ room → line_of s pl d k 0 room ≡ Done (line_size (scene_of s pl d k))
+  pub lined : (room : ℕ) → line_size (scene_of s pl d k) ≤ room → line_of s pl d k 0 room ≡ Ok (line_size (scene_of s pl d k))
   pub size : n ≡ band_octets (scene_of s pl d k)
   pub room : n ≤ length out
   -- line y stands y lines down, as the line call puts it in front of any buffer that has room

@@ -6,7 +6,7 @@
 
 ghost use Rattle.std.specs.Prelude.{◌<◌};
 
-use sheet_rules::{FoundStripe, Verdict};
+use sheet_rules::Counts;
 
 // No good verdict has this bit.
 const REFUSED: u64 = 4294967296;
@@ -22,8 +22,8 @@ fn low16(x: u64) -> u64
 #[unsafe(no_mangle)]
 pub extern "C" fn bench_judge(sheet: &[u8]) -> u64 {
     match sheet_judge::judge(sheet) {
-        Verdict::Good { records, stripes } => low16(records as u64) * 65536 + low16(stripes as u64),
-        Verdict::Refused { record } => REFUSED + low16(record as u64),
+        Ok(Counts { records, stripes }) => low16(records as u64) * 65536 + low16(stripes as u64),
+        Err(record) => REFUSED + low16(record as u64),
     }
 }
 
@@ -31,11 +31,11 @@ pub extern "C" fn bench_judge(sheet: &[u8]) -> u64 {
 #[unsafe(no_mangle)]
 pub extern "C" fn bench_find_stripe(sheet: &[u8], k: u32) -> u64 {
     match sheet_table::find_stripe(sheet, k as usize) {
-        FoundStripe::Has(extent) => {
+        Some(extent) => {
             let upper = low16(extent.first as u64) * 65536 + low16(extent.layers as u64);
             let lower = low16(extent.top as u64) * 65536 + low16(extent.height as u64);
             upper * 4294967296 + lower
         }
-        FoundStripe::NoStripe => 0,
+        None => 0,
     }
 }

@@ -15,8 +15,7 @@ use lib.ListN.{length, drop, length-append, length-drop}
 use Rattle.octets.proofs.Laws.{drop_next}
 use Rattle.sheet_rules.specs.declared.Record.{Record}
 use Rattle.sheet_rules.specs.declared.State.{State}
-use Rattle.sheet_rules.specs.declared.Step.{Step}
-use Rattle.sheet_rules.specs.declared.Step.TheVariants.{Next, Stop}
+use Rattle.std.specs.Prelude.{Option, Some, None}
 use Rattle.sheet_rules.specs.Judge.{begin, on_step, run}
 use Rattle.sheet_rules.specs.Sentences.{Among, Sheet}
 use Rattle.sheet_rules.proofs.Fold.{run_append, begun_unbroken}
@@ -32,16 +31,16 @@ pub record Ready (main width k left : ℕ) (st : State) : Type 0 where
 
 pub record Ran (main width k left height : ℕ) (st : State) (rs : List Record) : Type 0 where
   pub t : State
-  pub went : run st rs ≡ Next t
+  pub went : run st rs ≡ Some t
   pub ready : Ready main width (suc k) (left - height) t
 
-run_more : (st t : State) (ps qs : List Record) → run st ps ≡ Next t → run st (ps ++ qs) ≡ run t qs
+run_more : (st t : State) (ps qs : List Record) → run st ps ≡ Some t → run st (ps ++ qs) ≡ run t qs
 unfolding on_step
-run_more st t ps qs e = run_append st ps qs ∙ ap (λ (x : Step). on_step x Stop (λ (v : State). run v qs)) e
+run_more st t ps qs e = run_append st ps qs ∙ ap (λ (x : Option State). on_step x None (λ (v : State). run v qs)) e
 
 record Whole (st : State) (rs : List Record) : Type 0 where
   t : State
-  went : run st rs ≡ Next t
+  went : run st rs ≡ Some t
   closed : (t.layer % 2 ≡ 1) × (3 ≤ t.layer)
 
 module _ (Stripe : ℕ → ℕ → ℕ → List ℕ → ℕ → List Record → Type 0) (main width longest : ℕ)

@@ -10,8 +10,8 @@ use mathlib.Core.List.{List, [], ◌++◌, append_assoc, append-nil}
 use lib.ListN.{length, length-append}
 use lib.Dec.{eqb}
 use borrow.Author.Tests.{eqb-true, eqb-false}
-use Rattle.answers.specs.declared.Answer.{Answer}
-use Rattle.answers.specs.declared.Answer.TheVariants.{BadStripe}
+use Rattle.answers.specs.declared.Refusal.{Refusal}
+use Rattle.answers.specs.declared.Refusal.TheVariants.{BadStripe}
 use Rattle.laws.proofs.Cases.{cond_with}
 use Rattle.sheet_rules.specs.declared.Record.{Record}
 use Rattle.field_rules.specs.Field.{Res, ok, no}
@@ -97,10 +97,10 @@ module _ (Optional : List ℕ → Type 0) (Stripe : ℕ → ℕ → ℕ → List
   pub data After (k left : ℕ) (acc : List Record) (at : ℕ) : List ℕ → List Record → Type 0 where
     after : {l : List ℕ} (rs : List Record) → Turns k left at l rs → After k left acc at l (acc ++ rs)
 
-  module _ (turn : ℕ → ℕ → List ℕ → ℕ → Res Item) (Bad : ℕ → ℕ → ℕ → List ℕ → Answer → Type 0)
+  module _ (turn : ℕ → ℕ → List ℕ → ℕ → Res Item) (Bad : ℕ → ℕ → ℕ → List ℕ → Refusal → Type 0)
       (exact : (k left : ℕ) (s : List ℕ) (at : ℕ) → at ≤ length s → left ≤ 65535 → k ≤ 64 → Exact (turn k left s at) (IsItem Optional Stripe k left at) (Bad k left at) s at)
       (opens : (k left at : ℕ) (l : List ℕ) (it : Item) → IsItem Optional Stripe k left at l it → Apart end_mark l) where
-    abbrev Worst : ℕ → ℕ → ℕ → List ℕ → Answer → Type 0
+    abbrev Worst : ℕ → ℕ → ℕ → List ℕ → Refusal → Type 0
     Worst = BadBody Optional Stripe Bad
 
     -- what stands behind an item, and how it is refused there
@@ -108,7 +108,7 @@ module _ (Optional : List ℕ → Type 0) (Stripe : ℕ → ℕ → ℕ → List
     Second k left acc skipped e l out = After k left acc e l out
     Second k left acc (striped height rs) e l out = After (suc k) (left - height) (acc ++ rs) e l out
 
-    abbrev Worse : ℕ → ℕ → Item → ℕ → List ℕ → Answer → Type 0
+    abbrev Worse : ℕ → ℕ → Item → ℕ → List ℕ → Refusal → Type 0
     Worse k left skipped e l x = Worst k left e l x
     Worse k left (striped height rs) e l x = Worst (suc k) (left - height) e l x
 
@@ -116,7 +116,7 @@ module _ (Optional : List ℕ → Type 0) (Stripe : ℕ → ℕ → ℕ → List
     data Closed (k : ℕ) (acc : List Record) : List ℕ → List Record → Type 0 where
       closed : 0 < k → Closed k acc [] acc
 
-    data Unclosed (k at : ℕ) : List ℕ → Answer → Type 0 where
+    data Unclosed (k at : ℕ) : List ℕ → Refusal → Type 0 where
       unclosed : {l : List ℕ} → k ≡ 0 → Unclosed k at l (BadStripe at)
 
     exact_closed : (k : ℕ) (acc : List Record) (s : List ℕ) (at : ℕ) → at + 2 ≤ length s
@@ -134,7 +134,7 @@ module _ (Optional : List ℕ → Type 0) (Stripe : ℕ → ℕ → ℕ → List
         open_closed : k ≡ 0 → (l : List ℕ) (a : List Record) → Closed k acc l a → ⊥
         open_closed z l a (closed p) = omega arith
 
-        un : (l : List ℕ) (x : Answer) → Unclosed k at l x → x ≡ BadStripe at
+        un : (l : List ℕ) (x : Refusal) → Unclosed k at l x → x ≡ BadStripe at
         un l x (unclosed z) = refl
 
         shut : k ≢ 0 → (l : List ℕ) (a : List Record) → Nothing acc l a → Closed k acc l a
@@ -143,7 +143,7 @@ module _ (Optional : List ℕ → Type 0) (Stripe : ℕ → ℕ → ℕ → List
         shown : (l : List ℕ) (a : List Record) → Closed k acc l a → Nothing acc l a
         shown l a (closed p) = nothing
 
-        never : k ≢ 0 → (l : List ℕ) (x : Answer) → Unclosed k at l x → ⊥
+        never : k ≢ 0 → (l : List ℕ) (x : Refusal) → Unclosed k at l x → ⊥
         never z l x (unclosed q) = z q
 
     -- ---- in the words of the grammar
@@ -174,7 +174,7 @@ module _ (Optional : List ℕ → Type 0) (Stripe : ℕ → ℕ → ℕ → List
             due_else
             (record { front = l; rest = more; value = striped height rs; octets = refl; first = a_stripe height few z; second = subst (After (suc k) (left - height) (acc ++ rs) (at + length l) more) (append_assoc acc rs sr) (after sr t) })
 
-    to_bad : (k left : ℕ) (acc : List Record) (at : ℕ) (l : List ℕ) (x : Answer)
+    to_bad : (k left : ℕ) (acc : List Record) (at : ℕ) (l : List ℕ) (x : Refusal)
         → BadDue end_mark at (Unclosed k at) (BadThen (IsItem Optional Stripe k left at) (Bad k left at) (Worse k left) at) l x → Worst k left at l x
     to_bad k left acc at l x (bad_cut c) = cut c
     to_bad k left acc at l x (bad_mark l' (unclosed z)) = subst (λ (j : ℕ). Worst j left at (end_mark ++ l') (BadStripe at)) (sym z) (no_stripe l')
@@ -186,7 +186,7 @@ module _ (Optional : List ℕ → Type 0) (Stripe : ℕ → ℕ → ℕ → List
             subst (λ (j : ℕ). Worst j left at (front ++ rest) x) (sym z) (behind_optional front rest o (subst (λ (j : ℕ). Worst j left (at + length front) rest x) z w))
         by (striped height rs) (a_stripe h few z) w = behind_stripe front rest height rs few z w
 
-    from_bad : (k left : ℕ) (acc : List Record) (at : ℕ) (l : List ℕ) (x : Answer) → Worst k left at l x
+    from_bad : (k left : ℕ) (acc : List Record) (at : ℕ) (l : List ℕ) (x : Refusal) → Worst k left at l x
         → BadDue end_mark at (Unclosed k at) (BadThen (IsItem Optional Stripe k left at) (Bad k left at) (Worse k left) at) l x
     from_bad k left acc at l x (cut c) = bad_cut c
     from_bad k left acc at l x (no_stripe rest) = bad_mark rest (unclosed refl)

@@ -11,8 +11,8 @@
 --                       a stripe, or is refused by its own rules
 use Rattle.std.specs.Prelude.{ℕ, zero, suc, ◌+◌, ◌-◌, ◌<◌, ◌≡◌, cond, List, [], ◌∷◌, ◌++◌, length, eqb, ltb}
 use Rattle.octets.specs.Octets.{stands_at}
-use Rattle.answers.specs.declared.Answer.{Answer}
-use Rattle.answers.specs.declared.Answer.TheVariants.{Short, BadStripe}
+use Rattle.answers.specs.declared.Refusal.{Refusal}
+use Rattle.answers.specs.declared.Refusal.TheVariants.{Short, BadStripe}
 use Rattle.sheet_rules.specs.declared.Record.{Record}
 use Rattle.field_rules.specs.Field.{Res, ok, no, bind}
 use Rattle.field_rules.specs.Part.{Apart}
@@ -51,13 +51,13 @@ module _ (Optional : List ℕ → Type 0) (Stripe : ℕ → ℕ → ℕ → List
 
   -- ---- the refusals
 
-  pub data BadBody (Bad : ℕ → ℕ → ℕ → List ℕ → Answer → Type 0) : ℕ → ℕ → ℕ → List ℕ → Answer → Type 0 where
+  pub data BadBody (Bad : ℕ → ℕ → ℕ → List ℕ → Refusal → Type 0) : ℕ → ℕ → ℕ → List ℕ → Refusal → Type 0 where
     cut : {k left at : ℕ} {l : List ℕ} → length l < 2 → BadBody Bad k left at l (Short at)
     no_stripe : {left at : ℕ} (rest : List ℕ) → BadBody Bad 0 left at (end_mark ++ rest) (BadStripe at)
-    bad_item : {k left at : ℕ} {l : List ℕ} {x : Answer} → Apart end_mark l → Bad k left at l x → BadBody Bad k left at l x
-    behind_optional : {left at : ℕ} {x : Answer} (l rest : List ℕ) → Optional l → BadBody Bad 0 left (at + length l) rest x
+    bad_item : {k left at : ℕ} {l : List ℕ} {x : Refusal} → Apart end_mark l → Bad k left at l x → BadBody Bad k left at l x
+    behind_optional : {left at : ℕ} {x : Refusal} (l rest : List ℕ) → Optional l → BadBody Bad 0 left (at + length l) rest x
         → BadBody Bad 0 left at (l ++ rest) x
-    behind_stripe : {k left at : ℕ} {x : Answer} (l rest : List ℕ) (height : ℕ) (rs : List Record) → k < 64 → Stripe k left at l height rs
+    behind_stripe : {k left at : ℕ} {x : Refusal} (l rest : List ℕ) (height : ℕ) (rs : List Record) → k < 64 → Stripe k left at l height rs
         → BadBody Bad (suc k) (left - height) (at + length l) rest x → BadBody Bad k left at (l ++ rest) x
 
 -- ---- the reading

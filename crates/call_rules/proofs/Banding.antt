@@ -1,15 +1,17 @@
 -- What a viewer may rely on after a band, of the exported calls' promise alone: its octets are those of line calls, and so are its refusals, but for the room.
 -- Assumes nothing.
+use Rattle.std.specs.Prelude.{Ok, Err}
 use Prim.Native.Nat.{ℕ, ◌+◌, ◌*◌, ◌≤◌, ◌<◌}
 use native.Mathlib.Omega.{arith}
 use mathlib.Core.Path.{◌≡◌, refl, sym, ap, ◌∙◌}
 use mathlib.Core.Logic.{◌↔◌}
 use mathlib.Core.List.{List, [], ◌∷◌}
 use lib.ListN.{length, take, drop}
-use Rattle.answers.specs.declared.Answer.{Answer}
-use Rattle.answers.specs.declared.Answer.TheVariants.{Done, NoRoom}
+use Rattle.answers.specs.Answers.{Answer}
+use Rattle.answers.specs.declared.Refusal.TheVariants.{NoRoom}
 use Rattle.answers_report.specs.declared.Report.{Report}
-use Rattle.answers_report.specs.Report.{report_of, report_by_values}
+use Rattle.answers_report.specs.Report.{report_of}
+use Rattle.answers_report.proofs.Apart.{report_by_values}
 use Rattle.sheet_rules.specs.declared.Colour.{Colour}
 use Rattle.pixel_rules.specs.Planes.{list_of}
 use Rattle.pixel_rules.specs.Samples.{Scene, width_of}
@@ -45,7 +47,7 @@ module _ (sheet planes samples : List ℕ) (k : ℕ) where
 
     -- a refusal other than NoRoom is that of a call of line 0, into any buffer
     pub banded_as_line : (u' : Colour) (put : List ℕ) (q : Report) (put' : List ℕ) → LineUnseenCall sheet planes samples k 0 u' put q put'
-        → (a : Answer) → (a ≡ NoRoom → ⊥) → ((n : ℕ) → a ≡ Done n → ⊥) → r ≡ report_of a ↔ q ≡ report_of a
+        → (a : Answer) → (a ≡ Err NoRoom → ⊥) → ((n : ℕ) → a ≡ Ok n → ⊥) → r ≡ report_of a ↔ q ≡ report_of a
     banded_as_line u' put q put' l a full done =
         let b = band_refusal sheet (list_of planes) samples k (length out) (length put) a full done in (
           λ e. l.reports ∙ ap report_of (b.0 (report_by_values (band_of sheet (list_of planes) samples k (length out)) a (sym c.reports ∙ e))),
@@ -53,7 +55,7 @@ module _ (sheet planes samples : List ℕ) (k : ℕ) where
         )
 
     module _ (z : r.number ≡ 0) where
-      answered : Bands sheet (list_of planes) samples k u out (Done r.count) out'
+      answered : Bands sheet (list_of planes) samples k u out (Ok r.count) out'
       answered = record { answers = sym (report_done (band_of sheet (list_of planes) samples k (length out)) r c.reports z); holds = c.holds }
 
       pub banded_lines : LineByLine sheet (list_of planes) samples k u out r.count out'
@@ -69,11 +71,11 @@ module _ (sheet planes samples : List ℕ) (k : ℕ) where
 
       -- a call of any line of the stripe is done too, where its buffer has room
       pub banded_each : (y : ℕ) → y < scene.extent.height → (u' : Colour) (put : List ℕ) (q : Report) (put' : List ℕ) → LineUnseenCall sheet planes samples k y u' put q put'
-          → line_size scene ≤ length put → q ≡ report_of (Done (line_size scene))
-      banded_each y h u' put q put' l room = from ((band_exactly sheet (list_of planes) samples k (length out) (Done r.count)).0 (sym answered.answers))
+          → line_size scene ≤ length put → q ≡ report_of (Ok (line_size scene))
+      banded_each y h u' put q put' l room = from ((band_exactly sheet (list_of planes) samples k (length out) (Ok r.count)).0 (sym answered.answers))
         where
-          from : GivesBand sheet (list_of planes) samples k (length out) (Done r.count) → q ≡ report_of (Done (line_size scene))
-          from (banded ok has fine e f) = (lined_told sheet planes samples k y u' put q put' l (Done (line_size scene))).1 (lined ok (record { stripe = has; line = h }) fine refl room)
+          from : GivesBand sheet (list_of planes) samples k (length out) (Ok r.count) → q ≡ report_of (Ok (line_size scene))
+          from (banded ok has fine e f) = (lined_told sheet planes samples k y u' put q put' l (Ok (line_size scene))).1 (lined ok (record { stripe = has; line = h }) fine refl room)
 
       -- beside a call of line y with the same unseen colour: its octets stand y lines down in the band
       pub banded_lined : (y : ℕ) → y < scene.extent.height → (put : List ℕ) (q : Report) (put' : List ℕ) → LineUnseenCall sheet planes samples k y u put q put' → q.number ≡ 0
@@ -98,7 +100,7 @@ module _ (sheet planes samples : List ℕ) (k : ℕ) where
 
   module _ (out : List ℕ) (r : Report) (out' : List ℕ) where
     -- the other way: octets that are line by line those of line calls, and past the band those lent, are what the call leaves
-    pub lines_banded : (u : Colour) (n : ℕ) → LineByLine sheet (list_of planes) samples k u out n out' → r ≡ report_of (Done n) → BandCall sheet planes samples k u out r out'
+    pub lines_banded : (u : Colour) (n : ℕ) → LineByLine sheet (list_of planes) samples k u out n out' → r ≡ report_of (Ok n) → BandCall sheet planes samples k u out r out'
     lines_banded u n g e = let b = (bands_lines sheet (list_of planes) samples k u out n out').1 g in record { reports = e ∙ ap report_of b.answers; holds = b.holds }
 
     -- demand 3 in the octets that C gives and gets: c0 c1 c2 1 exactly if every content gives that colour, u0 u1 u2 0 exactly if none is given by all

@@ -1,5 +1,6 @@
 -- What a viewer may rely on after asking for coded data, of the exported call's promise alone.
 -- Assumes nothing.
+use Rattle.std.specs.Prelude.{Ok}
 use Prim.Native.Nat.{ℕ, ◌*◌, ◌≤◌}
 use native.Mathlib.Omega.{arith}
 use mathlib.Core.Path.{◌≡◌, refl, sym, ap, subst, ◌∙◌}
@@ -9,7 +10,6 @@ use lib.ListN.{length, take}
 use Rattle.laws.proofs.Cases.{clash}
 use Rattle.octets.specs.Octets.{Octets}
 use Rattle.sheet_rules.specs.Record.{record_size}
-use Rattle.answers.specs.declared.Answer.TheVariants.{Done}
 use Rattle.answers.proofs.Table.{refusal_count}
 use Rattle.answers_report.specs.declared.Report.{Report}
 use Rattle.answers_report.specs.Report.{report_of}
@@ -61,7 +61,7 @@ module _ (sheet page pencil : List ℕ) (k l : ℕ) (r : DataReport) (c : DataCa
   in_source x e = source_once (part_source sheet page pencil k l) x (sym source_of ∙ e)
 
   module _ (z : r.number ≡ 0) where
-    answered : data_of sheet page pencil k l ≡ Done r.count
+    answered : data_of sheet page pencil k l ≡ Ok r.count
     answered = report_done (data_of sheet page pencil k l) (answer_in r) answer_of_lem z
 
     stands_in : (x : Source) → r.source ≡ source_number x → Stands r.count (octets_in page pencil x) r.start (part_of sheet page pencil k l)

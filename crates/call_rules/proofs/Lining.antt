@@ -1,15 +1,16 @@
 -- What a viewer may rely on after a line, of the exported calls' promise alone. `LineCall` is `LineUnseenCall` with one unseen colour, so all that is said
 -- of every unseen colour is said of it.
 -- Assumes nothing.
+use Rattle.std.specs.Prelude.{Ok}
 use Prim.Native.Nat.{ℕ, ◌<◌}
 use mathlib.Core.Path.{◌≡◌, sym, ap, subst, ◌∙◌}
 use mathlib.Core.Logic.{◌↔◌, ◌⊎◌}
 use mathlib.Core.List.{List, [], ◌∷◌}
 use lib.ListN.{length, get_or, drop}
-use Rattle.answers.specs.declared.Answer.{Answer}
-use Rattle.answers.specs.declared.Answer.TheVariants.{Done}
+use Rattle.answers.specs.Answers.{Answer}
 use Rattle.answers_report.specs.declared.Report.{Report}
-use Rattle.answers_report.specs.Report.{report_of, report_by_values}
+use Rattle.answers_report.specs.Report.{report_of}
+use Rattle.answers_report.proofs.Apart.{report_by_values}
 use Rattle.sheet_rules.specs.declared.Colour.{Colour}
 use Rattle.pixel_rules.specs.Planes.{list_of}
 use Rattle.pixel_rules.specs.Samples.{width_of}
@@ -38,7 +39,7 @@ module _ (sheet planes samples : List ℕ) (k y : ℕ) (u : Colour) (out : List 
   )
 
   module _ (z : r.number ≡ 0) where
-    answered : line_of sheet (list_of planes) samples k y (length out) ≡ Done r.count
+    answered : line_of sheet (list_of planes) samples k y (length out) ≡ Ok r.count
     answered = report_done (line_of sheet (list_of planes) samples k y (length out)) r c.reports z
 
     -- demand 3: each pixel is seen in a colour exactly if every content of the unread layers gives it

@@ -1,12 +1,12 @@
 -- What a viewer may rely on after reading, of the exported call's promise alone.
 -- Assumes nothing.
+use Rattle.std.specs.Prelude.{Ok}
 use Prim.Native.Nat.{ℕ, ◌*◌}
 use mathlib.Core.Path.{◌≡◌, sym, ap, subst, ◌∙◌}
 use mathlib.Core.List.{List}
 use lib.ListN.{length, take, drop}
 use Rattle.octets.specs.Octets.{Octets}
 use Rattle.sheet_rules.specs.Record.{record_size}
-use Rattle.answers.specs.declared.Answer.TheVariants.{Done}
 use Rattle.answers_report.specs.declared.Report.{Report}
 use Rattle.page_rules.specs.Reading.{read_of}
 use Rattle.page_rules.proofs.Into.{into_kept, into_rest, Front, into_front}
@@ -19,7 +19,7 @@ module _ (page sheet : List ℕ) (r : Report) (sheet' : List ℕ) (c : ReadCall 
   read_kept n = c.holds ∙ into_kept page sheet (report_refused (read_of page (length sheet)) r c.reports n)
 
   module _ (z : r.number ≡ 0) where
-    answered : read_of page (length sheet) ≡ Done r.count
+    answered : read_of page (length sheet) ≡ Ok r.count
     answered = report_done (read_of page (length sheet)) r c.reports z
 
     -- the octets past the sheet stay

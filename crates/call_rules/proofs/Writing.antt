@@ -1,11 +1,11 @@
 -- What a viewer may rely on after writing, of the exported call's promise alone.
 -- Assumes nothing.
+use Rattle.std.specs.Prelude.{Ok}
 use Prim.Native.Nat.{ℕ}
 use mathlib.Core.Path.{◌≡◌, sym, ap, subst, ◌∙◌}
 use mathlib.Core.List.{List}
 use lib.ListN.{length, take, drop}
 use Rattle.octets.specs.Octets.{Octets}
-use Rattle.answers.specs.declared.Answer.TheVariants.{Done}
 use Rattle.answers_report.specs.declared.Report.{Report}
 use Rattle.sheet_rules.specs.Record.{records}
 use Rattle.write_rules.specs.Writing.{write_of}
@@ -20,7 +20,7 @@ module _ (sheet d page : List ℕ) (r : Report) (page' : List ℕ) (c : WriteCal
   written_kept n = c.holds ∙ refused_kept sheet d page (report_refused (write_of sheet d (length page)) r c.reports n)
 
   module _ (os : Octets sheet) (od : Octets d) (z : r.number ≡ 0) where
-    answered : write_of sheet d (length page) ≡ Done r.count
+    answered : write_of sheet d (length page) ≡ Ok r.count
     answered = report_done (write_of sheet d (length page)) r c.reports z
 
     -- the octets past the page stay

@@ -6,17 +6,18 @@ use mathlib.Core.List.{List, [], ◌∷◌}
 use lib.ListN.{take}
 use Rattle.octets.specs.Octets.{be16_at, be32_at, octets16, octets32}
 use Rattle.octets.specs.Entries.{joined}
-use Rattle.answers.specs.declared.Answer.{Answer}
-use Rattle.answers.specs.declared.Answer.TheVariants.{Done, Short, BadSheet, BadLine}
+use Rattle.answers.specs.Answers.{Answer}
+use Rattle.answers.specs.declared.Refusal.TheVariants.{Short, BadSheet, BadLine}
 use Rattle.sheet_rules.specs.declared.Record.{Record}
 use Rattle.sheet_rules.specs.Record.{record_at, encode, sheet_of, records, sum_of}
-use Rattle.sheet_rules.specs.Judge.{keeps, after, after1, after2, after3, step_of, end_of, on_step, walk, judge, judge_of, answer_of}
+use Rattle.sheet_rules.specs.Judge.{keeps, after, after1, after2, after3, step_of, end_of, on_step, walk, judge, judge_of}
 use Rattle.sheet_rules.proofs.Make.{made}
 use Rattle.sheet_rules.specs.StripeTable.{extent_of, few, found_extent, find_stripe, find_layer}
 use Rattle.data_rules.specs.declared.Source.{Source}
 use Rattle.data_rules.specs.declared.Source.TheVariants.{Page, Pencil}
-use Rattle.data_rules.specs.declared.Found.{Found}
-use Rattle.data_rules.specs.declared.Found.TheVariants.{Lies, Refused}
+use Rattle.std.specs.Prelude.{Result, Ok, Err}
+use Rattle.answers.specs.declared.Refusal.{Refusal}
+use Rattle.data_rules.specs.declared.Part.{Part}
 use Rattle.data_rules.specs.Data.{found_of, data_by, data_of, part_by, part_of, source_by, part_source, start_by, part_start}
 
 -- a record of this sheet: stripe, layer, coder, size, resolution, coded data
@@ -43,38 +44,38 @@ Asked s k l a p x n =
     (data_of s page pencil k l ≡ a) × (part_of s page pencil k l ≡ p) × (part_source s page pencil k l ≡ x) × (part_start s page pencil k l ≡ n)
 
 -- the four at once, of what is found
-asked : (s : List ℕ) (k l : ℕ) (f : Found) → found_of s page pencil k l ≡ f → Asked s k l (data_by f) (part_by page pencil f) (source_by f) (start_by f)
+asked : (s : List ℕ) (k l : ℕ) (f : Result Part Refusal) → found_of s page pencil k l ≡ f → Asked s k l (data_by f) (part_by page pencil f) (source_by f) (start_by f)
 unfolding data_of part_of part_source part_start
 asked s k l f e = (ap data_by e, ap (part_by page pencil) e, ap source_by e, ap start_by e)
 
-lies : Source → ℕ → ℕ → Found
-lies x start len = Lies (record { source = x; start = start; len = len })
+lies : Source → ℕ → ℕ → Result Part Refusal
+lies x start len = Ok (record { source = x; start = start; len = len })
 
 -- layers 2 and 3 stand in the page, 4 and 5 in the pencil file
-pub in_page : Asked sheet 0 2 (Done 3) (12 ∷ 13 ∷ 14 ∷ []) Page 2 × Asked sheet 1 3 (Done 1) (17 ∷ []) Page 7
-unfolding found_of data_by part_by source_by start_by judge_of judge walk on_step step_of keeps after after1 after2 after3 end_of records record_at be16_at be32_at extent_of few found_extent find_stripe find_layer sum_of answer_of sheet page pencil lies
+pub in_page : Asked sheet 0 2 (Ok 3) (12 ∷ 13 ∷ 14 ∷ []) Page 2 × Asked sheet 1 3 (Ok 1) (17 ∷ []) Page 7
+unfolding found_of data_by part_by source_by start_by judge_of judge walk on_step step_of keeps after after1 after2 after3 end_of records record_at be16_at be32_at extent_of few found_extent find_stripe find_layer sum_of sheet page pencil lies
 in_page = (asked sheet 0 2 (lies Page 2 3) refl, asked sheet 1 3 (lies Page 7 1) refl)
 
-pub in_pencil : Asked sheet 0 4 (Done 2) (20 ∷ 21 ∷ []) Pencil 0 × Asked sheet 0 5 (Done 1) (22 ∷ []) Pencil 2
-unfolding found_of data_by part_by source_by start_by judge_of judge walk on_step step_of keeps after after1 after2 after3 end_of records record_at be16_at be32_at extent_of few found_extent find_stripe find_layer sum_of answer_of sheet page pencil lies
+pub in_pencil : Asked sheet 0 4 (Ok 2) (20 ∷ 21 ∷ []) Pencil 0 × Asked sheet 0 5 (Ok 1) (22 ∷ []) Pencil 2
+unfolding found_of data_by part_by source_by start_by judge_of judge walk on_step step_of keeps after after1 after2 after3 end_of records record_at be16_at be32_at extent_of few found_extent find_stripe find_layer sum_of sheet page pencil lies
 in_pencil = (asked sheet 0 4 (lies Pencil 0 2) refl, asked sheet 0 5 (lies Pencil 2 1) refl)
 
 -- an uncoded layer, below and above layer 3
-pub uncoded : Asked sheet 0 3 (Done 0) [] Page 0 × Asked sheet 1 5 (Done 0) [] Page 0
-unfolding found_of data_by part_by source_by start_by judge_of judge walk on_step step_of keeps after after1 after2 after3 end_of records record_at be16_at be32_at extent_of few found_extent find_stripe find_layer sum_of answer_of sheet page pencil lies
+pub uncoded : Asked sheet 0 3 (Ok 0) [] Page 0 × Asked sheet 1 5 (Ok 0) [] Page 0
+unfolding found_of data_by part_by source_by start_by judge_of judge walk on_step step_of keeps after after1 after2 after3 end_of records record_at be16_at be32_at extent_of few found_extent find_stripe find_layer sum_of sheet page pencil lies
 uncoded = (asked sheet 0 3 (lies Page 0 0) refl, asked sheet 1 5 (lies Page 0 0) refl)
 
 -- the fifth octet of a pencil file of four: record 8 is at fault, not layer 4
-pub short : Asked sheet 1 4 (Short 8) [] Page 0
-unfolding found_of data_by part_by source_by start_by judge_of judge walk on_step step_of keeps after after1 after2 after3 end_of records record_at be16_at be32_at extent_of few found_extent find_stripe find_layer sum_of answer_of sheet page pencil
-short = asked sheet 1 4 (Refused (Short 8)) refl
+pub short : Asked sheet 1 4 (Err (Short 8)) [] Page 0
+unfolding found_of data_by part_by source_by start_by judge_of judge walk on_step step_of keeps after after1 after2 after3 end_of records record_at be16_at be32_at extent_of few found_extent find_stripe find_layer sum_of sheet page pencil
+short = asked sheet 1 4 (Err (Short 8)) refl
 
 -- no layer 0 and 6, and no stripe 2
-pub no_layer : Asked sheet 0 0 BadLine [] Page 0 × Asked sheet 0 6 BadLine [] Page 0 × Asked sheet 2 1 BadLine [] Page 0
-unfolding found_of data_by part_by source_by start_by judge_of judge walk on_step step_of keeps after after1 after2 after3 end_of records record_at be16_at be32_at extent_of few found_extent find_stripe find_layer sum_of answer_of sheet page pencil
-no_layer = (asked sheet 0 0 (Refused BadLine) refl, asked sheet 0 6 (Refused BadLine) refl, asked sheet 2 1 (Refused BadLine) refl)
+pub no_layer : Asked sheet 0 0 (Err BadLine) [] Page 0 × Asked sheet 0 6 (Err BadLine) [] Page 0 × Asked sheet 2 1 (Err BadLine) [] Page 0
+unfolding found_of data_by part_by source_by start_by judge_of judge walk on_step step_of keeps after after1 after2 after3 end_of records record_at be16_at be32_at extent_of few found_extent find_stripe find_layer sum_of sheet page pencil
+no_layer = (asked sheet 0 0 (Err BadLine) refl, asked sheet 0 6 (Err BadLine) refl, asked sheet 2 1 (Err BadLine) refl)
 
 -- half of a stripe: the record due is at fault
-pub no_sheet : Asked (take 196 sheet) 0 2 (BadSheet 7) [] Page 0
-unfolding found_of data_by part_by source_by start_by judge_of judge walk on_step step_of keeps after after1 after2 after3 end_of records record_at be16_at be32_at extent_of few found_extent find_stripe find_layer sum_of answer_of sheet page pencil
-no_sheet = asked (take 196 sheet) 0 2 (Refused (BadSheet 7)) refl
+pub no_sheet : Asked (take 196 sheet) 0 2 (Err (BadSheet 7)) [] Page 0
+unfolding found_of data_by part_by source_by start_by judge_of judge walk on_step step_of keeps after after1 after2 after3 end_of records record_at be16_at be32_at extent_of few found_extent find_stripe find_layer sum_of sheet page pencil
+no_sheet = asked (take 196 sheet) 0 2 (Err (BadSheet 7)) refl

@@ -4,7 +4,9 @@ use Prim.Native.Nat.{ℕ}
 use mathlib.Core.Path.{◌≡◌, sym, ◌∙◌}
 use mathlib.Core.List.{List}
 use denote.Ref.{Bor}
-use Rattle.data_rules.specs.declared.Found.{Found}
+use Rattle.std.specs.Prelude.{Result}
+use Rattle.answers.specs.declared.Refusal.{Refusal}
+use Rattle.data_rules.specs.declared.Part.{Part}
 use Rattle.data_rules.specs.Data.{found_of}
 use Rattle.data_find.specs.Handed.{HandsPart}
 
@@ -13,5 +15,5 @@ pub part_firm : (s : List ℕ) (page pencil : Bor (List ℕ)) (k l : ℕ) (r q :
 part_firm s page pencil k l r q x y = (x.octets ∙ sym y.octets, x.place ∙ sym y.place)
 
 module _ (s page pencil : List ℕ) (k l : ℕ) where
-  pub found_firm : (f g : Found) → f ≡ found_of s page pencil k l → g ≡ found_of s page pencil k l → f ≡ g
+  pub found_firm : (f g : Result Part Refusal) → f ≡ found_of s page pencil k l → g ≡ found_of s page pencil k l → f ≡ g
   found_firm f g x y = x ∙ sym y

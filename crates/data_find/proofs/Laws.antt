@@ -11,45 +11,29 @@ use borrow.Author.Rules.{rules}
 use denote.Ref.{Bor}
 use Rattle.laws.proofs.Cases.{cond_with, clash}
 use Rattle.laws.proofs.Says.{says_le, says_and}
-use Rattle.answers.specs.declared.Answer.{Answer}
-use Rattle.answers.specs.declared.Answer.TheVariants.{BadSheet, BadLine}
 use Rattle.sheet_rules.specs.declared.Extent.{Extent}
-use Rattle.sheet_rules.specs.declared.FoundStripe.{FoundStripe}
-use Rattle.sheet_rules.specs.declared.FoundStripe.TheVariants.{Has, NoStripe}
-use Rattle.sheet_rules.specs.declared.FoundLayer.{FoundLayer}
-use Rattle.sheet_rules.specs.declared.FoundLayer.TheVariants.{At, NoLayer}
-use Rattle.sheet_rules.specs.declared.Verdict.{Verdict}
-use Rattle.sheet_rules.specs.Record.{record_size, record_at}
-use Rattle.sheet_rules.specs.Judge.{judge_of, answer_of}
+use Rattle.std.specs.Prelude.{Option, Some, Result, Ok, Err}
+use Rattle.answers.specs.declared.Refusal.{Refusal}
+use Rattle.sheet_rules.specs.declared.Counts.{Counts}
+use Rattle.sheet_rules.specs.Record.{record_size}
+use Rattle.sheet_rules.specs.Judge.{judge_of}
 use Rattle.sheet_rules.specs.StripeTable.{find_stripe, find_layer}
 use Rattle.data_rules.specs.declared.Source.{Source}
 use Rattle.data_rules.specs.declared.Source.TheVariants.{Page, Pencil}
 use Rattle.data_rules.specs.declared.Part.{Part}
-use Rattle.data_rules.specs.declared.Found.{Found}
-use Rattle.data_rules.specs.declared.Found.TheVariants.{Lies}
-use Rattle.data_rules.specs.Data.{octets_in, record_found, layer_found, stripe_found, sheet_found, found_of, part_by, part_of, source_by, part_source, start_by, part_start}
+use Rattle.data_rules.specs.Data.{octets_in, found_of, part_by, part_of, source_by, part_source, start_by, part_start}
 use Rattle.data_rules.proofs.Handed.{lies_within}
-use Rattle.sheet_table.specs.Steps.{Whole, JudgedGood}
-use Rattle.sheet_table.proofs.Found.{sheet_good, found_whole, fault_small}
+use Rattle.sheet_table.specs.Steps.{Whole}
+use Rattle.sheet_table.proofs.Found.{sheet_good, found_whole}
 use Rattle.data_find.specs.Handed.{spot, PartAt, lent_from, HandsPart}
 
--- ---- a layer of a stripe
+-- ---- the record of a layer that is found is there
 
-module _ (s page pencil : List ℕ) (extent : Extent) (l : ℕ) (f : FoundLayer) (e : f ≡ find_layer extent l) where
-  pub layer_none : f ≡ NoLayer → Found.Refused BadLine ≡ stripe_found s page pencil l (Has extent)
-  unfolding stripe_found layer_found
-  layer_none z = ap (layer_found s page pencil l) (sym z ∙ e)
-
-  pub layer_there : (i : ℕ) (q : Found) → f ≡ At i → q ≡ record_found page pencil l i (record_at s i) → q ≡ stripe_found s page pencil l (Has extent)
-  unfolding stripe_found layer_found
-  layer_there i q z h = h ∙ ap (layer_found s page pencil l) (sym z ∙ e)
-
--- the record of a layer that is found is there
-layer_within : (s : List ℕ) (extent : Extent) (l : ℕ) (f : FoundLayer) (i : ℕ) → Whole s extent → f ≡ find_layer extent l → f ≡ At i
+layer_within : (s : List ℕ) (extent : Extent) (l : ℕ) (f : Option ℕ) (i : ℕ) → Whole s extent → f ≡ find_layer extent l → f ≡ Some i
     → (i < length s / record_size) × (i < 4294967296)
 unfolding find_layer
 layer_within s extent l f i w e z =
-    cond_with (λ (x : FoundLayer). x ≡ At i → (i < length s / record_size) × (i < 4294967296)) (leb 1 l && leb l extent.layers)
+    cond_with (λ (x : Option ℕ). x ≡ Some i → (i < length s / record_size) × (i < 4294967296)) (leb 1 l && leb l extent.layers)
     (λ t q.
     let h = (says_and (says_le 1 l) (says_le l extent.layers)).told t in
     let a = h.0 in
@@ -61,31 +45,9 @@ layer_within s extent l f i w e z =
     (λ t q. clash cc)
     (sym e ∙ z)
 
-module _ (s : List ℕ) (extent : Extent) (l : ℕ) (f : FoundLayer) (i : ℕ) (w : Whole s extent) (e : f ≡ find_layer extent l) (z : f ≡ At i) where
-  pub layer_in_lem : i < length s / record_size
-  layer_in_lem = (layer_within s extent l f i w e z).0
-
-  pub layer_small : i < 4294967296
-  layer_small = (layer_within s extent l f i w e z).1
-
--- ---- a stripe of a sheet
-
-module _ (s page pencil : List ℕ) (k l : ℕ) where
-  good_found : JudgedGood s → found_of s page pencil k l ≡ stripe_found s page pencil l (find_stripe s k)
-  unfolding found_of sheet_found
-  good_found g = rw g.good refl
-
-  pub stripe_none : (f : FoundStripe) → JudgedGood s → f ≡ find_stripe s k → f ≡ NoStripe → Found.Refused BadLine ≡ found_of s page pencil k l
-  unfolding stripe_found
-  stripe_none f g e z = sym (good_found g ∙ ap (stripe_found s page pencil l) (sym e ∙ z))
-
-  pub stripe_has : (f : FoundStripe) (extent : Extent) (q : Found) → JudgedGood s → f ≡ find_stripe s k → f ≡ Has extent → q ≡ stripe_found s page pencil l (Has extent)
-      → q ≡ found_of s page pencil k l
-  stripe_has f extent q g e z h = h ∙ sym (good_found g ∙ ap (stripe_found s page pencil l) (sym e ∙ z))
-
-  pub sheet_bad : (v : Verdict) (i : ℕ) → v ≡ judge_of s → v ≡ Verdict.Refused i → Found.Refused (BadSheet i) ≡ found_of s page pencil k l
-  unfolding found_of sheet_found answer_of
-  sheet_bad v i e z = rw (← e, z) refl
+pub record_within : (s : List ℕ) (k l i : ℕ) {v : Result Counts ℕ} {n : Counts} {f : Option Extent} {extent : Extent} {h : Option ℕ} → v ≡ judge_of s → v ≡ Ok n
+    → f ≡ find_stripe s k → f ≡ Some extent → h ≡ find_layer extent l → h ≡ Some i → (i < length s / record_size) × (i < 4294967296)
+record_within s k l i {v} {n} {f} {extent} {h} j g e z q y = layer_within s extent l h i (found_whole s k f extent (sheet_good s v n j g) e z) q y
 
 -- ---- the part itself
 
@@ -93,22 +55,22 @@ pub octets_made : (d : Bor (List ℕ)) (start n : ℕ) (r : Bor (List ℕ)) → 
 octets_made d start n r e q =
     let z : start + n - start ≡ n = omega arith in record { octets = e ∙ ap (λ (j : ℕ). take j (drop start d.now)) z; place = q }
 
-module _ (s : List ℕ) (page pencil : Bor (List ℕ)) (k l : ℕ) (f : Found) (e : f ≡ found_of s page.now pencil.now k l) where
+module _ (s : List ℕ) (page pencil : Bor (List ℕ)) (k l : ℕ) (f : Result Part Refusal) (e : f ≡ found_of s page.now pencil.now k l) where
   -- what is found, in words of what the call was answered
-  hands_as : (g : Found) → f ≡ g → (r : Bor (List ℕ)) → r.now ≡ part_by page.now pencil.now g → r.ref_ptr ≡ spot (lent_from page pencil (source_by g)) (start_by g)
+  hands_as : (g : Result Part Refusal) → f ≡ g → (r : Bor (List ℕ)) → r.now ≡ part_by page.now pencil.now g → r.ref_ptr ≡ spot (lent_from page pencil (source_by g)) (start_by g)
       → HandsPart s page pencil k l r
   unfolding part_of part_source part_start
   hands_as g z r o q =
       record {
         octets = o ∙ ap (part_by page.now pencil.now) (sym z ∙ e);
-        place = q ∙ ap (λ (x : Found). spot (lent_from page pencil (source_by x)) (start_by x)) (sym z ∙ e);
+        place = q ∙ ap (λ (x : Result Part Refusal). spot (lent_from page pencil (source_by x)) (start_by x)) (sym z ∙ e);
       }
 
-  pub part_none : (a : Answer) (r : Bor (List ℕ)) → f ≡ Found.Refused a → PartAt page 0 0 r → HandsPart s page pencil k l r
+  pub part_none : (a : Refusal) (r : Bor (List ℕ)) → f ≡ Err a → PartAt page 0 0 r → HandsPart s page pencil k l r
   unfolding part_by source_by start_by lent_from
-  part_none a r z w = hands_as (Found.Refused a) z r w.octets w.place
+  part_none a r z w = hands_as (Err a) z r w.octets w.place
 
-  module _ (p : Part) (z : f ≡ Lies p) where
+  module _ (p : Part) (z : f ≡ Ok p) where
     fits_as : (d : List ℕ) → octets_in page.now pencil.now p.source ≡ d → p.start + p.len ≤ length d
     fits_as d q = subst (λ (x : List ℕ). p.start + p.len ≤ length x) q (lies_within s page.now pencil.now k l p (sym e ∙ z))
 
@@ -117,7 +79,7 @@ module _ (s : List ℕ) (page pencil : Bor (List ℕ)) (k l : ℕ) (f : Found) (
         → HandsPart s page pencil k l r
     unfolding part_by source_by start_by
     part_as x q r w v =
-        hands_as (Lies p) z r
+        hands_as (Ok p) z r
         (w.octets ∙ ap (λ (d : List ℕ). take p.len (drop p.start d)) (v ∙ ap (octets_in page.now pencil.now) (sym q)))
         (w.place ∙ ap (λ (y : Source). spot (lent_from page pencil y) p.start) (sym q))
 
@@ -137,7 +99,5 @@ module _ (s : List ℕ) (page pencil : Bor (List ℕ)) (k l : ℕ) (f : Found) (
       pub part_pencil : (r : Bor (List ℕ)) → x ≡ Pencil → PartAt pencil p.start p.len r → HandsPart s page pencil k l r
       unfolding octets_in lent_from
       part_pencil r v w = part_as Pencil (sym u ∙ v) r w refl
-
-pub ruleset finding = (rules, layer_none, layer_there, layer_in_lem, layer_small, stripe_none, stripe_has, sheet_bad, sheet_good, found_whole, fault_small)
 
 pub ruleset handing = (rules, octets_made, part_none, fits_page, fits_pencil, part_page, part_pencil)

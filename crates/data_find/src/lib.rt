@@ -2,48 +2,30 @@
 #![tactic(auto)]
 
 ghost use Rattle.std.specs.Prelude.{◌≡◌, ◌+◌, ◌≤◌, length};
-ghost use Rattle.data_rules.specs.Data.{stripe_found, found_of};
-ghost use Rattle.sheet_rules.specs.declared.FoundStripe.TheVariants.{Has};
-ghost use Rattle.sheet_table.specs.Steps.{Whole, JudgedGood};
+ghost use Rattle.data_rules.specs.Data.{found_of};
 ghost use Rattle.data_find.specs.Handed.{PartAt, HandsPart};
 
-use answers::Answer;
-use data_rules::{Found, Source};
-use sheet_rules::{Extent, FoundLayer, FoundStripe, Verdict};
+use answers::Refusal;
+use data_rules::{Part, Source};
 
-// A stripe that was found: its layer.
-fn find_in_stripe(sheet: &[u8], page: &[u8], pencil: &[u8], extent: Extent, layer: u32) -> Found
-    requires { Whole sheet.now extent }
-    ensures { result ≡ stripe_found sheet.now page.now pencil.now layer (Has extent) }
-{
-    match sheet_table::find_layer(extent, layer as usize) {
-        FoundLayer::NoLayer => Found::Refused(Answer::BadLine),
-        FoundLayer::At(i) => data_record::find_record(sheet, page, pencil, layer, i),
-    }
-}
-
-// A sheet that the judge takes: the stripe before the layer.
-fn find_in_sheet(sheet: &[u8], page: &[u8], pencil: &[u8], stripe: u32, layer: u32) -> Found
-    requires { JudgedGood sheet.now }
+// Where the coded data of a layer of a stripe stand, or the refusal: the sheet before the stripe, and the stripe before the layer.
+#[tactic(auto, unfolding(data_rules::specs::Data::found_of))]
+pub fn find_data(
+    sheet: &[u8],
+    page: &[u8],
+    pencil: &[u8],
+    stripe: u32,
+    layer: u32,
+) -> Result<Part, Refusal>
     ensures { result ≡ found_of sheet.now page.now pencil.now stripe layer }
 {
-    match sheet_table::find_stripe(sheet, stripe as usize) {
-        FoundStripe::NoStripe => Found::Refused(Answer::BadLine),
-        FoundStripe::Has(extent) => find_in_stripe(sheet, page, pencil, extent, layer),
+    // not by map_err: its closure would ask that the record's number fits, which is known here alone
+    if let Err(record) = sheet_judge::judge(sheet) {
+        return Err(Refusal::BadSheet(record as u32));
     }
-}
-
-// Where the coded data of a layer of a stripe stand, or the refusal.
-pub fn find_data(sheet: &[u8], page: &[u8], pencil: &[u8], stripe: u32, layer: u32) -> Found
-    ensures { result ≡ found_of sheet.now page.now pencil.now stripe layer }
-{
-    match sheet_judge::judge(sheet) {
-        Verdict::Refused { record } => Found::Refused(Answer::BadSheet(record as u32)),
-        Verdict::Good {
-            records: _,
-            stripes: _,
-        } => find_in_sheet(sheet, page, pencil, stripe, layer),
-    }
+    let extent = sheet_table::find_stripe(sheet, stripe as usize).ok_or(Refusal::BadLine)?;
+    let i = sheet_table::find_layer(extent, layer as usize).ok_or(Refusal::BadLine)?;
+    data_record::find_record(sheet, page, pencil, layer, i)
 }
 
 // So many octets of a slice from a place on, where they lie.
@@ -51,9 +33,8 @@ fn octets_from(s: &[u8], start: u32, len: u32) -> &[u8]
     requires { start + len ≤ length s.now }
     ensures { PartAt s.entry start len result }
 {
-    let a = start as usize;
-    let e = start as usize + len as usize;
-    &s[a..e]
+    let start = start as usize;
+    &s[start..start + len as usize]
 }
 
 // The part itself: a part of the page or of the pencil file, chosen by the layer's number. Nothing is copied.
@@ -66,14 +47,11 @@ pub fn data_part<'a>(
 ) -> &'a [u8]
     ensures { HandsPart sheet.now page.entry pencil.entry stripe layer result }
 {
-    match find_data(sheet, page, pencil, stripe, layer) {
-        Found::Refused(_) => octets_from(page, 0, 0),
-        Found::Lies(p) => {
-            let source = p.source;
-            match source {
-                Source::Page => octets_from(page, p.start, p.len),
-                Source::Pencil => octets_from(pencil, p.start, p.len),
-            }
-        }
+    let Ok(p) = find_data(sheet, page, pencil, stripe, layer) else {
+        return octets_from(page, 0, 0);
+    };
+    match p.source {
+        Source::Page => octets_from(page, p.start, p.len),
+        Source::Pencil => octets_from(pencil, p.start, p.len),
     }
 }

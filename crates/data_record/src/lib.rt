@@ -5,10 +5,11 @@ ghost use Rattle.std.specs.Prelude.{◌≡◌, ◌+◌, ◌<◌, ◌/◌, length
 ghost use Rattle.sheet_rules.specs.Record.{record_size, record_at};
 ghost use Rattle.data_rules.specs.Data.{source_of, octets_in, part_in, record_found};
 
-use answers::Answer;
-use data_rules::{Found, Part, Source};
+use answers::Refusal;
+use data_rules::{Part, Source};
 use sheet_rules::Record;
 
+#[tactic(auto, unfolding(data_rules::specs::Data::source_of))]
 pub fn source_of(layer: u32) -> Source
     ensures { result ≡ source_of layer }
 {
@@ -20,13 +21,18 @@ pub fn source_of(layer: u32) -> Source
 }
 
 // How many octets the source of a layer has.
+#[tactic(auto, unfolding(data_rules::specs::Data::octets_in))]
 fn source_len(page: &[u8], pencil: &[u8], layer: u32) -> usize
     ensures { result ≡ length (octets_in page.now pencil.now (source_of layer)) }
 {
-    if layer <= 3 { page.len() } else { pencil.len() }
+    match source_of(layer) {
+        Source::Page => page.len(),
+        Source::Pencil => pencil.len(),
+    }
 }
 
 // The part that a record names; an uncoded layer's is empty.
+#[tactic(auto, unfolding(data_rules::specs::Data::part_in))]
 pub fn part_in(layer: u32, r: Record) -> Part
     ensures { result ≡ part_in layer r }
 {
@@ -37,9 +43,8 @@ pub fn part_in(layer: u32, r: Record) -> Part
             len: 0,
         };
     }
-    let source = source_of(layer);
     Part {
-        source,
+        source: source_of(layer),
         start: r.start,
         len: r.len,
     }
@@ -49,19 +54,24 @@ pub fn part_in(layer: u32, r: Record) -> Part
 fn data_passes(page: &[u8], pencil: &[u8], layer: u32, r: Record) -> bool
     ensures { result ≡ ltb (length (octets_in page.now pencil.now (source_of layer))) (r.start + r.len) }
 {
-    let n = source_len(page, pencil, layer);
-    (n as u64) < octets_get::end_of(r.start, r.len)
+    (source_len(page, pencil, layer) as u64) < octets_get::end_of(r.start, r.len)
 }
 
 // The record of a layer: its data are there whole, or it is at fault.
-pub fn find_record(sheet: &[u8], page: &[u8], pencil: &[u8], layer: u32, i: usize) -> Found
+#[tactic(auto, unfolding(data_rules::specs::Data::record_found))]
+pub fn find_record(
+    sheet: &[u8],
+    page: &[u8],
+    pencil: &[u8],
+    layer: u32,
+    i: usize,
+) -> Result<Part, Refusal>
     requires { (i < length sheet.now / record_size) × (i < 4294967296) }
     ensures { result ≡ record_found page.now pencil.now layer i (record_at sheet.now i) }
 {
-    let place = i as u32;
     let r = sheet_record::record_at(sheet, i);
     if data_passes(page, pencil, layer, r) {
-        return Found::Refused(Answer::Short(place));
+        return Err(Refusal::Short(i as u32));
     }
-    Found::Lies(part_in(layer, r))
+    Ok(part_in(layer, r))
 }

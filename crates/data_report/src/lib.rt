@@ -1,12 +1,12 @@
 // What was found of a layer's coded data, as numbers for the viewer in C.
-#![tactic(auto)]
+#![tactic(auto, unfolding(crate::specs::Reported::report_found, answers_report::specs::Report::report_of))]
 
 ghost use Rattle.std.specs.Prelude.{◌≡◌};
-ghost use Rattle.data_rules.specs.Data.{source_number};
 ghost use Rattle.data_report.specs.Reported.{report_at, report_found};
 
-use answers::Answer;
-use data_rules::{Found, Source};
+use answers::{Answer, Refusal};
+use answers_report::Report;
+use data_rules::Part;
 
 // What was found, as the viewer in C is given it: number, place and count of the answer, and where the part stands. The layout is the header's: viewers link it.
 #[repr(C)]
@@ -19,20 +19,11 @@ pub struct DataReport {
     pub start: u32,
 }
 
-pub fn source_number(x: Source) -> u32
-    ensures { result ≡ source_number x }
-{
-    match x {
-        Source::Page => 0,
-        Source::Pencil => 1,
-    }
-}
-
 // The report of an answer and of a place.
 fn report_at(a: Answer, source: u32, start: u32) -> DataReport
     ensures { result ≡ report_at a source start }
 {
-    let r = answers_report::reported(a);
+    let r = Report::from(a);
     DataReport {
         number: r.number,
         place: r.place,
@@ -42,15 +33,13 @@ fn report_at(a: Answer, source: u32, start: u32) -> DataReport
     }
 }
 
-pub fn report_found(f: Found) -> DataReport
-    ensures { result ≡ report_found f }
-{
-    match f {
-        Found::Lies(p) => {
-            let x = p.source;
-            let source = source_number(x);
-            report_at(Answer::Done(p.len as u64), source, p.start)
+impl From<Result<Part, Refusal>> for DataReport {
+    ghost from_gives = { λ f report. report ≡ report_found f };
+
+    fn from(f: Result<Part, Refusal>) -> DataReport {
+        match f {
+            Ok(p) => report_at(Ok(p.len as u64), p.source as u32, p.start),
+            Err(r) => report_at(Err(r), 0, 0),
         }
-        Found::Refused(a) => report_at(a, 0, 0),
     }
 }

@@ -10,14 +10,13 @@ use lib.Seq.{length-take-le}
 use borrow.Author.Tests.{eq-eqb, ne_eqb}
 use Rattle.laws.proofs.Cases.{clash}
 use Rattle.laws.proofs.Says.{says_eq, says_le, says_else}
-use Rattle.answers.specs.declared.Answer.TheVariants.{Done}
 use Rattle.sheet_rules.specs.declared.Record.{Record}
 use Rattle.sheet_rules.specs.Record.{records, nth}
 use Rattle.sheet_rules.specs.Sentences.{Coded, Uncoded}
 use Rattle.data_rules.specs.declared.Source.{Source}
 use Rattle.data_rules.specs.declared.Source.TheVariants.{Page, Pencil}
 use Rattle.data_rules.specs.declared.Part.{Part}
-use Rattle.data_rules.specs.declared.Found.TheVariants.{Lies}
+use Rattle.std.specs.Prelude.{Ok}
 use Rattle.data_rules.specs.Data.{source_of, source_number, octets_in, empty_part, part_in, found_of, data_by, data_of, part_by, part_of, source_by, part_source, start_by, part_start}
 use Rattle.data_rules.specs.Sentences.{LayerAt, Fits, Nothing, Handed}
 use Rattle.data_rules.proofs.Layer.{source_low, source_high, octets_low, octets_high}
@@ -40,12 +39,12 @@ module _ (l : ℕ) (r : Record) where
 
   module _ (page pencil : List ℕ) where
     -- its octets are those that the record names
-    part_octets : part_by page pencil (Lies (part_in l r)) ≡ take r.len (drop r.start (octets_in page pencil (source_of l)))
+    part_octets : part_by page pencil (Ok (part_in l r)) ≡ take r.len (drop r.start (octets_in page pencil (source_of l)))
     unfolding part_by
     part_octets =
         ⊎_elim
-        (λ (e : Uncoded r). ap (λ (p : Part). part_by page pencil (Lies p)) (part_uncoded e) ∙ none_taken (drop r.start (octets_in page pencil (source_of l))) e)
-        (λ (d : Coded r). ap (λ (p : Part). part_by page pencil (Lies p)) (part_coded d))
+        (λ (e : Uncoded r). ap (λ (p : Part). part_by page pencil (Ok p)) (part_uncoded e) ∙ none_taken (drop r.start (octets_in page pencil (source_of l))) e)
+        (λ (d : Coded r). ap (λ (p : Part). part_by page pencil (Ok p)) (part_coded d))
         (says_else (says_eq r.len 0))
 
     -- and it lies within what holds it
@@ -60,7 +59,7 @@ module _ (l : ℕ) (r : Record) where
         (says_else (says_le l 3))))
         (says_else (says_eq r.len 0))
 
-    part_nothing : Uncoded r → Nothing (part_by page pencil (Lies (part_in l r))) (part_in l r).source (part_in l r).start
+    part_nothing : Uncoded r → Nothing (part_by page pencil (Ok (part_in l r))) (part_in l r).source (part_in l r).start
     part_nothing e =
         record {
           octets = part_octets ∙ sym (none_taken (drop r.start (octets_in page pencil (source_of l))) e);
@@ -77,9 +76,9 @@ pub record Stands (n : ℕ) (d : List ℕ) (start : ℕ) (p : List ℕ) : Type 0
 
 module _ (s page pencil : List ℕ) (k l : ℕ) where
   -- what lies, lies within its source
-  pub lies_within : (p : Part) → found_of s page pencil k l ≡ Lies p → p.start + p.len ≤ length (octets_in page pencil p.source)
+  pub lies_within : (p : Part) → found_of s page pencil k l ≡ Ok p → p.start + p.len ≤ length (octets_in page pencil p.source)
   lies_within =
-      found_cases s page pencil k l (λ f. (p : Part) → f ≡ Lies p → p.start + p.len ≤ length (octets_in page pencil p.source))
+      found_cases s page pencil k l (λ f. (p : Part) → f ≡ Ok p → p.start + p.len ≤ length (octets_in page pencil p.source))
       (λ i b p e. clash cc)
       (λ a n p e. clash cc)
       (λ a i y q p e. clash cc)
@@ -87,11 +86,11 @@ module _ (s page pencil : List ℕ) (k l : ℕ) where
       let z : part_in l (nth (records s) i) ≡ p = cc in
       subst (λ (p : Part). p.start + p.len ≤ length (octets_in page pencil p.source)) z (part_within l (nth (records s) i) page pencil f))
 
-  pub part_stands : (n : ℕ) → data_of s page pencil k l ≡ Done n
+  pub part_stands : (n : ℕ) → data_of s page pencil k l ≡ Ok n
       → Stands n (octets_in page pencil (part_source s page pencil k l)) (part_start s page pencil k l) (part_of s page pencil k l)
   unfolding data_of data_by part_of part_by part_source source_by part_start start_by
   part_stands n =
-      found_cases s page pencil k l (λ f. data_by f ≡ Done n → Stands n (octets_in page pencil (source_by f)) (start_by f) (part_by page pencil f))
+      found_cases s page pencil k l (λ f. data_by f ≡ Ok n → Stands n (octets_in page pencil (source_by f)) (start_by f) (part_by page pencil f))
       (λ i b q. clash cc)
       (λ a m q. clash cc)
       (λ a i y m q. clash cc)
@@ -110,18 +109,18 @@ module _ (s page pencil : List ℕ) (k l : ℕ) where
 
   -- and it is the layer's: the octets that its record names, of the page for layers 1 to 3 and of the pencil file for higher ones
 
-  pub part_handed : (n : ℕ) → data_of s page pencil k l ≡ Done n
+  pub part_handed : (n : ℕ) → data_of s page pencil k l ≡ Ok n
       → Handed s page pencil k l (part_of s page pencil k l) (part_source s page pencil k l) (part_start s page pencil k l)
   unfolding data_of data_by part_of part_source source_by part_start start_by
   part_handed n =
-      found_cases s page pencil k l (λ f. data_by f ≡ Done n → Handed s page pencil k l (part_by page pencil f) (source_by f) (start_by f))
+      found_cases s page pencil k l (λ f. data_by f ≡ Ok n → Handed s page pencil k l (part_by page pencil f) (source_by f) (start_by f))
       (λ i b q. clash cc)
       (λ a m q. clash cc)
       (λ a i y m q. clash cc)
       (λ a i y f q. handed i y)
     where
       handed : (i : ℕ) → LayerAt (records s) k l i
-          → Handed s page pencil k l (part_by page pencil (Lies (part_in l (nth (records s) i)))) (part_in l (nth (records s) i)).source (part_in l (nth (records s) i)).start
+          → Handed s page pencil k l (part_by page pencil (Ok (part_in l (nth (records s) i)))) (part_in l (nth (records s) i)).source (part_in l (nth (records s) i)).start
       handed i y =
           let r : Record = nth (records s) i in
           record {
@@ -136,11 +135,11 @@ module _ (s page pencil : List ℕ) (k l : ℕ) where
 
   -- the part of a refusal is empty
 
-  pub part_refused : ((n : ℕ) → data_of s page pencil k l ≡ Done n → ⊥)
+  pub part_refused : ((n : ℕ) → data_of s page pencil k l ≡ Ok n → ⊥)
       → Nothing (part_of s page pencil k l) (part_source s page pencil k l) (part_start s page pencil k l)
   unfolding data_of data_by part_of part_by part_source source_by part_start start_by
   part_refused =
-      found_cases s page pencil k l (λ f. ((n : ℕ) → data_by f ≡ Done n → ⊥) → Nothing (part_by page pencil f) (source_by f) (start_by f))
+      found_cases s page pencil k l (λ f. ((n : ℕ) → data_by f ≡ Ok n → ⊥) → Nothing (part_by page pencil f) (source_by f) (start_by f))
       (λ i b h. nothing)
       (λ a m h. nothing)
       (λ a i y m h. nothing)
@@ -182,14 +181,14 @@ part_numbered l n r z =
     (says_else (says_eq r.len 0))
 
 module _ (s page pencil : List ℕ) (k l : ℕ) where
-  pub source_numbered : (n : ℕ) → data_of s page pencil k l ≡ Done n → Numbered l n (part_source s page pencil k l)
+  pub source_numbered : (n : ℕ) → data_of s page pencil k l ≡ Ok n → Numbered l n (part_source s page pencil k l)
   unfolding data_of data_by part_source source_by
   source_numbered n =
-      found_cases s page pencil k l (λ f. data_by f ≡ Done n → Numbered l n (source_by f))
+      found_cases s page pencil k l (λ f. data_by f ≡ Ok n → Numbered l n (source_by f))
       (λ i b q. clash cc)
       (λ a m q. clash cc)
       (λ a i y m q. clash cc)
       (λ a i y f q. part_numbered l n (nth (records s) i) cc)
 
-  pub refused_numbered : ((n : ℕ) → data_of s page pencil k l ≡ Done n → ⊥) → source_number (part_source s page pencil k l) ≡ 0
+  pub refused_numbered : ((n : ℕ) → data_of s page pencil k l ≡ Ok n → ⊥) → source_number (part_source s page pencil k l) ≡ 0
   refused_numbered h = number_page (part_source s page pencil k l) (part_refused s page pencil k l h).source

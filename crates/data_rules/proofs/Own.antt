@@ -1,5 +1,6 @@
 -- A page with its own sheet: the part of each layer is that layer's octets, as the grammar has them.
 -- Assumes nothing.
+use Rattle.std.specs.Prelude.{Ok}
 use Prim.Native.Nat.{ℕ, ◌+◌, ◌*◌, ◌≤◌}
 use native.Mathlib.Omega.{arith}
 use mathlib.Core.Path.{◌≡◌, refl, sym, ap, ap₂, subst, ◌∙◌}
@@ -12,7 +13,6 @@ use lib.Dec.{lit≤}
 use borrow.Author.Tests.{eq-eqb, ne_eqb}
 use Rattle.octets.specs.Octets.{Octets}
 use Rattle.laws.proofs.Says.{says_eq, says_else}
-use Rattle.answers.specs.declared.Answer.TheVariants.{Done}
 use Rattle.sheet_rules.specs.declared.Record.{Record}
 use Rattle.sheet_rules.specs.Record.{record_size, records, nth}
 use Rattle.sheet_rules.specs.Sentences.{Among, Coded, Uncoded}
@@ -104,10 +104,10 @@ module _ (page : List ℕ) (rs : List Record) (p : Page page rs) (s : List ℕ) 
       (λ (c : Coded rec). (page_named page rs p rec among c).inside)
       (says_else (says_eq rec.len 0))
 
-  pub page_answers : data_of s page pencil k l ≡ Done rec.len
+  pub page_answers : data_of s page pencil k l ≡ Ok rec.len
   page_answers =
       let q = low in
-      (data_exactly s page pencil k l (Done rec.len)).1
+      (data_exactly s page pencil k l (Ok rec.len)).1
       (handed a (record { place = i; layer = y; fits = record { low = λ b. inside; high = λ b. absurd (omega arith) }; count = refl }))
 
   pub page_part : part_of s page pencil k l ≡ layers_in p.striped k l
@@ -125,7 +125,7 @@ pub record OwnParts (page sheet : List ℕ) : Type 0 where
   pub list : List Record
   pub its : Page page list
   pub cut : records sheet ≡ list
-  pub answers : (pencil : List ℕ) (k l i : ℕ) → LayerAt list k l i → data_of sheet page pencil k l ≡ Done (nth list i).len
+  pub answers : (pencil : List ℕ) (k l i : ℕ) → LayerAt list k l i → data_of sheet page pencil k l ≡ Ok (nth list i).len
   pub parts : (pencil : List ℕ) (k l i : ℕ) → LayerAt list k l i → part_of sheet page pencil k l ≡ layers_in its.striped k l
 
 front_parts : (page sheet : List ℕ) (n : ℕ) → Front page n sheet → OwnParts page sheet
@@ -137,10 +137,10 @@ front_parts page sheet n f =
       cut = f.cut;
       answers = λ pencil k l i y.
           page_answers page f.list f.page sheet a f.cut pencil k l i (subst (λ (x : List Record). LayerAt x k l i) (sym f.cut) y)
-          ∙ ap (λ (x : List Record). Done (nth x i).len) f.cut;
+          ∙ ap (λ (x : List Record). Ok (nth x i).len) f.cut;
       parts = λ pencil k l i y.
           page_part page f.list f.page sheet a f.cut pencil k l i (subst (λ (x : List Record). LayerAt x k l i) (sym f.cut) y);
     }
 
-pub read_parts : (page d : List ℕ) → Octets page → (n : ℕ) → read_of page (length d) ≡ Done n → OwnParts page (take (n * record_size) (read_into page d))
+pub read_parts : (page d : List ℕ) → Octets page → (n : ℕ) → read_of page (length d) ≡ Ok n → OwnParts page (take (n * record_size) (read_into page d))
 read_parts page d o n e = front_parts page (take (n * record_size) (read_into page d)) n (into_front page d o n e)

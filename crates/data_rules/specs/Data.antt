@@ -15,26 +15,21 @@
 --   data_of ..                    what the call answers; data_by: of what was found
 --   part_of ..                    the part itself, its octets; part_by
 --   part_source, part_start ..     where the part stands; source_by, start_by
-use Rattle.std.specs.Prelude.{ℕ, ◌+◌, cond, List, [], length, take, drop, leb, ltb}
-use Rattle.answers.specs.declared.Answer.{Answer}
-use Rattle.answers.specs.declared.Answer.TheVariants.{Done, Short, BadLine}
+use Rattle.std.specs.Prelude.{ℕ, ◌+◌, cond, List, [], length, take, drop, leb, ltb, Option, Some, None, Result, Ok, Err}
+use Rattle.answers.specs.Answers.{Answer}
+use Rattle.answers.specs.declared.Refusal.{Refusal}
+use Rattle.answers.specs.declared.Refusal.TheVariants.{Short, BadSheet, BadLine}
 use Rattle.sheet_rules.specs.declared.Record.{Record}
-use Rattle.sheet_rules.specs.declared.FoundStripe.{FoundStripe}
-use Rattle.sheet_rules.specs.declared.FoundStripe.TheVariants.{Has, NoStripe}
-use Rattle.sheet_rules.specs.declared.FoundLayer.{FoundLayer}
-use Rattle.sheet_rules.specs.declared.FoundLayer.TheVariants.{At, NoLayer}
-use Rattle.sheet_rules.specs.declared.Verdict.{Verdict}
-use Rattle.sheet_rules.specs.declared.Verdict.TheVariants.{Good}
+use Rattle.sheet_rules.specs.declared.Counts.{Counts}
+use Rattle.sheet_rules.specs.declared.Extent.{Extent}
 use Rattle.sheet_rules.specs.Record.{record_at}
-use Rattle.sheet_rules.specs.Judge.{coded, judge_of, answer_of}
+use Rattle.sheet_rules.specs.Judge.{coded, judge_of}
 use Rattle.sheet_rules.specs.StripeTable.{find_stripe, find_layer}
 use Rattle.segment_rules.specs.declared.Mode.{Mode}
 use Rattle.segment_rules.specs.declared.Mode.TheVariants.{One}
 use Rattle.data_rules.specs.declared.Source.{Source}
 use Rattle.data_rules.specs.declared.Source.TheVariants.{Page, Pencil}
 use Rattle.data_rules.specs.declared.Part.{Part}
-use Rattle.data_rules.specs.declared.Found.{Found}
-use Rattle.data_rules.specs.declared.Found.TheVariants.{Lies}
 
 -- ---- the source
 
@@ -65,61 +60,61 @@ unfolding source_of
 part_in l r = cond (coded r) (record { source = source_of l; start = r.start; len = r.len }) empty_part
 
 -- coded data that does not fit whole
-unfoldable pub record_found : List ℕ → List ℕ → ℕ → ℕ → Record → Found
+unfoldable pub record_found : List ℕ → List ℕ → ℕ → ℕ → Record → Result Part Refusal
 unfolding source_of octets_in part_in
 record_found page pencil l i r =
-    cond (ltb (length (octets_in page pencil (source_of l))) (r.start + r.len)) (Found.Refused (Short i)) (Lies (part_in l r))
+    cond (ltb (length (octets_in page pencil (source_of l))) (r.start + r.len)) (Err (Short i)) (Ok (part_in l r))
 
 -- ---- BadSheet, BadLine, Short
 
-unfoldable pub layer_found : List ℕ → List ℕ → List ℕ → ℕ → FoundLayer → Found
+unfoldable pub layer_found : List ℕ → List ℕ → List ℕ → ℕ → Option ℕ → Result Part Refusal
 unfolding record_found
-layer_found s page pencil l NoLayer = Found.Refused BadLine
-layer_found s page pencil l (At i) = record_found page pencil l i (record_at s i)
+layer_found s page pencil l None = Err BadLine
+layer_found s page pencil l (Some i) = record_found page pencil l i (record_at s i)
 
-unfoldable pub stripe_found : List ℕ → List ℕ → List ℕ → ℕ → FoundStripe → Found
+unfoldable pub stripe_found : List ℕ → List ℕ → List ℕ → ℕ → Option Extent → Result Part Refusal
 unfolding layer_found
-stripe_found s page pencil l NoStripe = Found.Refused BadLine
-stripe_found s page pencil l (Has extent) = layer_found s page pencil l (find_layer extent l)
+stripe_found s page pencil l None = Err BadLine
+stripe_found s page pencil l (Some extent) = layer_found s page pencil l (find_layer extent l)
 
-unfoldable pub sheet_found : List ℕ → List ℕ → List ℕ → ℕ → ℕ → Verdict → Found
+unfoldable pub sheet_found : List ℕ → List ℕ → List ℕ → ℕ → ℕ → Result Counts ℕ → Result Part Refusal
 unfolding stripe_found
-sheet_found s page pencil k l (Verdict.Refused i) = Found.Refused (answer_of (Verdict.Refused i))
-sheet_found s page pencil k l (Good n m) = stripe_found s page pencil l (find_stripe s k)
+sheet_found s page pencil k l (Err i) = Err (BadSheet i)
+sheet_found s page pencil k l (Ok c) = stripe_found s page pencil l (find_stripe s k)
 
-unfoldable pub found_of : List ℕ → List ℕ → List ℕ → ℕ → ℕ → Found
+unfoldable pub found_of : List ℕ → List ℕ → List ℕ → ℕ → ℕ → Result Part Refusal
 unfolding sheet_found
 found_of s page pencil k l = sheet_found s page pencil k l (judge_of s)
 
 -- ---- the answer, the part and where it stands
 
--- Done returns the length of the part handed out
-unfoldable pub data_by : Found → Answer
-data_by (Lies p) = Done p.len
-data_by (Found.Refused a) = a
+-- Ok returns the length of the part handed out
+unfoldable pub data_by : Result Part Refusal → Answer
+data_by (Ok p) = Ok p.len
+data_by (Err r) = Err r
 
 unfoldable pub data_of : List ℕ → List ℕ → List ℕ → ℕ → ℕ → Answer
 unfolding found_of data_by
 data_of s page pencil k l = data_by (found_of s page pencil k l)
 
 -- a refused part is empty
-unfoldable pub part_by : List ℕ → List ℕ → Found → List ℕ
+unfoldable pub part_by : List ℕ → List ℕ → Result Part Refusal → List ℕ
 unfolding octets_in
-part_by page pencil (Lies p) = take p.len (drop p.start (octets_in page pencil p.source))
-part_by page pencil (Found.Refused a) = []
+part_by page pencil (Ok p) = take p.len (drop p.start (octets_in page pencil p.source))
+part_by page pencil (Err r) = []
 
 unfoldable pub part_of : List ℕ → List ℕ → List ℕ → ℕ → ℕ → List ℕ
 unfolding found_of part_by
 part_of s page pencil k l = part_by page pencil (found_of s page pencil k l)
 
 -- an empty part stands in the page, at 0
-unfoldable pub source_by : Found → Source
-source_by (Lies p) = p.source
-source_by (Found.Refused a) = Page
+unfoldable pub source_by : Result Part Refusal → Source
+source_by (Ok p) = p.source
+source_by (Err r) = Page
 
-unfoldable pub start_by : Found → ℕ
-start_by (Lies p) = p.start
-start_by (Found.Refused a) = 0
+unfoldable pub start_by : Result Part Refusal → ℕ
+start_by (Ok p) = p.start
+start_by (Err r) = 0
 
 unfoldable pub part_source : List ℕ → List ℕ → List ℕ → ℕ → ℕ → Source
 unfolding found_of source_by

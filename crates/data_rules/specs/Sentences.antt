@@ -8,9 +8,9 @@
 --   HandsOut .. n            there is such a layer, and its data, of n octets, fits
 --   Handed .. p x n          the part p is the layer's, and stands in x from n on
 --   Nothing p x n            the part p is empty, and where it stands
-use Rattle.std.specs.Prelude.{ℕ, ◌+◌, ◌≤◌, ◌<◌, ◌≡◌, ◌⊎◌, List, [], length, take, drop}
-use Rattle.answers.specs.declared.Answer.{Answer}
-use Rattle.answers.specs.declared.Answer.TheVariants.{Done, Short, BadSheet, BadLine}
+use Rattle.std.specs.Prelude.{ℕ, ◌+◌, ◌≤◌, ◌<◌, ◌≡◌, ◌⊎◌, List, [], length, take, drop, Ok, Err}
+use Rattle.answers.specs.Answers.{Answer}
+use Rattle.answers.specs.declared.Refusal.TheVariants.{Short, BadSheet, BadLine}
 use Rattle.sheet_rules.specs.declared.Record.{Record}
 use Rattle.sheet_rules.specs.Record.{records, nth}
 use Rattle.sheet_rules.specs.Sentences.{Coded, Uncoded, Accepted, BadSheetAt}
@@ -40,10 +40,10 @@ pub record HandsOut (s page pencil : List ℕ) (k l n : ℕ) : Type 0 where
 
 -- one line for each answer that the call gives; it gives no other
 pub data Gives (s page pencil : List ℕ) (k l : ℕ) : Answer → Type 0 where
-  no_sheet : {i : ℕ} → BadSheetAt s i → Gives s page pencil k l (BadSheet i)
-  no_layer : Accepted s → ((i : ℕ) → LayerAt (records s) k l i → ⊥) → Gives s page pencil k l BadLine
-  passing : {i : ℕ} → Accepted s → LayerAt (records s) k l i → Passes page pencil l (nth (records s) i) → Gives s page pencil k l (Short i)
-  handed : {n : ℕ} → Accepted s → HandsOut s page pencil k l n → Gives s page pencil k l (Done n)
+  no_sheet : {i : ℕ} → BadSheetAt s i → Gives s page pencil k l (Err (BadSheet i))
+  no_layer : Accepted s → ((i : ℕ) → LayerAt (records s) k l i → ⊥) → Gives s page pencil k l (Err BadLine)
+  passing : {i : ℕ} → Accepted s → LayerAt (records s) k l i → Passes page pencil l (nth (records s) i) → Gives s page pencil k l (Err (Short i))
+  handed : {n : ℕ} → Accepted s → HandsOut s page pencil k l n → Gives s page pencil k l (Ok n)
 
 -- ---- the part, and where it stands
 

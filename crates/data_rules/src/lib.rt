@@ -1,13 +1,11 @@
 // The types of coded data handed out. The definitions stand in specs/, the theorems about them in proofs/.
 #![tactic(auto)]
 
-use answers::Answer;
-
-// What holds a layer's coded data.
+// What holds a layer's coded data, by the number that the viewer in C is given.
 #[derive(Clone, Copy)]
 pub enum Source {
-    Page,
-    Pencil,
+    Page = 0,
+    Pencil = 1,
 }
 
 // Where a part stands: what holds it, its first octet there, and how many octets it has.
@@ -16,11 +14,4 @@ pub struct Part {
     pub source: Source,
     pub start: u32,
     pub len: u32,
-}
-
-// A layer's coded data looked for: where they stand, or the refusal.
-#[derive(Clone, Copy)]
-pub enum Found {
-    Lies(Part),
-    Refused(Answer),
 }

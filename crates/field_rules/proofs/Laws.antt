@@ -9,7 +9,7 @@ use mathlib.Core.List.{List, [], ◌∷◌, ◌++◌, append_assoc, append-nil}
 use lib.ListN.{length, drop, length-append, length-drop}
 use lib.Dec.{ltb}
 use borrow.Author.Tests.{le-ltb, ltb-false}
-use Rattle.answers.specs.declared.Answer.{Answer}
+use Rattle.answers.specs.declared.Refusal.{Refusal}
 use Rattle.laws.proofs.Cases.{cond_with, clash}
 use Rattle.octets.specs.Octets.{Octets, stands_at}
 use Rattle.octets.proofs.Laws.{be16_there, be32_there, be16_stands, be32_stands, be16_bound, be32_bound, drop_next, drop_octet, length_octets16, length_octets32, stands_there, stands_split}
@@ -172,16 +172,16 @@ fields_back (again back good refusal ∷ table) before out s at n o h =
 pub end_apart : (P : List ℕ → List ℕ → Type 0) {before out l : List ℕ} → Stands [] before out l → P before [] → P out l
 end_apart P at_end p = p
 
-pub mark_apart : (P : List ℕ → Type 0) {m : List ℕ} {refusal : ℕ → Answer} {table : List Field} {before out l : List ℕ} → Stands (mark m refusal ∷ table) before out l
+pub mark_apart : (P : List ℕ → Type 0) {m : List ℕ} {refusal : ℕ → Refusal} {table : List Field} {before out l : List ℕ} → Stands (mark m refusal ∷ table) before out l
     → ((more : List ℕ) → Stands table before out more → P (m ++ more)) → P l
 mark_apart P (marked {l = more} k) go = go more k
 
-pub val_apart : (P : List ℕ → Type 0) {ws : List Width} {good : List ℕ → List ℕ → Bool} {refusal : ℕ → Answer} {table : List Field} {before out l : List ℕ}
+pub val_apart : (P : List ℕ → Type 0) {ws : List Width} {good : List ℕ → List ℕ → Bool} {refusal : ℕ → Refusal} {table : List Field} {before out l : List ℕ}
     → Stands (val ws good refusal ∷ table) before out l
     → ((vs more : List ℕ) → Sized ws vs → good before vs ≡ true → Stands table (before ++ vs) out more → P (put ws vs ++ more)) → P l
 val_apart P (valued {l = more} vs sized good k) go = go vs more sized good k
 
-pub again_apart : (P : List ℕ → Type 0) {back : ℕ} {good : List ℕ → Bool} {refusal : ℕ → Answer} {table : List Field} {before out l : List ℕ}
+pub again_apart : (P : List ℕ → Type 0) {back : ℕ} {good : List ℕ → Bool} {refusal : ℕ → Refusal} {table : List Field} {before out l : List ℕ}
     → Stands (again back good refusal ∷ table) before out l → (good before ≡ true → Stands table before out l → P l) → P l
 again_apart P (held good k) go = go good k
 
@@ -198,7 +198,7 @@ sized_more Q w ws [] z go = absurd z
 sized_more Q w ws (v ∷ us) z go = go v us z.0 z.1
 
 -- a field of one, two, three or four numbers
-module _ (P : List ℕ → Type 0) {good : List ℕ → List ℕ → Bool} {refusal : ℕ → Answer} {table : List Field} {before out l : List ℕ} where
+module _ (P : List ℕ → Type 0) {good : List ℕ → List ℕ → Bool} {refusal : ℕ → Refusal} {table : List Field} {before out l : List ℕ} where
   pub one_apart : {a : Width} → Stands (val (a ∷ []) good refusal ∷ table) before out l
       → ((x : ℕ) (more : List ℕ) → x < bound a → good before (x ∷ []) ≡ true → Stands table (before ++ (x ∷ [])) out more → P (put (a ∷ []) (x ∷ []) ++ more)) → P l
   one_apart {a} st go =

@@ -10,8 +10,8 @@ use lib.ListN.{length, take, drop, length-append, length-drop, take-append-drop}
 use lib.Seq.{length-take-le, drop-drop}
 use lib.Dec.{ltb}
 use borrow.Author.Tests.{le-ltb, ltb-false, ltb-true, lt-ltb}
-use Rattle.answers.specs.declared.Answer.{Answer}
-use Rattle.answers.specs.declared.Answer.TheVariants.{Short}
+use Rattle.answers.specs.declared.Refusal.{Refusal}
+use Rattle.answers.specs.declared.Refusal.TheVariants.{Short}
 use Rattle.laws.proofs.Cases.{cond_with, clash}
 use Rattle.octets.specs.Octets.{Octets, stands_at}
 use Rattle.octets.proofs.Laws.{drop_next, stands_there, stands_split}
@@ -39,9 +39,9 @@ exact_fields rows before s at h =
 
 -- ---- in other words
 
-pub exact_as : {A : Type 0} {r : Res A} {Is Other : List ℕ → A → Type 0} {Bad Else : List ℕ → Answer → Type 0} {s : List ℕ} {at : ℕ} → Exact r Is Bad s at
+pub exact_as : {A : Type 0} {r : Res A} {Is Other : List ℕ → A → Type 0} {Bad Else : List ℕ → Refusal → Type 0} {s : List ℕ} {at : ℕ} → Exact r Is Bad s at
     → ((l : List ℕ) (a : A) → Is l a → Other l a) → ((l : List ℕ) (a : A) → Other l a → Is l a)
-    → ((l : List ℕ) (x : Answer) → Bad l x → Else l x) → ((l : List ℕ) (x : Answer) → Else l x → Bad l x) → Exact r Other Else s at
+    → ((l : List ℕ) (x : Refusal) → Bad l x → Else l x) → ((l : List ℕ) (x : Refusal) → Else l x → Bad l x) → Exact r Other Else s at
 exact_as {s = s} {at = at} k to fro bad worse =
     record {
       there = λ l rest a e z. k.there l rest a e (fro l a z);
@@ -52,7 +52,7 @@ exact_as {s = s} {at = at} k to fro bad worse =
 
 -- ---- a part behind a part
 
-bind_no : {A B : Type 0} (P : Type 0) (r : Res A) (go : A → ℕ → Res B) (x : Answer) → bind r go ≡ no x → (r ≡ no x → P) → ((a : A) (m : ℕ) → r ≡ ok a m → go a m ≡ no x → P) → P
+bind_no : {A B : Type 0} (P : Type 0) (r : Res A) (go : A → ℕ → Res B) (x : Refusal) → bind r go ≡ no x → (r ≡ no x → P) → ((a : A) (m : ℕ) → r ≡ ok a m → go a m ≡ no x → P) → P
 unfolding bind
 bind_no P (ok a m) go x e f k = k a m refl e
 bind_no P (no y) go x e f k = let z : y ≡ x = cc in f (ap no z)
@@ -62,8 +62,8 @@ unfolding bind
 bind_ok P (ok a m) go b n e k = k a m refl e
 bind_ok P (no y) go b n e k = clash cc
 
-module _ {A B : Type 0} (r : Res A) (go : A → ℕ → Res B) (First : List ℕ → A → Type 0) (Bad : List ℕ → Answer → Type 0)
-    (Second : A → ℕ → List ℕ → B → Type 0) (Worse : A → ℕ → List ℕ → Answer → Type 0) (s : List ℕ) (at : ℕ) (h : at ≤ length s) where
+module _ {A B : Type 0} (r : Res A) (go : A → ℕ → Res B) (First : List ℕ → A → Type 0) (Bad : List ℕ → Refusal → Type 0)
+    (Second : A → ℕ → List ℕ → B → Type 0) (Worse : A → ℕ → List ℕ → Refusal → Type 0) (s : List ℕ) (at : ℕ) (h : at ≤ length s) where
   pub exact_then : Exact r First Bad s at
       → ((a : A) (l : List ℕ) → First l a → at + length l ≤ length s → Exact (go a (at + length l)) (Second a (at + length l)) (Worse a (at + length l)) s (at + length l))
       → Exact (bind r go) (Both First Second at) (BadThen First Bad Worse at) s at
@@ -108,7 +108,7 @@ module _ {A B : Type 0} (r : Res A) (go : A → ℕ → Res B) (First : List ℕ
           let v : at + length z.front + length z.rest ≡ at + length l = omega arith in
           ap (λ (x : Res A). bind x go) q1 ∙ q2 ∙ ap (ok b) v
 
-      refuse : (l : List ℕ) (x : Answer) → drop at s ≡ l → BadThen First Bad Worse at l x → bind r go ≡ no x
+      refuse : (l : List ℕ) (x : Refusal) → drop at s ≡ l → BadThen First Bad Worse at l x → bind r go ≡ no x
       refuse l x e (bad_first f) = ap (λ (y : Res A). bind y go) (k.refuses x (subst (λ (l : List ℕ). Bad l x) (sym e) f))
       refuse l x e (bad_later front rest a f w) =
           let g = room s front rest at h e in
@@ -120,7 +120,7 @@ module _ {A B : Type 0} (r : Res A) (go : A → ℕ → Res B) (First : List ℕ
 pub data Nothing {A : Type 0} (a : A) : List ℕ → A → Type 0 where
   nothing : Nothing a [] a
 
-pub exact_ok : {A : Type 0} (a : A) (s : List ℕ) (at : ℕ) → at ≤ length s → Exact (ok a at) (Nothing a) (λ (l : List ℕ) (x : Answer). ⊥) s at
+pub exact_ok : {A : Type 0} (a : A) (s : List ℕ) (at : ℕ) → at ≤ length s → Exact (ok a at) (Nothing a) (λ (l : List ℕ) (x : Refusal). ⊥) s at
 exact_ok {A} a s at h =
     record {
       there = λ l rest b e z. there l b z;
@@ -135,7 +135,7 @@ exact_ok {A} a s at h =
     there : (l : List ℕ) (b : A) → Nothing a l b → ok a at ≡ ok b (at + length l)
     there l b nothing = ap (ok a) (sym (add-zero at))
 
-pub exact_no : {A : Type 0} (y : Answer) (s : List ℕ) (at : ℕ) → Exact {A = A} (no y) (λ (l : List ℕ) (a : A). ⊥) (λ (l : List ℕ) (x : Answer). x ≡ y) s at
+pub exact_no : {A : Type 0} (y : Refusal) (s : List ℕ) (at : ℕ) → Exact {A = A} (no y) (λ (l : List ℕ) (a : A). ⊥) (λ (l : List ℕ) (x : Refusal). x ≡ y) s at
 exact_no y s at =
     record {
       there = λ l rest b e z. absurd z;
@@ -169,7 +169,7 @@ apart_back s at m h f =
           (sym (take-append-drop (length m) (drop at s)) ∙ ap (λ (l : List ℕ). l ++ drop (length m) (drop at s)) q));
     }
 
-module _ {A : Type 0} (m : List ℕ) (p q : Res A) (Behind Else : List ℕ → A → Type 0) (BadBehind BadElse : List ℕ → Answer → Type 0) (s : List ℕ) (at : ℕ)
+module _ {A : Type 0} (m : List ℕ) (p q : Res A) (Behind Else : List ℕ → A → Type 0) (BadBehind BadElse : List ℕ → Refusal → Type 0) (s : List ℕ) (at : ℕ)
     (h : at ≤ length s) where
   abbrev due_of : Res A
   due_of = cond (ltb (length s) (at + length m)) (no (Short at)) (cond (stands_at s at m) p q)
@@ -226,7 +226,7 @@ module _ {A : Type 0} (m : List ℕ) (p q : Res A) (Behind Else : List ℕ → A
           let g : at + length m ≤ length s = omega arith in
           simp (le-ltb (length s) (at + length m) g, apart_there s at m l rest e d) ((y g).there l rest a e z)
 
-      refuse : (l : List ℕ) (z : Answer) → drop at s ≡ l → BadDue m at BadBehind BadElse l z → due_of ≡ no z
+      refuse : (l : List ℕ) (z : Refusal) → drop at s ≡ l → BadDue m at BadBehind BadElse l z → due_of ≡ no z
       refuse l z e (bad_cut c) = let i = length-drop at s in let j = ap length e in simp (lt-ltb (length s) (at + length m) (omega arith))
       refuse l z e (bad_mark l' b) =
           let g = room s m l' at h e in
@@ -275,16 +275,16 @@ exact_span n s at h =
     there : (l rest : List ℕ) (a : ℕ) → drop at s ≡ l ++ rest → Span n l a → cond (ltb (length s) (at + n)) (no (Short at)) (ok n (at + n)) ≡ ok a (at + length l)
     there l rest a e (span z) = let g = room s l rest at h e in simp (le-ltb (length s) (at + n) (omega arith)) (ap (λ (j : ℕ). ok n (at + j)) (sym z))
 
-    refuse : (x : Answer) → BadSpan n at (drop at s) x → cond (ltb (length s) (at + n)) (no (Short at)) (ok n (at + n)) ≡ no x
+    refuse : (x : Refusal) → BadSpan n at (drop at s) x → cond (ltb (length s) (at + n)) (no (Short at)) (ok n (at + n)) ≡ no x
     refuse x (cut_span c) = let j = length-drop at s in simp (lt-ltb (length s) (at + n) (omega arith))
 
 -- ---- another value
 
-pub exact_map : {A B : Type 0} (r : Res A) (f : A → B) (Is : List ℕ → A → Type 0) (Bad : List ℕ → Answer → Type 0) (s : List ℕ) (at : ℕ) → at ≤ length s → Exact r Is Bad s at
+pub exact_map : {A B : Type 0} (r : Res A) (f : A → B) (Is : List ℕ → A → Type 0) (Bad : List ℕ → Refusal → Type 0) (s : List ℕ) (at : ℕ) → at ≤ length s → Exact r Is Bad s at
     → Exact (bind r (λ (a : A) (e : ℕ). ok (f a) e)) (Mapped f Is) Bad s at
 exact_map {A} {B} r f Is Bad s at h k =
     exact_as
-    (exact_then r (λ (a : A) (e : ℕ). ok (f a) e) Is Bad (λ (a : A) (e : ℕ). Nothing (f a)) (λ (a : A) (e : ℕ) (l : List ℕ) (x : Answer). ⊥) s at h k (λ a l st i. exact_ok (f a) s (at + length l) i))
+    (exact_then r (λ (a : A) (e : ℕ). ok (f a) e) Is Bad (λ (a : A) (e : ℕ). Nothing (f a)) (λ (a : A) (e : ℕ) (l : List ℕ) (x : Refusal). ⊥) s at h k (λ a l st i. exact_ok (f a) s (at + length l) i))
     (λ l v b. subst (λ (x : List ℕ). Mapped f Is x v) (sym b.octets) (to b.front b.value b.first b.second)) (λ l v b. fro b) (λ l x b. bad b) (λ l x b. bad_first b)
   where
     to : (l : List ℕ) (a : A) → Is l a → {r : List ℕ} {v : B} → Nothing (f a) r v → Mapped f Is (l ++ r) v
@@ -293,20 +293,20 @@ exact_map {A} {B} r f Is Bad s at h k =
     fro : {l : List ℕ} {v : B} → Mapped f Is l v → Both Is (λ (a : A) (e : ℕ). Nothing (f a)) at l v
     fro {l} (mapped a z) = record { front = l; rest = []; value = a; octets = sym (append-nil l); first = z; second = nothing }
 
-    bad : {l : List ℕ} {x : Answer} → BadThen Is Bad (λ (a : A) (e : ℕ) (l : List ℕ) (x : Answer). ⊥) at l x → Bad l x
+    bad : {l : List ℕ} {x : Refusal} → BadThen Is Bad (λ (a : A) (e : ℕ) (l : List ℕ) (x : Refusal). ⊥) at l x → Bad l x
     bad (bad_first b) = b
     bad (bad_later l r a z w) = absurd w
 
 -- ---- a test
 
-pub exact_test : {A : Type 0} (b : Bool) (y : Answer) (r : Res A) (Is : List ℕ → A → Type 0) (Bad : List ℕ → Answer → Type 0) (s : List ℕ) (at : ℕ) → (b ≡ true → Exact r Is Bad s at)
+pub exact_test : {A : Type 0} (b : Bool) (y : Refusal) (r : Res A) (Is : List ℕ → A → Type 0) (Bad : List ℕ → Refusal → Type 0) (s : List ℕ) (at : ℕ) → (b ≡ true → Exact r Is Bad s at)
     → Exact (cond b r (no y)) (Passed b Is) (Failed b y Bad) s at
 exact_test {A} true y r Is Bad s at k = exact_as (k refl) (λ l a z. passed refl z) (λ l a z. of z) (λ l x z. bad_passed refl z) (λ l x z. un z)
   where
     of : {l : List ℕ} {a : A} → Passed true Is l a → Is l a
     of (passed e z) = z
 
-    un : {l : List ℕ} {x : Answer} → Failed true y Bad l x → Bad l x
+    un : {l : List ℕ} {x : Refusal} → Failed true y Bad l x → Bad l x
     un (failed e) = absurd (false≢true (sym e))
     un (bad_passed e z) = z
 exact_test {A} false y r Is Bad s at k = exact_as (exact_no y s at) (λ l a z. absurd z) (λ l a z. never z) (λ l x z. subst (Failed false y Bad l) (sym z) (failed refl)) (λ l x z. is z)
@@ -314,13 +314,13 @@ exact_test {A} false y r Is Bad s at k = exact_as (exact_no y s at) (λ l a z. a
     never : {l : List ℕ} {a : A} → Passed false Is l a → ⊥
     never (passed e z) = false≢true e
 
-    is : {l : List ℕ} {x : Answer} → Failed false y Bad l x → x ≡ y
+    is : {l : List ℕ} {x : Refusal} → Failed false y Bad l x → x ≡ y
     is (failed e) = refl
     is (bad_passed e z) = absurd (false≢true e)
 
 -- ---- room first
 
-pub exact_room : {A : Type 0} (n : ℕ) (r : Res A) (Is : List ℕ → A → Type 0) (Bad : List ℕ → Answer → Type 0) (s : List ℕ) (at : ℕ) → at ≤ length s
+pub exact_room : {A : Type 0} (n : ℕ) (r : Res A) (Is : List ℕ → A → Type 0) (Bad : List ℕ → Refusal → Type 0) (s : List ℕ) (at : ℕ) → at ≤ length s
     → ((l : List ℕ) (a : A) → Is l a → n ≤ length l) → Exact r Is Bad s at → Exact (cond (ltb (length s) (at + n)) (no (Short at)) r) Is (BadRoom n at Bad) s at
 exact_room {A} n r Is Bad s at h long k =
     record {
@@ -337,14 +337,14 @@ exact_room {A} n r Is Bad s at h long k =
           (λ t e. let i = ltb-false (length s) (at + n) t in let j = length-drop at s in in_room (omega arith) (k.refused o x e));
     }
   where
-    refuse : (l : List ℕ) (x : Answer) → drop at s ≡ l → BadRoom n at Bad l x → cond (ltb (length s) (at + n)) (no (Short at)) r ≡ no x
+    refuse : (l : List ℕ) (x : Refusal) → drop at s ≡ l → BadRoom n at Bad l x → cond (ltb (length s) (at + n)) (no (Short at)) r ≡ no x
     refuse l x e (cut_room c) = let j = length-drop at s in let q = ap length e in simp (lt-ltb (length s) (at + n) (omega arith))
     refuse l x e (in_room c b) = let j = length-drop at s in let q = ap length e in simp (le-ltb (length s) (at + n) (omega arith)) (k.refuses x (subst (λ (l : List ℕ). Bad l x) (sym e) b))
 
 -- ---- two readings of the same octets are the same, where what the one takes and refuses the other takes and refuses so: one direction is enough
 
-pub exact_same : {A : Type 0} {r q : Res A} {Is Other : List ℕ → A → Type 0} {Bad Else : List ℕ → Answer → Type 0} (s : List ℕ) (at : ℕ) → Octets s → Exact r Is Bad s at → Exact q Other Else s at
-    → ((l : List ℕ) (a : A) → Is l a → Other l a) → ((l : List ℕ) (x : Answer) → Bad l x → Else l x) → r ≡ q
+pub exact_same : {A : Type 0} {r q : Res A} {Is Other : List ℕ → A → Type 0} {Bad Else : List ℕ → Refusal → Type 0} (s : List ℕ) (at : ℕ) → Octets s → Exact r Is Bad s at → Exact q Other Else s at
+    → ((l : List ℕ) (a : A) → Is l a → Other l a) → ((l : List ℕ) (x : Refusal) → Bad l x → Else l x) → r ≡ q
 exact_same {A} {r} {q} {Is} {Other} {Bad} {Else} s at o j k is bad = by r refl
   where
     by : (t : Res A) → r ≡ t → r ≡ q

@@ -9,19 +9,19 @@ use lib.Dec.{ltb}
 use borrow.Author.Tests.{ltb-false}
 use Rattle.octets.specs.Octets.{stands_at}
 use Rattle.laws.proofs.Cases.{cond_with, clash}
-use Rattle.answers.specs.declared.Answer.{Answer}
-use Rattle.answers.specs.declared.Answer.TheVariants.{Short}
+use Rattle.answers.specs.declared.Refusal.{Refusal}
+use Rattle.answers.specs.declared.Refusal.TheVariants.{Short}
 use Rattle.field_rules.specs.Field.{Res, ok, no, widths, numbers, Field, mark, val, again, fields}
 
 -- each refusal that the table names has a property, at every place up to n
-unfoldable pub Names : (Answer → Type 0) → ℕ → List Field → Type 0
+unfoldable pub Names : (Refusal → Type 0) → ℕ → List Field → Type 0
 Names Q n [] = Unit {0}
 Names Q n (mark m refusal ∷ table) = ((p : ℕ) → p ≤ n → Q (refusal p)) × Names Q n table
 Names Q n (val ws good refusal ∷ table) = ((p : ℕ) → p ≤ n → Q (refusal p)) × Names Q n table
 Names Q n (again back good refusal ∷ table) = ((p : ℕ) → p ≤ n → Q (refusal p)) × Names Q n table
 
-module _ (Q : Answer → Type 0) (s : List ℕ) (short : (p : ℕ) → p ≤ length s → Q (Short p)) (a : Answer) where
-  told : (p : ℕ) (b : Answer) → Q b → ◌≡◌ {A = Res (List ℕ)} (no b) (no a) → Q a
+module _ (Q : Refusal → Type 0) (s : List ℕ) (short : (p : ℕ) → p ≤ length s → Q (Short p)) (a : Refusal) where
+  told : (p : ℕ) (b : Refusal) → Q b → ◌≡◌ {A = Res (List ℕ)} (no b) (no a) → Q a
   told p b q e = let z : b ≡ a = cc in subst Q z q
 
   pub fields_refused : (table : List Field) → Names Q (length s) table → (before : List ℕ) (at : ℕ) → at ≤ length s → fields table before s at ≡ no a → Q a

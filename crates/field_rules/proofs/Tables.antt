@@ -10,8 +10,8 @@ use lib.ListN.{length, take, drop, length-append, length-drop, take-append-drop}
 use lib.Seq.{length-take-le}
 use lib.Dec.{ltb}
 use borrow.Author.Tests.{le-ltb, ltb-false, ltb-true, lt-ltb}
-use Rattle.answers.specs.declared.Answer.{Answer}
-use Rattle.answers.specs.declared.Answer.TheVariants.{Short}
+use Rattle.answers.specs.declared.Refusal.{Refusal}
+use Rattle.answers.specs.declared.Refusal.TheVariants.{Short}
 use Rattle.laws.proofs.Cases.{cond_with, clash, bool_else}
 use Rattle.octets.specs.Octets.{Octets, stands_at}
 use Rattle.octets.proofs.Laws.{drop_next, stands_there, stands_split}
@@ -42,7 +42,7 @@ mark_other s at m x rest e h d =
     (bool_else (stands_at s at m))
 
 module _ (rows : List Field) (s : List ℕ) where
-  pub broken_refused : {row : Field} {known l : List ℕ} {p : ℕ} {x : Answer} → Broken row known p l x → p ≤ length s → drop p s ≡ l → fields (row ∷ rows) known s p ≡ no x
+  pub broken_refused : {row : Field} {known l : List ℕ} {p : ℕ} {x : Refusal} → Broken row known p l x → p ≤ length s → drop p s ≡ l → fields (row ∷ rows) known s p ≡ no x
   unfolding fields
   broken_refused {row = mark m refusal} {p = p} (cut c) h e =
       let n = length-drop p s in let q = ap length e in simp (lt-ltb (length s) (p + length m) (omega arith)) refl
@@ -58,7 +58,7 @@ module _ (rows : List Field) (s : List ℕ) where
       simp (le-ltb (length s) (p + widths ws) (omega arith), numbers_there ws vs z s rest p e, g)
   broken_refused (late g) h e = simp g
 
-pub faulted_refused : {rows : List Field} {before : List ℕ} {at : ℕ} {x : Answer} (s : List ℕ) → at ≤ length s → Faulted rows before at (drop at s) x → fields rows before s at ≡ no x
+pub faulted_refused : {rows : List Field} {before : List ℕ} {at : ℕ} {x : Refusal} (s : List ℕ) → at ≤ length s → Faulted rows before at (drop at s) x → fields rows before s at ≡ no x
 faulted_refused {before = before} {at = at} s h f =
     ap (λ (r : List Field). fields r before s at) f.table
     ∙ fields_past f.stands (f.row ∷ f.later) s f.rest at h f.split
@@ -66,7 +66,7 @@ faulted_refused {before = before} {at = at} s h f =
 
 -- ---- and a refused table has a broken row behind rows that stand
 
-module _ (s : List ℕ) (o : Octets s) (x : Answer) where
+module _ (s : List ℕ) (o : Octets s) (x : Refusal) where
   placed : {rows : List Field} {before l : List ℕ} {at : ℕ} → drop at s ≡ l → Faulted rows before at l x → Faulted rows before at (drop at s) x
   placed {rows} {before} {at = at} d f = subst (λ (k : List ℕ). Faulted rows before at k x) (sym d) f
 
@@ -112,6 +112,6 @@ module _ (s : List ℕ) (o : Octets s) (x : Answer) where
 
 -- ---- the theorem
 
-pub fields_refused_exactly : (rows : List Field) (before s : List ℕ) (at : ℕ) (x : Answer) → Octets s → at ≤ length s
+pub fields_refused_exactly : (rows : List Field) (before s : List ℕ) (at : ℕ) (x : Refusal) → Octets s → at ≤ length s
     → fields rows before s at ≡ no x ↔ Faulted rows before at (drop at s) x
 fields_refused_exactly rows before s at x o h = (refused_faulted s o x rows before at h, faulted_refused s h)

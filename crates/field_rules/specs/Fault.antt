@@ -1,8 +1,8 @@
 -- When a table of fields is refused, without the steps of its reading: the fields before the one at fault stand there, and it is cut short, or is
 -- there and breaks its rule.
 use Rattle.std.specs.Prelude.{ℕ, ◌+◌, ◌-◌, ◌<◌, ◌≡◌, ◌≢◌, Bool, false, List, ◌∷◌, ◌++◌, length, get_or}
-use Rattle.answers.specs.declared.Answer.{Answer}
-use Rattle.answers.specs.declared.Answer.TheVariants.{Short}
+use Rattle.answers.specs.declared.Refusal.{Refusal}
+use Rattle.answers.specs.declared.Refusal.TheVariants.{Short}
 use Rattle.field_rules.specs.Field.{Width, widths, Field, mark, val, again, put, Sized}
 use Rattle.field_rules.specs.Stands.{Stands}
 
@@ -13,16 +13,16 @@ size_of (val ws good refusal) = widths ws
 size_of (again back good refusal) = 0
 
 -- the field at a place p, where these octets stand, with so many numbers known
-pub data Broken : Field → List ℕ → ℕ → List ℕ → Answer → Type 0 where
+pub data Broken : Field → List ℕ → ℕ → List ℕ → Refusal → Type 0 where
   cut : {row : Field} {known l : List ℕ} {p : ℕ} → length l < size_of row → Broken row known p l (Short p)
-  other : {m known : List ℕ} {refusal : ℕ → Answer} {p : ℕ} (x rest : List ℕ) → length x ≡ length m → x ≢ m
+  other : {m known : List ℕ} {refusal : ℕ → Refusal} {p : ℕ} (x rest : List ℕ) → length x ≡ length m → x ≢ m
       → Broken (mark m refusal) known p (x ++ rest) (refusal p)
-  wrong : {ws : List Width} {good : List ℕ → List ℕ → Bool} {refusal : ℕ → Answer} {known : List ℕ} {p : ℕ} (vs rest : List ℕ) → Sized ws vs
+  wrong : {ws : List Width} {good : List ℕ → List ℕ → Bool} {refusal : ℕ → Refusal} {known : List ℕ} {p : ℕ} (vs rest : List ℕ) → Sized ws vs
       → good known vs ≡ false → Broken (val ws good refusal) known p (put ws vs ++ rest) (refusal p)
-  late : {back : ℕ} {good : List ℕ → Bool} {refusal : ℕ → Answer} {known l : List ℕ} {p : ℕ} → good known ≡ false
+  late : {back : ℕ} {good : List ℕ → Bool} {refusal : ℕ → Refusal} {known l : List ℕ} {p : ℕ} → good known ≡ false
       → Broken (again back good refusal) known p l (refusal (p - back))
 
-pub record Faulted (rows : List Field) (before : List ℕ) (at : ℕ) (l : List ℕ) (x : Answer) : Type 0 where
+pub record Faulted (rows : List Field) (before : List ℕ) (at : ℕ) (l : List ℕ) (x : Refusal) : Type 0 where
   pub early : List Field
   pub row : Field
   pub later : List Field
@@ -36,11 +36,11 @@ pub record Faulted (rows : List Field) (before : List ℕ) (at : ℕ) (l : List 
 
 -- ---- one field alone, in words: it is cut short, or it is there and is not as it must be
 
-pub data BadMarked (m : List ℕ) (refusal : ℕ → Answer) (p : ℕ) : List ℕ → Answer → Type 0 where
+pub data BadMarked (m : List ℕ) (refusal : ℕ → Refusal) (p : ℕ) : List ℕ → Refusal → Type 0 where
   mark_cut : {l : List ℕ} → length l < length m → BadMarked m refusal p l (Short p)
   mark_other : (x rest : List ℕ) → length x ≡ length m → x ≢ m → BadMarked m refusal p (x ++ rest) (refusal p)
 
-pub data BadNumbers (ws : List Width) (Good : List ℕ → Type 0) (refusal : ℕ → Answer) (p : ℕ) : List ℕ → Answer → Type 0 where
+pub data BadNumbers (ws : List Width) (Good : List ℕ → Type 0) (refusal : ℕ → Refusal) (p : ℕ) : List ℕ → Refusal → Type 0 where
   numbers_cut : {l : List ℕ} → length l < widths ws → BadNumbers ws Good refusal p l (Short p)
   numbers_wrong : (vs rest : List ℕ) → Sized ws vs → (Good vs → ⊥) → BadNumbers ws Good refusal p (put ws vs ++ rest) (refusal p)
 

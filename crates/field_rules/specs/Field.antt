@@ -10,13 +10,13 @@
 --
 -- A field that does not fit whole is Short, whatever its octets say.
 use Rattle.std.specs.Prelude.{ℕ, ◌+◌, ◌-◌, ◌<◌, Bool, true, cond, List, [], ◌∷◌, ◌++◌, length, get_or, ltb}
-use Rattle.answers.specs.declared.Answer.{Answer}
-use Rattle.answers.specs.declared.Answer.TheVariants.{Short}
+use Rattle.answers.specs.declared.Refusal.{Refusal}
+use Rattle.answers.specs.declared.Refusal.TheVariants.{Short}
 use Rattle.octets.specs.Octets.{be16_at, be32_at, octets16, octets32, stands_at}
 
 pub data Res (A : Type 0) : Type 0 where
   ok : A → ℕ → Res A
-  no : Answer → Res A
+  no : Refusal → Res A
 
 unfoldable pub bind : {A B : Type 0} → Res A → (A → ℕ → Res B) → Res B
 bind (ok a n) go = go a n
@@ -47,9 +47,9 @@ numbers [] s at = []
 numbers (w ∷ ws) s at = number_at w s at ∷ numbers ws s (at + octet_count w)
 
 pub data Field : Type 0 where
-  mark : List ℕ → (ℕ → Answer) → Field
-  val : List Width → (List ℕ → List ℕ → Bool) → (ℕ → Answer) → Field
-  again : ℕ → (List ℕ → Bool) → (ℕ → Answer) → Field
+  mark : List ℕ → (ℕ → Refusal) → Field
+  val : List Width → (List ℕ → List ℕ → Bool) → (ℕ → Refusal) → Field
+  again : ℕ → (List ℕ → Bool) → (ℕ → Refusal) → Field
 
 -- a rule on a field of one number
 abbrev pub is : (ℕ → Bool) → List ℕ → List ℕ → Bool

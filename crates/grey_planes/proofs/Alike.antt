@@ -13,8 +13,7 @@ use Rattle.sheet_rules.specs.Judge.{coded}
 use Rattle.pixel_rules.specs.declared.MainPos.{MainPos}
 use Rattle.pixel_rules.specs.declared.Mask.{Mask}
 use Rattle.pixel_rules.specs.declared.Mask.TheVariants.{Zero, One}
-use Rattle.pixel_rules.specs.declared.Sample.{Sample}
-use Rattle.pixel_rules.specs.declared.Sample.TheVariants.{Known}
+use Rattle.std.specs.Prelude.{Option, Some}
 use Rattle.pixel_rules.specs.Place.{inside}
 use Rattle.pixel_rules.specs.Planes.{plane_start}
 use Rattle.pixel_rules.specs.Samples.{Scene, record_of, main_of, width_of, pairs_of, depth, index_of, base_of, virtual, mask_read, image_read, mask_at, image_at}
@@ -56,8 +55,8 @@ module _ (v w : Scene) (a : Alike v w) where
     pub image_alike : (l : ℕ) → l % 2 ≡ 1 → image_at w l x y ≡ image_at v l x y
     unfolding image_at inside index_of
     image_alike l odd =
-        ap₂ (λ (r : Record) (m : ℕ). cond (coded r && inside m r x y) (image_read w.samples (depth (record_of w l)) (plane_start w.planes l) (index_of m r x y)) (Known (base_of r))) (a.records l) main_same
-        ∙ cond_both (λ (p q : Sample). p ≡ q) (coded (record_of v l) && inside (main_of v) (record_of v l) x y)
+        ap₂ (λ (r : Record) (m : ℕ). cond (coded r && inside m r x y) (image_read w.samples (depth (record_of w l)) (plane_start w.planes l) (index_of m r x y)) (Some (base_of r))) (a.records l) main_same
+        ∙ cond_both (λ (p q : Option Colour). p ≡ q) (coded (record_of v l) && inside (main_of v) (record_of v l) x y)
         (λ c.
         let i = ((says_and (says_true (coded (record_of v l))) (says_true (inside (main_of v) (record_of v l) x y))).told c).1 in
         a.images l odd (index_of (main_of v) (record_of v l) x y) (index_within (main_of v) (record_of v l) x y i))
@@ -72,4 +71,4 @@ module _ (v w : Scene) (a : Alike v w) where
   -- the octets of a line, whatever the unseen colour
   pub line_alike : (u : Colour) (y : ℕ) → line_pixels u w y ≡ line_pixels u v y
   unfolding line_pixels
-  line_alike u y = ap₂ (λ (f : MainPos → Sample) (n : ℕ). pixels u f n) (λ i x. pixel_alike x (record { 0 = y }) i) width_same
+  line_alike u y = ap₂ (λ (f : MainPos → Option Colour) (n : ℕ). pixels u f n) (λ i x. pixel_alike x (record { 0 = y }) i) width_same

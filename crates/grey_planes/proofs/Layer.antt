@@ -8,7 +8,7 @@ use mathlib.Core.List.{List}
 use lib.ListN.{length}
 use Rattle.sheet_rules.specs.declared.Extent.{Extent}
 use Rattle.sheet_rules.specs.declared.Record.{Record}
-use Rattle.sheet_rules.specs.declared.Verdict.TheVariants.{Good}
+use Rattle.std.specs.Prelude.{Ok}
 use Rattle.sheet_rules.specs.Record.{record_size, record_at, records, marked}
 use Rattle.sheet_rules.specs.Judge.{judge_of}
 use Rattle.sheet_rules.specs.Sentences.{Among, Accepted, stripe_count}
@@ -24,7 +24,7 @@ module _ (s : List ℕ) (k : ℕ) (ok : Accepted s) where
   abbrev extent : Extent
   extent = extent_of k (records s)
 
-  judged : judge_of s ≡ Good (length (records s)) (stripe_count (records s))
+  judged : judge_of s ≡ Ok (record { records = length (records s); stripes = stripe_count (records s) })
   judged = (sheet_accepted s _ _).1 (record { sheet = ok.0; whole = ok.1; count = refl; stripes = refl })
 
   module _ (l : ℕ) (least : 1 ≤ l) (most : l ≤ extent.layers) where

@@ -12,12 +12,10 @@ use borrow.Author.Tests.{eqb-true, eq-eqb, ne_eqb}
 use Rattle.laws.proofs.Says.{says_eq, says_else}
 use Rattle.sheet_rules.specs.declared.Colour.{Colour}
 use Rattle.sheet_rules.specs.declared.Record.{Record}
-use Rattle.sheet_rules.specs.Record.{records, colour_at, is_grey, marked}
+use Rattle.sheet_rules.specs.Record.{colour_at, is_grey, marked}
 use Rattle.sheet_rules.specs.Sentences.{Coded, Grey, Accepted}
 use Rattle.pixel_rules.specs.declared.Plane.{Plane}
-use Rattle.pixel_rules.specs.declared.Start.{Start}
-use Rattle.pixel_rules.specs.declared.Start.TheVariants.{From, Unread}
-use Rattle.pixel_rules.specs.declared.Sample.TheVariants.{Known}
+use Rattle.std.specs.Prelude.{Option, Some, None}
 use Rattle.pixel_rules.specs.Planes.{PlaneList, plane_start}
 use Rattle.pixel_rules.specs.Samples.{Scene, record_of, plane_span, depth, bit_of, grey_of, colour_in, mask_read, image_read}
 use Rattle.pixel_rules.proofs.Division.{depth_grey, depth_colour, depth_some, span_mask, span_grey, span_colour, span_within, colour_own}
@@ -31,7 +29,7 @@ use Rattle.grey_planes.proofs.Lines.{lines_same}
 use Rattle.grey_planes.proofs.Planes.{length_spread, spread_octets, plane_restarted, before_restarted, start_there, start_kept}
 
 module _ (s : List ℕ) (pl : PlaneList) (d : List ℕ) (k l a : ℕ) (ok : Accepted s) (fine : AllFine (scene_of s pl d k) pl)
-    (grey : is_grey (record_of (scene_of s pl d k) l) ≡ true) (listed : plane_start pl.entries l ≡ From a) where
+    (grey : is_grey (record_of (scene_of s pl d k) l) ≡ true) (listed : plane_start pl.entries l ≡ Some a) where
   abbrev v : Scene
   v = scene_of s pl d k
 
@@ -55,10 +53,10 @@ module _ (s : List ℕ) (pl : PlaneList) (d : List ℕ) (k l a : ℕ) (ok : Acce
 
   -- ---- the grey layer and the others that are listed
 
-  reads : (j b : ℕ) → plane_start pl.entries j ≡ From b → Read v j b
+  reads : (j b : ℕ) → plane_start pl.entries j ≡ Some b → Read v j b
   reads j b e = start_read_lem v pl fine j b e
 
-  layer_at : (j b : ℕ) → plane_start pl.entries j ≡ From b → (record_of v j).layer ≡ j
+  layer_at : (j b : ℕ) → plane_start pl.entries j ≡ Some b → (record_of v j).layer ≡ j
   layer_at j b e = let g = reads j b e in layer_is s k ok j g.least g.most
 
   least : 1 ≤ l
@@ -116,24 +114,24 @@ module _ (s : List ℕ) (pl : PlaneList) (d : List ℕ) (k l a : ℕ) (ok : Acce
   image_own i h =
       let b = start_there l (length d) pl.entries a listed in
       let z : a + i ≡ a + i * 1 = omega arith in
-      ap₂ (λ (n : ℕ) (x : Start). image_read d' n x i) colour_depth b
-      ∙ ap Known (colour_there i h ∙ ap (λ (m : ℕ). grey_of (get_or d m 0)) z)
-      ∙ sym (ap₂ (λ (n : ℕ) (x : Start). image_read d n x i) (depth_grey r grey) listed)
+      ap₂ (λ (n : ℕ) (x : Option ℕ). image_read d' n x i) colour_depth b
+      ∙ ap Some (colour_there i h ∙ ap (λ (m : ℕ). grey_of (get_or d m 0)) z)
+      ∙ sym (ap₂ (λ (n : ℕ) (x : Option ℕ). image_read d n x i) (depth_grey r grey) listed)
 
   -- every other layer, where it was
-  image_front : (j i : ℕ) → Has v j i → (x : Start) → plane_start pl.entries j ≡ x → image_read d' (depth (record_of v j)) x i ≡ image_read d (depth (record_of v j)) x i
+  image_front : (j i : ℕ) → Has v j i → (x : Option ℕ) → plane_start pl.entries j ≡ x → image_read d' (depth (record_of v j)) x i ≡ image_read d (depth (record_of v j)) x i
   unfolding image_read
-  image_front j i h Unread z = refl
-  image_front j i h (From b) z =
+  image_front j i h None z = refl
+  image_front j i h (Some b) z =
       let q = (reads j b z).room in
       let n = span_within (record_of v j) i h in
       let p : ℕ = b + i * depth (record_of v j) in
-      ap Known (colour_own (depth (record_of v j)) d d' p p (depth_some (record_of v j)) (λ m t. front (p + m) (omega arith)))
+      ap Some (colour_own (depth (record_of v j)) d d' p p (depth_some (record_of v j)) (λ m t. front (p + m) (omega arith)))
 
-  mask_front : (j i : ℕ) → j % 2 ≡ 0 → Has v j i → (x : Start) → plane_start pl.entries j ≡ x → mask_read d' x i ≡ mask_read d x i
+  mask_front : (j i : ℕ) → j % 2 ≡ 0 → Has v j i → (x : Option ℕ) → plane_start pl.entries j ≡ x → mask_read d' x i ≡ mask_read d x i
   unfolding mask_read
-  mask_front j i o h Unread z = refl
-  mask_front j i o h (From b) z =
+  mask_front j i o h None z = refl
+  mask_front j i o h (Some b) z =
       let q = (reads j b z).room in
       let n = span_mask (record_of v j) (ap (λ (m : ℕ). m % 2) (layer_at j b z) ∙ o) in
       ap bit_of (front (b + i) (omega arith))
@@ -145,7 +143,7 @@ module _ (s : List ℕ) (pl : PlaneList) (d : List ℕ) (k l a : ℕ) (ok : Acce
         records = record_but s k ok l least most;
         masks = λ j h e i n.
             let o = odd in
-            ap (λ (x : Start). mask_read d' x i) (start_kept l (length d) pl.entries j (λ z. even_odd j z e o)) ∙ mask_front j i e n (plane_start pl.entries j) refl;
+            ap (λ (x : Option ℕ). mask_read d' x i) (start_kept l (length d) pl.entries j (λ z. even_odd j z e o)) ∙ mask_front j i e n (plane_start pl.entries j) refl;
         images = λ j e i n. image j e i n (says_else (says_eq j l));
       }
     where
@@ -159,7 +157,7 @@ module _ (s : List ℕ) (pl : PlaneList) (d : List ℕ) (k l a : ℕ) (ok : Acce
           (λ (m : ℕ). Has v m i → image_read d' (depth (record_of w m)) (plane_start pl'.entries m) i ≡ image_read d (depth (record_of v m)) (plane_start pl.entries m) i)
           (sym z) (image_own i) n
       image j e i n (inr z) =
-          ap₂ (λ (m : ℕ) (x : Start). image_read d' m x i) (ap depth (record_same s k ok l least most j (omega arith) z)) (start_kept l (length d) pl.entries j z)
+          ap₂ (λ (m : ℕ) (x : Option ℕ). image_read d' m x i) (ap depth (record_same s k ok l least most j (omega arith) z)) (start_kept l (length d) pl.entries j z)
           ∙ image_front j i n (plane_start pl.entries j) refl
 
   -- ---- the list is fine as it was
@@ -204,7 +202,7 @@ module _ (s : List ℕ) (pl : PlaneList) (d : List ℕ) (k l a : ℕ) (ok : Acce
 -- ---- for every line of the stripe, every unseen colour and every buffer: a layer that is grey, listed at a, and the same in colour
 
 pub grey_plane : (s : List ℕ) (pl : PlaneList) (d : List ℕ) (k l a : ℕ) → Accepted s → AllFine (scene_of s pl d k) pl → is_grey (record_of (scene_of s pl d k) l) ≡ true
-    → plane_start pl.entries l ≡ From a → (y : ℕ) (u : Colour) (out : List ℕ)
+    → plane_start pl.entries l ≡ Some a → (y : ℕ) (u : Colour) (out : List ℕ)
     → (line_of (colour_sheet s k l) (colour_list pl d l) (colour_samples d (record_of (scene_of s pl d k) l) a) k y (length out) ≡ line_of s pl d k y (length out))
     × (line_into (colour_sheet s k l) (colour_list pl d l) (colour_samples d (record_of (scene_of s pl d k) l) a) k y u out ≡ line_into s pl d k y u out)
 grey_plane s pl d k l a ok fine grey listed y u out =
@@ -214,7 +212,7 @@ grey_plane s pl d k l a ok fine grey listed y u out =
 
 -- and what comes of it is again a sheet beside which the list is fine, so that the next grey layer can follow
 pub grey_next : (s : List ℕ) (pl : PlaneList) (d : List ℕ) (k l a : ℕ) → Accepted s → AllFine (scene_of s pl d k) pl → is_grey (record_of (scene_of s pl d k) l) ≡ true
-    → plane_start pl.entries l ≡ From a
+    → plane_start pl.entries l ≡ Some a
     → Accepted (colour_sheet s k l) × AllFine (scene_of (colour_sheet s k l) (colour_list pl d l) (colour_samples d (record_of (scene_of s pl d k) l) a) k) (colour_list pl d l)
 grey_next s pl d k l a ok fine grey listed = (
   (clears_accepted s (colour_sheet s k l) (layer_clears s k ok l (least s pl d k l a ok fine grey listed) (most s pl d k l a ok fine grey listed)) ok).0,

@@ -11,8 +11,7 @@ use lib.Dec.{eqb}
 use borrow.Author.Tests.{eqb-true, ne_eqb}
 use Rattle.laws.proofs.Cases.{cond_both, clash}
 use Rattle.pixel_rules.specs.declared.Plane.{Plane}
-use Rattle.pixel_rules.specs.declared.Start.{Start}
-use Rattle.pixel_rules.specs.declared.Start.TheVariants.{From}
+use Rattle.std.specs.Prelude.{Option, Some}
 use Rattle.pixel_rules.specs.Planes.{plane_start}
 use Rattle.picture_rules.specs.Sentences.{plane, layer_before}
 use Rattle.grey_planes.specs.Spread.{spread, starting_at, restarted}
@@ -52,16 +51,16 @@ module _ (l n : ℕ) where
   before_restarted ps (suc i) h = ap (λ (p : Plane). p.layer) (plane_restarted ps i (omega arith))
 
   -- a layer that is listed starts there, any other where it did
-  pub start_there : (ps : List Plane) (a : ℕ) → plane_start ps l ≡ From a → plane_start (restarted l n ps) l ≡ From n
+  pub start_there : (ps : List Plane) (a : ℕ) → plane_start ps l ≡ Some a → plane_start (restarted l n ps) l ≡ Some n
   unfolding plane_start
   start_there [] a = λ e. clash cc
   start_there (p ∷ ps) a =
-      cond_both (λ (x y : Start). x ≡ From a → y ≡ From n) (eqb p.layer l) (λ t e. ap (λ (b : Bool). From (cond b n p.start)) t) (λ t e. start_there ps a e)
+      cond_both (λ (x y : Option ℕ). x ≡ Some a → y ≡ Some n) (eqb p.layer l) (λ t e. ap (λ (b : Bool). Some (cond b n p.start)) t) (λ t e. start_there ps a e)
 
   pub start_kept : (ps : List Plane) (j : ℕ) → j ≢ l → plane_start (restarted l n ps) j ≡ plane_start ps j
   unfolding plane_start
   start_kept [] j d = refl
   start_kept (p ∷ ps) j d =
-      cond_both (λ (x y : Start). x ≡ y) (eqb p.layer j)
-      (λ t. let e = eqb-true p.layer j t in ap (λ (b : Bool). From (cond b n p.start)) (ne_eqb p.layer l (λ z. d (omega arith))))
+      cond_both (λ (x y : Option ℕ). x ≡ y) (eqb p.layer j)
+      (λ t. let e = eqb-true p.layer j t in ap (λ (b : Bool). Some (cond b n p.start)) (ne_eqb p.layer l (λ z. d (omega arith))))
       (λ t. start_kept ps j d)

@@ -17,10 +17,8 @@ use Rattle.octets.specs.Entries.{entries_from}
 use Rattle.octets.proofs.Laws.{put_length, put_get_d, put_get_d_before, put_get_d_after}
 use Rattle.sheet_rules.specs.declared.Record.{Record}
 use Rattle.sheet_rules.specs.declared.State.{State}
-use Rattle.sheet_rules.specs.declared.Step.{Step}
-use Rattle.sheet_rules.specs.declared.Step.TheVariants.{Next, Stop}
-use Rattle.sheet_rules.specs.declared.Verdict.{Verdict}
-use Rattle.sheet_rules.specs.declared.Verdict.TheVariants.{Good, Refused}
+use Rattle.std.specs.Prelude.{Option, Some, None, Result, Ok, Err}
+use Rattle.sheet_rules.specs.declared.Counts.{Counts}
 use Rattle.sheet_rules.specs.Record.{record_size, record_from, record_at, records_from, records, rest, marked, sum_of, height_in}
 use Rattle.sheet_rules.specs.Judge.{zeros_ok, grey_ok, placed, data_ok, listed, base_ok, layer_ok, keeps, after, after1, after2, after3, step_of, on_step, walk, judge, judge_of, begin}
 use Rattle.sheet_rules.specs.Sentences.{Accepted, stripe_count}
@@ -46,38 +44,38 @@ module _ (st : State) (r : Record) where
   unfolding after after1 after2 after3
   after_cleared = refl
 
-  step_kept : (q : Record) → keeps st q ≡ true → step_of st q ≡ Next (after st q)
+  step_kept : (q : Record) → keeps st q ≡ true → step_of st q ≡ Some (after st q)
   unfolding step_of
   step_kept q e = simp e
 
-  step_stops : keeps st r ≡ false → step_of st r ≡ Stop
+  step_stops : keeps st r ≡ false → step_of st r ≡ None
   unfolding step_of
   step_stops e = simp e
 
-  step_cleared : (q : Record) → (q ≡ r) ⊎ (q ≡ marked 0 r) → keeps st r ≡ true → step_of st q ≡ Next (after st r)
+  step_cleared : (q : Record) → (q ≡ r) ⊎ (q ≡ marked 0 r) → keeps st r ≡ true → step_of st q ≡ Some (after st r)
   step_cleared q (inl e) k = ap (step_of st) e ∙ step_kept r k
-  step_cleared q (inr e) k = ap (step_of st) e ∙ step_kept (marked 0 r) (keeps_cleared k) ∙ ap Next after_cleared
+  step_cleared q (inr e) k = ap (step_of st) e ∙ step_kept (marked 0 r) (keeps_cleared k) ∙ ap Some after_cleared
 
 -- ---- a sheet
 
 module _ (s t : List ℕ) (c : Clears s t) where
   -- what a step leads to, k records before the end of those of the sheet u
-  abbrev goes : List ℕ → ℕ → ℕ → ℕ → ℕ → Step → Verdict
-  goes u k i j part x = on_step x (Refused j) (λ (q : State). walk q (j + 1) (records_from u k (i + 1)) part)
+  abbrev goes : List ℕ → ℕ → ℕ → ℕ → ℕ → Option State → Result Counts ℕ
+  goes u k i j part x = on_step x (Err j) (λ (q : State). walk q (j + 1) (records_from u k (i + 1)) part)
 
-  walk_cleared : (k i : ℕ) (st : State) (j part n m : ℕ) → walk st j (records_from s k i) part ≡ Good n m → walk st j (records_from t k i) part ≡ Good n m
+  walk_cleared : (k i : ℕ) (st : State) (j part n m : ℕ) → walk st j (records_from s k i) part ≡ Ok (record { records = n; stripes = m }) → walk st j (records_from t k i) part ≡ Ok (record { records = n; stripes = m })
   unfolding walk entries_from on_step
   walk_cleared zero i st j part n m e = e
   walk_cleared (suc k) i st j part n m e = by (keeps st (record_at s i)) refl (walk_cleared k (i + 1) (after st (record_at s i)) (j + 1) part n m)
     where
       by : (b : Bool) → keeps st (record_at s i) ≡ b
-          → (walk (after st (record_at s i)) (j + 1) (records_from s k (i + 1)) part ≡ Good n m → walk (after st (record_at s i)) (j + 1) (records_from t k (i + 1)) part ≡ Good n m)
-          → walk st j (records_from t (suc k) i) part ≡ Good n m
+          → (walk (after st (record_at s i)) (j + 1) (records_from s k (i + 1)) part ≡ Ok (record { records = n; stripes = m }) → walk (after st (record_at s i)) (j + 1) (records_from t k (i + 1)) part ≡ Ok (record { records = n; stripes = m }))
+          → walk st j (records_from t (suc k) i) part ≡ Ok (record { records = n; stripes = m })
       by true h go =
           ap (goes t k i j part) (step_cleared st (record_at s i) (record_at t i) (c.each i) h) ∙ go (sym (ap (goes s k i j part) (step_kept st (record_at s i) (record_at s i) h)) ∙ e)
-      by false h go = let z : goes s k i j part Stop ≡ Good n m = sym (ap (goes s k i j part) (step_stops st (record_at s i) h)) ∙ e in clash cc
+      by false h go = let z : goes s k i j part None ≡ Ok (record { records = n; stripes = m }) = sym (ap (goes s k i j part) (step_stops st (record_at s i) h)) ∙ e in clash cc
 
-  pub clears_judged : (n m : ℕ) → judge_of s ≡ Good n m → judge_of t ≡ Good n m
+  pub clears_judged : (n m : ℕ) → judge_of s ≡ Ok (record { records = n; stripes = m }) → judge_of t ≡ Ok (record { records = n; stripes = m })
   unfolding judge_of judge records
   clears_judged n m e =
       ap₂ (λ (k part : ℕ). walk begin 0 (records_from t k 0) part) (ap (λ (x : ℕ). x / record_size) c.long) (ap (λ (x : ℕ). x % record_size) c.long)

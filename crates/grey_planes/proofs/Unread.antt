@@ -13,8 +13,7 @@ use Rattle.sheet_rules.specs.declared.Record.{Record}
 use Rattle.sheet_rules.specs.Sentences.{Accepted}
 use Rattle.sheet_rules.proofs.Among.{get_d_among}
 use Rattle.pixel_rules.specs.declared.Plane.{Plane}
-use Rattle.pixel_rules.specs.declared.Start.{Start}
-use Rattle.pixel_rules.specs.declared.Start.TheVariants.{Unread}
+use Rattle.std.specs.Prelude.{Option, None}
 use Rattle.pixel_rules.specs.Planes.{PlaneList, plane_start}
 use Rattle.pixel_rules.specs.Samples.{Scene, record_of, plane_span, depth, image_read}
 use Rattle.pixel_rules.proofs.Starts.{start_some}
@@ -25,7 +24,7 @@ use Rattle.grey_planes.proofs.Layer.{layer_clears, layers_same, record_same, rec
 use Rattle.grey_planes.proofs.Lines.{lines_same}
 
 module _ (s : List ℕ) (pl : PlaneList) (d : List ℕ) (k l : ℕ) (ok : Accepted s) (fine : AllFine (scene_of s pl d k) pl) (least : 1 ≤ l)
-    (most : l ≤ (scene_of s pl d k).extent.layers) (unread : plane_start pl.entries l ≡ Unread) where
+    (most : l ≤ (scene_of s pl d k).extent.layers) (unread : plane_start pl.entries l ≡ None) where
   abbrev v : Scene
   v = scene_of s pl d k
 
@@ -36,8 +35,8 @@ module _ (s : List ℕ) (pl : PlaneList) (d : List ℕ) (k l : ℕ) (ok : Accept
       → image_read d (depth (record_of w j)) (plane_start pl.entries j) i ≡ image_read d (depth (record_of v j)) (plane_start pl.entries j) i
   unfolding image_read
   image_kept_lem j odd i (inl e) =
-      let u : plane_start pl.entries j ≡ Unread = ap (plane_start pl.entries) e ∙ unread in
-      ap (λ (x : Start). image_read d (depth (record_of w j)) x i) u ∙ sym (ap (λ (x : Start). image_read d (depth (record_of v j)) x i) u)
+      let u : plane_start pl.entries j ≡ None = ap (plane_start pl.entries) e ∙ unread in
+      ap (λ (x : Option ℕ). image_read d (depth (record_of w j)) x i) u ∙ sym (ap (λ (x : Option ℕ). image_read d (depth (record_of v j)) x i) u)
   image_kept_lem j odd i (inr n) = ap (λ (r : Record). image_read d (depth r) (plane_start pl.entries j) i) (record_same s k ok l least most j (omega arith) n)
 
   unread_alike : Alike v w
@@ -73,7 +72,7 @@ module _ (s : List ℕ) (pl : PlaneList) (d : List ℕ) (k l : ℕ) (ok : Accept
   unread_fine = record { entries = unread_entry; whole = fine.whole }
 
 pub unread_plane : (s : List ℕ) (pl : PlaneList) (d : List ℕ) (k l : ℕ) → Accepted s → AllFine (scene_of s pl d k) pl → 1 ≤ l → l ≤ (scene_of s pl d k).extent.layers
-    → plane_start pl.entries l ≡ Unread → (y : ℕ) (u : Colour) (out : List ℕ)
+    → plane_start pl.entries l ≡ None → (y : ℕ) (u : Colour) (out : List ℕ)
     → (line_of (colour_sheet s k l) pl d k y (length out) ≡ line_of s pl d k y (length out)) × (line_into (colour_sheet s k l) pl d k y u out ≡ line_into s pl d k y u out)
 unread_plane s pl d k l ok fine least most unread y u out =
     lines_same s (colour_sheet s k l) pl pl d d k ok (layer_clears s k ok l least most) fine (unread_fine s pl d k l ok fine least most unread)

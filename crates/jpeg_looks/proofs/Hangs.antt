@@ -19,19 +19,12 @@ use Rattle.jpeg_rules.specs.declared.Marker.{Marker}
 use Rattle.jpeg_rules.specs.declared.Marker.TheVariants.{Code, Missing, Cut}
 use Rattle.jpeg_rules.specs.declared.Fault.{Fault}
 use Rattle.jpeg_rules.specs.declared.Fault.TheVariants.{Short, BadRes, BadLayer}
-use Rattle.jpeg_rules.specs.declared.Seg.{Seg}
-use Rattle.jpeg_rules.specs.declared.Seg.TheVariants.{Body}
-use Rattle.jpeg_rules.specs.declared.Found.{Found}
-use Rattle.jpeg_rules.specs.declared.Found.TheVariants.{At, Nothing}
-use Rattle.jpeg_rules.specs.declared.Tag.{Tag}
-use Rattle.jpeg_rules.specs.declared.Tag.TheVariants.{Gives, Plain}
+use Rattle.std.specs.Prelude.{Option, Some, None, Result, Ok, Err}
+use Rattle.jpeg_rules.specs.declared.Said.{Said}
 use Rattle.jpeg_rules.specs.declared.Reach.{Reach}
-use Rattle.jpeg_rules.specs.declared.Walk.{Walk}
-use Rattle.jpeg_rules.specs.declared.Walk.TheVariants.{Ends}
-use Rattle.jpeg_rules.specs.declared.Turn.{Turn}
-use Rattle.jpeg_rules.specs.declared.Turn.TheVariants.{Go, Stop}
+use Rattle.jpeg_rules.specs.Walk.{Turn, seg_of, scan_of, resolves, tag_of, framed, passed, moved, refused, on_body, on_found, on_tag, components_ok, frame_body_of, frame_of, scan_step_of, segment_of, end_of, mark_of, on_marker, turn_of, on_turn, walk_from, begun, walk_of}
+use Rattle.std.specs.declared.ops.ControlFlow.TheVariants.{Continue, Break}
 use Rattle.jpeg_rules.specs.Marker.{class_of, marker_of}
-use Rattle.jpeg_rules.specs.Walk.{seg_of, scan_of, resolves, tag_of, framed, passed, moved, refused, on_body, on_found, on_tag, components_ok, frame_body_of, frame_of, scan_step_of, segment_of, end_of, mark_of, on_marker, turn_of, on_turn, walk_from, begun, walk_of}
 use Rattle.jpeg_looks.proofs.Look.{body_look, whole, found_look, mark_look, marker_look, mark_end, turn_look, onward_look, walk_look_from, walk_look, walk_beyond}
 use Rattle.jpeg_rules.proofs.Runs.{fill_end, Marked, marker_back, marker_is, fill_marked}
 use Rattle.jpeg_rules.proofs.Scans.{scan_back}
@@ -42,17 +35,17 @@ use Rattle.jpeg_looks.proofs.Leaves.{Whole, seg_whole, seg_bad, code_hangs, miss
 -- ---- how near the end or the place of a refusal
 
 -- where the walk ends it looked up to its end; where it is refused, past the place and not far beyond
-unfoldable pub NearWalk : List ℕ → ℕ → Walk → Type 0
-NearWalk s look (Ends e said) = look ≡ e
-NearWalk s look (Walk.Refused f) = (place_of f < look) × (look ≤ place_of f + walk_beyond s f)
+unfoldable pub NearWalk : List ℕ → ℕ → Result (ℕ × Said) Fault → Type 0
+NearWalk s look (Ok (e, said)) = look ≡ e
+NearWalk s look (Err f) = (place_of f < look) × (look ≤ place_of f + walk_beyond s f)
 
-pub record Looked (look : ℕ) (read : List ℕ → Walk) (s : List ℕ) (at : ℕ) : Type 0 where
+pub record Looked (look : ℕ) (read : List ℕ → Result (ℕ × Said) Fault) (s : List ℕ) (at : ℕ) : Type 0 where
   pub hangs : Hangs look read s at
   pub near : NearWalk s look (read s)
 
 -- not Short
-abbrev pub UncutWalk : Walk → Type 0
-UncutWalk w = (p : ℕ) → w ≡ Walk.Refused (Short p) → ⊥
+abbrev pub UncutWalk : Result (ℕ × Said) Fault → Type 0
+UncutWalk w = (p : ℕ) → w ≡ Err (Short p) → ⊥
 
 abbrev Uncut : Turn → Type 0
 Uncut x = (p : ℕ) → x ≡ refused (Short p) → ⊥
@@ -60,8 +53,8 @@ Uncut x = (p : ℕ) → x ≡ refused (Short p) → ⊥
 -- where a turn goes on it looked at most at the marker there
 unfoldable NearTurn : List ℕ → ℕ → Turn → Type 0
 unfolding NearWalk
-NearTurn s look (Go t) = (t.at ≤ look) × (look ≤ mark_end s t.at)
-NearTurn s look (Stop w) = NearWalk s look w
+NearTurn s look (Continue t) = (t.at ≤ look) × (look ≤ mark_end s t.at)
+NearTurn s look (Break w) = NearWalk s look w
 
 -- a marker ends after its place
 mark_ahead : (s : List ℕ) (at : ℕ) → at ≤ mark_end s at
@@ -101,15 +94,15 @@ module _ (s : List ℕ) (o : Octets s) (main : ℕ) where
   unfolding NearTurn place_of walk_beyond
   turned_body n least go look two k = by (seg_of s n least) refl
     where
-      by : (g : Seg) → seg_of s n least ≡ g → Uncut (on_body g (λ (next : ℕ). go next s))
+      by : (g : Result ℕ Fault) → seg_of s n least ≡ g → Uncut (on_body g (λ (next : ℕ). go next s))
           → Turned (body_look g n look) (λ (t : List ℕ). on_body (seg_of t n least) (λ (next : ℕ). go next t)) n
-      by (Body next) e u =
+      by (Ok next) e u =
           let w = seg_whole s n least next two e in
-          turned_then (λ (t : List ℕ). seg_of t n least) (λ (g : Seg) (t : List ℕ). on_body g (λ (m : ℕ). go m t)) (Body next) next (look next) n e w.hangs (k next w u)
-      by (Seg.Refused f) e u =
+          turned_then (λ (t : List ℕ). seg_of t n least) (λ (g : Result ℕ Fault) (t : List ℕ). on_body g (λ (m : ℕ). go m t)) (Ok next) next (look next) n e w.hangs (k next w u)
+      by (Err f) e u =
           let w = seg_bad s n least f e (λ p q. u p (ap refused q)) in
           let i = w.1.inside in
-          turned_then (λ (t : List ℕ). seg_of t n least) (λ (g : Seg) (t : List ℕ). on_body g (λ (m : ℕ). go m t)) (Seg.Refused f) (n + 2) (n + 2) n e w.1
+          turned_then (λ (t : List ℕ). seg_of t n least) (λ (g : Result ℕ Fault) (t : List ℕ). on_body g (λ (m : ℕ). go m t)) (Err f) (n + 2) (n + 2) n e w.1
           (turned_none (refused f) (n + 2) i (subst (λ (g : Fault). NearTurn s (n + 2) (refused g)) (sym w.0) (let y : (n < n + 2) × (n + 2 ≤ n + 2) = (omega arith, omega arith) in y)))
 
   module _ (st : Reach) (c n : ℕ) (k : Marked s st.at c n) where
@@ -155,30 +148,30 @@ module _ (s : List ℕ) (o : Octets s) (main : ℕ) where
     unfolding scan_step_of mark_look NearTurn
     turned_scan = by st.framed
       where
-        found : (next : ℕ) → (x : Found) → scan_of s next ≡ x → Uncut (on_found x next (λ (p : ℕ). Go (passed st p)))
-            → Turned (found_look s x next) (λ (t : List ℕ). on_found (scan_of t next) next (λ (p : ℕ). Go (passed st p))) next
-        found next (At p) e u =
+        found : (next : ℕ) → (x : Option ℕ) → scan_of s next ≡ x → Uncut (on_found x next (λ (p : ℕ). Continue (passed st p)))
+            → Turned (found_look s x next) (λ (t : List ℕ). on_found (scan_of t next) next (λ (p : ℕ). Continue (passed st p))) next
+        found next (Some p) e u =
             let b = scan_back s next p e in
             let m = b.marked in
             let q = m.ends in
             let z = code_end s p b.code b.next (marker_is s p b.code b.next m) in
             let h = subst (λ (j : ℕ). Hangs j (λ (t : List ℕ). scan_of t next) s next) (sym z) (scan_hangs s next p b.code b.next e (marker_is s p b.code b.next m)) in
-            turned_then (λ (t : List ℕ). scan_of t next) (λ (x : Found) (t : List ℕ). on_found x next (λ (q : ℕ). Go (passed st q))) (At p) (mark_end s p) (mark_end s p) next e h
-            (turned_none (Go (passed st p)) (mark_end s p) h.inside (let y : (p ≤ mark_end s p) × (mark_end s p ≤ mark_end s p) = (mark_ahead s p, omega arith) in y))
-        found next Nothing e u = absurd (u next refl)
+            turned_then (λ (t : List ℕ). scan_of t next) (λ (x : Option ℕ) (t : List ℕ). on_found x next (λ (q : ℕ). Continue (passed st q))) (Some p) (mark_end s p) (mark_end s p) next e h
+            (turned_none (Continue (passed st p)) (mark_end s p) h.inside (let y : (p ≤ mark_end s p) × (mark_end s p ≤ mark_end s p) = (mark_ahead s p, omega arith) in y))
+        found next None e u = absurd (u next refl)
 
         by : (f : Bool)
-            → Uncut (cond f (on_body (seg_of s n 2) (λ (next : ℕ). on_found (scan_of s next) next (λ (p : ℕ). Go (passed st p)))) (refused (BadLayer st.at)))
+            → Uncut (cond f (on_body (seg_of s n 2) (λ (next : ℕ). on_found (scan_of s next) next (λ (p : ℕ). Continue (passed st p)))) (refused (BadLayer st.at)))
             → Turned (cond f (body_look (seg_of s n 2) n (λ (next : ℕ). found_look s (scan_of s next) next)) n)
-            (λ (t : List ℕ). cond f (on_body (seg_of t n 2) (λ (next : ℕ). on_found (scan_of t next) next (λ (p : ℕ). Go (passed st p)))) (refused (BadLayer st.at))) n
+            (λ (t : List ℕ). cond f (on_body (seg_of t n 2) (λ (next : ℕ). on_found (scan_of t next) next (λ (p : ℕ). Continue (passed st p)))) (refused (BadLayer st.at))) n
         by true u =
-            turned_body n 2 (λ (next : ℕ) (t : List ℕ). on_found (scan_of t next) next (λ (p : ℕ). Go (passed st p)))
+            turned_body n 2 (λ (next : ℕ) (t : List ℕ). on_found (scan_of t next) next (λ (p : ℕ). Continue (passed st p)))
             (λ (next : ℕ). found_look s (scan_of s next) next) (omega arith) (λ next w v. found next (scan_of s next) refl v) u
         by false u = turned_wrong
 
     -- what a segment's tag leads to
-    abbrev judged : ℕ → Tag → Turn
-    judged next x = on_tag x (Go (moved st next st.said.res)) (λ (r : ℕ). cond (resolves main r) (Go (moved st next r)) (refused (BadRes (n + 10))))
+    abbrev judged : ℕ → Option ℕ → Turn
+    judged next x = on_tag x (Continue (moved st next st.said.res)) (λ (r : ℕ). cond (resolves main r) (Continue (moved st next r)) (refused (BadRes (n + 10))))
 
     turned_segment : Uncut (segment_of s main st c n) → Turned (mark_look s st n Segment) (λ (t : List ℕ). segment_of t main st c n) n
     unfolding segment_of mark_look NearTurn place_of walk_beyond
@@ -186,13 +179,13 @@ module _ (s : List ℕ) (o : Octets s) (main : ℕ) where
         turned_body n 2 (λ (next : ℕ) (t : List ℕ). judged next (tag_of t st c n)) whole (omega arith) λ next w v.
         let e = w.size in
         let l = w.long in
-        turned_then (λ (t : List ℕ). tag_of t st c n) (λ (x : Tag) (t : List ℕ). judged next x) (tag_of s st c n) next next next refl
+        turned_then (λ (t : List ℕ). tag_of t st c n) (λ (x : Option ℕ) (t : List ℕ). judged next x) (tag_of s st c n) next next next refl
         (hangs_from s (λ (t : List ℕ). tag_of t st c n) next n next (omega arith) (tag_hangs s st c n next e w.hangs.inside l))
         (turned_none (judged next (tag_of s st c n)) next w.hangs.inside (near next (tag_of s st c n) refl e))
       where
-        near : (next : ℕ) (x : Tag) → tag_of s st c n ≡ x → next ≡ n + be16_at s n → NearTurn s next (judged next x)
-        near next Plain q e = let y : (next ≤ next) × (next ≤ mark_end s next) = (omega arith, mark_ahead s next) in y
-        near next (Gives v) q e =
+        near : (next : ℕ) (x : Option ℕ) → tag_of s st c n ≡ x → next ≡ n + be16_at s n → NearTurn s next (judged next x)
+        near next None q e = let y : (next ≤ next) × (next ≤ mark_end s next) = (omega arith, mark_ahead s next) in y
+        near next (Some v) q e =
             let l = tag_long s st c n v q in
             let m = be16_bound s n o in
             cond_with (NearTurn s next) (resolves main v) (λ g. let y : (next ≤ next) × (next ≤ mark_end s next) = (omega arith, mark_ahead s next) in y)
@@ -209,7 +202,7 @@ module _ (s : List ℕ) (o : Octets s) (main : ℕ) where
 
     turned_mark : (x : Class) → Uncut (mark_of s main st c n x) → Turned (mark_look s st n x) (λ (t : List ℕ). mark_of t main st c n x) n
     unfolding mark_of mark_look NearTurn
-    turned_mark Alone u = turned_none (Go (moved st n st.said.res)) n k.inside (let y : (n ≤ n) × (n ≤ mark_end s n) = (omega arith, mark_ahead s n) in y)
+    turned_mark Alone u = turned_none (Continue (moved st n st.said.res)) n k.inside (let y : (n ≤ n) × (n ≤ mark_end s n) = (omega arith, mark_ahead s n) in y)
     turned_mark Frame u = turned_frame u
     turned_mark Scan u = turned_scan u
     turned_mark End u = turned_end
@@ -245,7 +238,7 @@ module _ (s : List ℕ) (o : Octets s) (main : ℕ) where
   unfolding walk_from walk_look_from NearTurn
   walk_turn k count st e enough rest = by (turn_of s main st) refl
     where
-      on : Turn → List ℕ → Walk
+      on : Turn → List ℕ → Result (ℕ × Said) Fault
       on x t = on_turn x (λ (y : Reach). walk_from (count t - 1) t main y)
 
       unrolled : (t : List ℕ) → st.at ≤ length t → walk_from (count t) t main st ≡ on (turn_of t main st) t
@@ -268,16 +261,16 @@ module _ (s : List ℕ) (o : Octets s) (main : ℕ) where
 
       by : (x : Turn) → turn_of s main st ≡ x → UncutWalk (on_turn x (λ (y : Reach). walk_from k s main y))
           → Looked (onward_look x (turn_look s st) (λ (y : Reach). walk_look_from k s main y)) (λ (t : List ℕ). walk_from (count t) t main st) s (mark_end s st.at)
-      by (Stop w) q u =
+      by (Break w) q u =
           let y = turn_hangs st (λ p z. u p cc) in
-          made (Stop w) (turn_look s st) q y (hangs_none s w (turn_look s st) (turn_look s st) (omega arith) y.hangs.inside) (subst (NearTurn s (turn_look s st)) q y.near)
-      by (Go x) q u =
+          made (Break w) (turn_look s st) q y (hangs_none s w (turn_look s st) (turn_look s st) (omega arith) y.hangs.inside) (subst (NearTurn s (turn_look s st)) q y.near)
+      by (Continue x) q u =
           let y = turn_hangs st (λ p z. clash cc) in
           let n = subst (NearTurn s (turn_look s st)) q y.near in
           let n1 = n.1 in
           let r = rest x (ahead s main st x ((turn_told s main st).0 x q)) u in
           let ra = r.hangs.ahead in
-          made (Go x) (walk_look_from k s main x) q y
+          made (Continue x) (walk_look_from k s main x) q y
           (hangs_from s (λ (t : List ℕ). walk_from (count t - 1) t main x) (walk_look_from k s main x) (mark_end s x.at) (turn_look s st) (omega arith) r.hangs) r.near
 
   walk_turns : (k : ℕ) (count : List ℕ → ℕ) (st : Reach) → count s ≡ k → ((t : List ℕ) → length t < count t + st.at) → UncutWalk (walk_from k s main st)
@@ -297,15 +290,15 @@ walk_hangs s o start main =
     opens : List ℕ → Bool
     opens t = eqb (get_or t start 0) 0xFF && eqb (get_or t (start + 1) 0) 0xD8
 
-    on : Bool → List ℕ → Walk
-    on b t = cond b (walk_from (length t) t main (begun (start + 2))) (Walk.Refused (BadLayer start))
+    on : Bool → List ℕ → Result (ℕ × Said) Fault
+    on b t = cond b (walk_from (length t) t main (begun (start + 2))) (Err (BadLayer start))
 
     made : (b : Bool) (look : ℕ) → opens s ≡ b → ltb (length s) (start + 2) ≡ false → Looked look (on b) s (start + 2) → Looked look (λ (t : List ℕ). walk_of t start main) s start
     made b look e l h =
         let g = ltb-false (length s) (start + 2) l in
         record {
           hangs =
-              hangs_fits s (Walk.Refused (Short start)) (λ (t : List ℕ). on (opens t) t) (start + 2) look start (omega arith)
+              hangs_fits s (Err (Short start)) (λ (t : List ℕ). on (opens t) t) (start + 2) look start (omega arith)
               (hangs_then s opens on b (start + 2) look (start + 2) e
               (record {
                 ahead = omega arith;
@@ -314,7 +307,7 @@ walk_hangs s o start main =
                     ap₂ (λ (x y : ℕ). eqb x 0xFF && eqb y 0xD8) (sym (octet_agree (start + 2) s t a start (omega arith))) (sym (octet_agree (start + 2) s t a (start + 1) (omega arith)));
               })
               h.hangs);
-          near = subst (NearWalk s look) (sym (ap₂ (λ (c d : Bool). cond c (Walk.Refused (Short start)) (on d s)) l e)) h.near;
+          near = subst (NearWalk s look) (sym (ap₂ (λ (c d : Bool). cond c (Err (Short start)) (on d s)) l e)) h.near;
         }
 
     by : ltb (length s) (start + 2) ≡ false → (b : Bool) → opens s ≡ b → UncutWalk (on b s)
@@ -328,6 +321,6 @@ walk_hangs s o start main =
     by l false e u =
         made false (start + 2) e l
         (record {
-          hangs = hangs_none s (Walk.Refused (BadLayer start)) (start + 2) (start + 2) (omega arith) (ltb-false (length s) (start + 2) l);
+          hangs = hangs_none s (Err (BadLayer start)) (start + 2) (start + 2) (omega arith) (ltb-false (length s) (start + 2) l);
           near = let y : (start < start + 2) × (start + 2 ≤ start + (fill_end s start - start + 65532)) = (omega arith, omega arith) in y;
         })

@@ -16,8 +16,7 @@ use Rattle.laws.proofs.Cases.{cond_with, bool_else, clash}
 use Rattle.jpeg_rules.specs.declared.Marker.TheVariants.{Code, Missing}
 use Rattle.jpeg_rules.specs.declared.Fault.{Fault}
 use Rattle.jpeg_rules.specs.declared.Fault.TheVariants.{Short, BadLength}
-use Rattle.jpeg_rules.specs.declared.Seg.TheVariants.{Body, Refused}
-use Rattle.jpeg_rules.specs.declared.Found.TheVariants.{At}
+use Rattle.std.specs.Prelude.{Some, Ok, Err}
 use Rattle.jpeg_rules.specs.declared.Reach.{Reach}
 use Rattle.jpeg_rules.specs.Marker.{marker_of}
 use Rattle.jpeg_rules.specs.Grammar.{marker, g3fax}
@@ -32,12 +31,12 @@ module _ (s : List ℕ) (n : ℕ) where
     pub size : next ≡ n + be16_at s n
     pub hangs : Hangs next (λ (t : List ℕ). seg_of t n least) s n
 
-  pub seg_whole : (least next : ℕ) → 2 ≤ least → seg_of s n least ≡ Body next → Whole least next
+  pub seg_whole : (least next : ℕ) → 2 ≤ least → seg_of s n least ≡ Ok next → Whole least next
   unfolding seg_of
   seg_whole least next two =
-      cond_with (λ x. x ≡ Body next → Whole least next) (ltb (length s) (n + 2)) (λ t e. clash cc) λ f1.
-      cond_with (λ x. x ≡ Body next → Whole least next) (ltb (be16_at s n) least) (λ t e. clash cc) λ f2.
-      cond_with (λ x. x ≡ Body next → Whole least next) (ltb (length s) (n + be16_at s n)) (λ t e. clash cc) λ f3 e.
+      cond_with (λ x. x ≡ Ok next → Whole least next) (ltb (length s) (n + 2)) (λ t e. clash cc) λ f1.
+      cond_with (λ x. x ≡ Ok next → Whole least next) (ltb (be16_at s n) least) (λ t e. clash cc) λ f2.
+      cond_with (λ x. x ≡ Ok next → Whole least next) (ltb (length s) (n + be16_at s n)) (λ t e. clash cc) λ f3 e.
       let h2 = ltb-false (be16_at s n) least f2 in
       let h3 = ltb-false (length s) (n + be16_at s n) f3 in
       let z : n + be16_at s n ≡ next = cc in
@@ -60,11 +59,11 @@ module _ (s : List ℕ) (n : ℕ) where
   abbrev SegBad : ℕ → Fault → Type 0
   SegBad least f = ((p : ℕ) → f ≡ Short p → ⊥) → (f ≡ BadLength n) × Hangs (n + 2) (λ (t : List ℕ). seg_of t n least) s n
 
-  pub seg_bad : (least : ℕ) (f : Fault) → seg_of s n least ≡ Refused f → SegBad least f
+  pub seg_bad : (least : ℕ) (f : Fault) → seg_of s n least ≡ Err f → SegBad least f
   unfolding seg_of
   seg_bad least f =
-      cond_with (λ x. x ≡ Refused f → SegBad least f) (ltb (length s) (n + 2)) (λ t e u. absurd (u n cc)) λ f1.
-      cond_with (λ x. x ≡ Refused f → SegBad least f) (ltb (be16_at s n) least)
+      cond_with (λ x. x ≡ Err f → SegBad least f) (ltb (length s) (n + 2)) (λ t e u. absurd (u n cc)) λ f1.
+      cond_with (λ x. x ≡ Err f → SegBad least f) (ltb (be16_at s n) least)
       (λ f2 e u. (
         cc,
         record {
@@ -74,7 +73,7 @@ module _ (s : List ℕ) (n : ℕ) where
               let q : be16_at t n ≡ be16_at s n = sym (be16_agree (n + 2) s t a n (omega arith)) in simp (f1, f2, q, le-ltb (length t) (n + 2) a.right);
         },
       )) λ f2.
-      cond_with (λ x. x ≡ Refused f → SegBad least f) (ltb (length s) (n + be16_at s n)) (λ t e u. absurd (u (n + 2) cc)) (λ t e. clash cc)
+      cond_with (λ x. x ≡ Err f → SegBad least f) (ltb (length s) (n + be16_at s n)) (λ t e u. absurd (u (n + 2) cc)) (λ t e. clash cc)
 
 -- ---- a marker, and scan data up to the next one
 
@@ -125,7 +124,7 @@ missing_hangs s at =
     (λ h x l e. clash cc) (λ h x l e. clash cc)
 
 -- scan data and the marker after it are found in any list where the same octets stand
-pub scan_hangs : (s : List ℕ) (i p c n : ℕ) → scan_of s i ≡ At p → marker_of s p ≡ Code c n → Hangs n (λ (t : List ℕ). scan_of t i) s i
+pub scan_hangs : (s : List ℕ) (i p c n : ℕ) → scan_of s i ≡ Some p → marker_of s p ≡ Code c n → Hangs n (λ (t : List ℕ). scan_of t i) s i
 scan_hangs s i p c n e m =
     let b = scan_back s i p e in
     let k = b.marked in
@@ -146,7 +145,7 @@ scan_hangs s i p c n e m =
           stands_both s t n a p b.next (marker k.fill b.code) (omega arith) (omega arith) k.stands in
           scan_there t coded b.coded i (drop p t) (stands_both s t n a i p coded (omega arith) (omega arith) (scan_split s i p h))
           (record { fill = k.fill; code = b.code; rest = drop b.next t; is = mark; other = k.other; stop = b.stop })
-          ∙ ap At w
+          ∙ ap Some w
           ∙ sym e;
     }
 

@@ -21,20 +21,16 @@ use Rattle.jpeg_rules.specs.declared.Marker.{Marker}
 use Rattle.jpeg_rules.specs.declared.Marker.TheVariants.{Code, Missing, Cut}
 use Rattle.jpeg_rules.specs.declared.Fault.{Fault}
 use Rattle.jpeg_rules.specs.declared.Fault.TheVariants.{Short, BadLength, BadRes, BadLayer}
-use Rattle.jpeg_rules.specs.declared.Seg.{Seg}
-use Rattle.jpeg_rules.specs.declared.Seg.TheVariants.{Body, Refused}
-use Rattle.jpeg_rules.specs.declared.Found.{Found}
-use Rattle.jpeg_rules.specs.declared.Found.TheVariants.{At, Nothing}
+use Rattle.std.specs.Prelude.{Option, Some, None, Result, Ok, Err}
 use Rattle.jpeg_rules.specs.declared.Reach.{Reach}
-use Rattle.jpeg_rules.specs.declared.Turn.{Turn}
-use Rattle.jpeg_rules.specs.declared.Turn.TheVariants.{Go, Stop}
+use Rattle.jpeg_rules.specs.Walk.{Turn, seg_of, scan_of, turn_of, begun}
+use Rattle.std.specs.declared.ops.ControlFlow.TheVariants.{Continue, Break}
 use Rattle.jpeg_rules.specs.Marker.{class_of, marker_of}
-use Rattle.jpeg_rules.specs.Walk.{seg_of, scan_of, turn_of, begun}
 use Rattle.jpeg_rules.proofs.Runs.{fill_end}
 
-abbrev pub body_look : Seg → ℕ → (ℕ → ℕ) → ℕ
-body_look (Body next) n go = go next
-body_look (Refused f) n go = n + 2
+abbrev pub body_look : Result ℕ Fault → ℕ → (ℕ → ℕ) → ℕ
+body_look (Ok next) n go = go next
+body_look (Err f) n go = n + 2
 
 -- to the end of the body
 abbrev pub whole : ℕ → ℕ
@@ -50,9 +46,9 @@ unfoldable pub mark_end : List ℕ → ℕ → ℕ
 mark_end s at = marker_look (marker_of s at) at (λ (c n : ℕ). n)
 
 -- scan data is looked through up to the end of the next marker
-abbrev pub found_look : List ℕ → Found → ℕ → ℕ
-found_look s (At p) from = mark_end s p
-found_look s Nothing from = from
+abbrev pub found_look : List ℕ → Option ℕ → ℕ → ℕ
+found_look s (Some p) from = mark_end s p
+found_look s None from = from
 
 -- a marker that may not stand there is decided by its own octets, whatever follows
 unfoldable pub mark_look : List ℕ → Reach → ℕ → Class → ℕ
@@ -70,8 +66,8 @@ turn_look s st = marker_look (marker_of s st.at) st.at (λ (c n : ℕ). mark_loo
 -- ---- the walk
 
 abbrev pub onward_look : Turn → ℕ → (Reach → ℕ) → ℕ
-onward_look (Go t) looked next = next t
-onward_look (Stop w) looked next = looked
+onward_look (Continue t) looked next = next t
+onward_look (Break w) looked next = looked
 
 unfoldable pub walk_look_from : ℕ → List ℕ → ℕ → Reach → ℕ
 unfolding turn_look

@@ -10,21 +10,16 @@ use borrow.Author.Tests.{eq-eqb, ne_eqb}
 use Rattle.octets.specs.Octets.{be16_at}
 use Rattle.jpeg_rules.specs.declared.Fault.{Fault}
 use Rattle.jpeg_rules.specs.declared.Fault.TheVariants.{Short, BadLayer}
-use Rattle.jpeg_rules.specs.declared.Found.TheVariants.{At, Nothing}
+use Rattle.std.specs.Prelude.{Option, Some, None, Result, Ok, Err}
+use Rattle.jpeg_rules.specs.declared.Said.{Said}
 use Rattle.jpeg_rules.specs.declared.Marker.TheVariants.{Code}
 use Rattle.jpeg_rules.specs.declared.Reach.{Reach}
-use Rattle.jpeg_rules.specs.declared.Seg.{Seg}
-use Rattle.jpeg_rules.specs.declared.Seg.TheVariants.{Body, Refused}
-use Rattle.jpeg_rules.specs.declared.Turn.{Turn}
-use Rattle.jpeg_rules.specs.declared.Turn.TheVariants.{Go, Stop}
-use Rattle.jpeg_rules.specs.declared.Walk.{Walk}
-use Rattle.jpeg_rules.specs.declared.Walk.TheVariants.{Ends}
+use Rattle.jpeg_rules.specs.Walk.{Turn, seg_of, scan_of, framed, refused, components_ok, frame_body_of, frame_of, scan_step_of, end_of}
+use Rattle.std.specs.declared.ops.ControlFlow.TheVariants.{Continue, Break}
 use Rattle.jpeg_rules.specs.Marker.{marker_of}
-use Rattle.jpeg_rules.specs.Walk.{seg_of, scan_of, framed, passed, refused, components_ok, frame_body_of, frame_of, scan_step_of, end_of}
 use Rattle.jpeg_scan.specs.declared.Next.{Next}
 use Rattle.jpeg_scan.specs.Search.{Shows}
 use Rattle.jpeg_segment.proofs.Whole.{room}
-use Rattle.jpeg_marks.specs.declared.Step.{Step}
 use Rattle.jpeg_marks.specs.Step.{Answered, Leads}
 
 -- ---- frame_body and frame_step
@@ -46,7 +41,7 @@ module _ (s : List ℕ) (st : Reach) (n next : ℕ) {h : ℕ} (e : h ≡ be16_at
       unfolding frame_body_of
       other_count z = simp (ne_eqb (be16_at s (n + 3)) 0 (rw e at d), ne_eqb (be16_at s (n + 5)) 0 (rw f at m), sym taken ∙ z)
 
-      pub whole_frame : b ≡ true → Go (framed st next (record { width = w; height = h; res = st.said.res; components = v })) ≡ frame_body_of s st n next
+      pub whole_frame : b ≡ true → Continue (framed st next (record { width = w; height = h; res = st.said.res; components = v })) ≡ frame_body_of s st n next
       unfolding frame_body_of
       whole_frame z = rw (e, f, q) (simp (ne_eqb (be16_at s (n + 3)) 0 (rw e at d), ne_eqb (be16_at s (n + 5)) 0 (rw f at m), sym taken ∙ z))
 
@@ -62,12 +57,12 @@ module _ (s : List ℕ) (st : Reach) (n : ℕ) where
     unfolding frame_of
     frame_early z = simp (f, eq-eqb st.said.res 0 z)
 
-    module _ (z : st.said.res ≡ 0 → ⊥) {g : Seg} (y : g ≡ seg_of s n 8) where
-      pub frame_bad : {x : Fault} → g ≡ Refused x → refused x ≡ frame_of s st n
+    module _ (z : st.said.res ≡ 0 → ⊥) {g : Result ℕ Fault} (y : g ≡ seg_of s n 8) where
+      pub frame_bad : {x : Fault} → g ≡ Err x → refused x ≡ frame_of s st n
       unfolding frame_of
       frame_bad b = simp (f, ne_eqb st.said.res 0 z, sym y ∙ b)
 
-      pub frame_whole : {next : ℕ} {r : Turn} → g ≡ Body next → r ≡ frame_body_of s st n next → r ≡ frame_of s st n
+      pub frame_whole : {next : ℕ} {r : Turn} → g ≡ Ok next → r ≡ frame_body_of s st n next → r ≡ frame_of s st n
       unfolding frame_of
       frame_whole b h = h ∙ simp (f, ne_eqb st.said.res 0 z, sym y ∙ b)
 
@@ -76,36 +71,36 @@ pub ruleset frame_laws = (room, frame_again, frame_early, frame_bad, frame_whole
 -- ---- scan_step
 
 -- a turn that stops has its answer
-pub led_stop : (s : List ℕ) {t : Turn} {w : Walk} → t ≡ Stop w → (main : ℕ) → Leads s main (Step.Stop w) t
+pub led_stop : (s : List ℕ) {t : Turn} {w : Result (ℕ × Said) Fault} → t ≡ Break w → (main : ℕ) → Leads s main (Break w) t
 unfolding Leads Answered
 led_stop s {w = w} e main = subst (λ (x : Turn). Answered s main x w) (sym e) refl
 
 module _ (s : List ℕ) (st : Reach) (n : ℕ) where
-  pub scan_early : st.framed ≡ false → (main : ℕ) → Leads s main (Step.Stop (Walk.Refused (BadLayer st.at))) (scan_step_of s st n)
+  pub scan_early : st.framed ≡ false → (main : ℕ) → Leads s main (Break (Err (BadLayer st.at))) (scan_step_of s st n)
   unfolding scan_step_of
   scan_early f = led_stop s (simp f)
 
-  module _ (f : st.framed ≡ true) {g : Seg} (z : g ≡ seg_of s n 2) where
-    pub scan_bad : {x : Fault} → g ≡ Refused x → (main : ℕ) → Leads s main (Step.Stop (Walk.Refused x)) (scan_step_of s st n)
+  module _ (f : st.framed ≡ true) {g : Result ℕ Fault} (z : g ≡ seg_of s n 2) where
+    pub scan_bad : {x : Fault} → g ≡ Err x → (main : ℕ) → Leads s main (Break (Err x)) (scan_step_of s st n)
     unfolding scan_step_of
     scan_bad b = led_stop s (simp (f, sym z ∙ b))
 
-    module _ {from : ℕ} (b : g ≡ Body from) {r : Next} (y : Shows s r (scan_of s from)) where
-      pub scan_open : r ≡ Next.Nothing → (main : ℕ) → Leads s main (Step.Stop (Walk.Refused (Short from))) (scan_step_of s st n)
+    module _ {from : ℕ} (b : g ≡ Ok from) {r : Option Next} (y : Shows s r (scan_of s from)) where
+      pub scan_open : r ≡ None → (main : ℕ) → Leads s main (Break (Err (Short from))) (scan_step_of s st n)
       unfolding scan_step_of Shows
-      scan_open e = let w : scan_of s from ≡ Nothing = subst (λ (x : Next). Shows s x (scan_of s from)) e y in led_stop s (simp (f, sym z ∙ b, w))
+      scan_open e = let w : scan_of s from ≡ None = subst (λ (x : Option Next). Shows s x (scan_of s from)) e y in led_stop s (simp (f, sym z ∙ b, w))
 
-      pub scan_whole : {p c next : ℕ} → r ≡ Next.At p c next → (main : ℕ) → Leads s main (Step.Go (passed st p) c next) (scan_step_of s st n)
+      pub scan_whole : {d : Next} → r ≡ Some d → (main : ℕ) → Leads s main (Continue (record { st = record { at = d.place; framed = st.framed; scanned = true; said = st.said }; code = d.code; next = d.next })) (scan_step_of s st n)
       unfolding scan_step_of Leads Shows
-      scan_whole {p} {c} {next} e main =
-          let w : (scan_of s from ≡ At p) × (marker_of s p ≡ Code c next) = subst (λ (x : Next). Shows s x (scan_of s from)) e y in
+      scan_whole {d} e main =
+          let w : (scan_of s from ≡ Some d.place) × (marker_of s d.place ≡ Code d.code d.next) = subst (λ (x : Option Next). Shows s x (scan_of s from)) e y in
           (simp (f, sym z ∙ b, w.0), w.1)
 
 pub ruleset scan_laws = (scan_early, scan_bad, scan_open, scan_whole)
 
 -- ---- end_step
 module _ (st : Reach) (n : ℕ) where
-  pub end_whole : st.scanned ≡ true → Stop (Ends n st.said) ≡ end_of st n
+  pub end_whole : st.scanned ≡ true → Break (Ok (n, st.said)) ≡ end_of st n
   unfolding end_of
   end_whole f = simp f
 

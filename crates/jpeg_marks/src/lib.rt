@@ -6,14 +6,8 @@ ghost use Rattle.jpeg_rules.specs.Walk.{components_ok, frame_body_of, frame_of, 
 ghost use Rattle.jpeg_marks.specs.Step.{Leads};
 ghost use Rattle.jpeg_segment.specs.Room.{Room};
 
-use jpeg_rules::{Fault, Reach, Said, Seg, Turn, Walk};
-use jpeg_scan::Next;
-
-fn count_of(octet: u8) -> u32
-    ensures { result ≡ octet }
-{
-    octet as u32
-}
+use jpeg_rules::{Fault, Reach, Said, Turn, Walk};
+use std::ops::ControlFlow;
 
 // 02, 2026-07: lightness alone, or lightness and chroma.
 fn components_ok(n: u32) -> bool
@@ -29,27 +23,27 @@ fn frame_body(s: &[u8], st: Reach, n: usize, next: usize) -> Turn
 {
     let height = octets_get::be16(s, n + 3);
     if height == 0 {
-        return Turn::Stop(Walk::Refused(Fault::BadLayer(n + 3)));
+        return ControlFlow::Break(Err(Fault::BadLayer(n + 3)));
     }
     let width = octets_get::be16(s, n + 5);
     if width == 0 {
-        return Turn::Stop(Walk::Refused(Fault::BadLayer(n + 5)));
+        return ControlFlow::Break(Err(Fault::BadLayer(n + 5)));
     }
-    let components = count_of(s[n + 7]);
+    let components = u32::from(s[n + 7]);
     if components_ok(components) {
-        Turn::Go(Reach {
+        ControlFlow::Continue(Reach {
             at: next,
             framed: true,
-            scanned: st.scanned,
             said: Said {
+                components,
                 width,
                 height,
-                res: st.said.res,
-                components,
+                ..st.said
             },
+            ..st
         })
     } else {
-        Turn::Stop(Walk::Refused(Fault::BadLayer(n + 7)))
+        ControlFlow::Break(Err(Fault::BadLayer(n + 7)))
     }
 }
 
@@ -59,23 +53,28 @@ pub fn frame_step(s: &[u8], st: Reach, n: usize) -> Turn
     ensures { result ≡ frame_of s.now st n }
 {
     if st.framed {
-        return Turn::Stop(Walk::Refused(Fault::BadLayer(st.at)));
+        return ControlFlow::Break(Err(Fault::BadLayer(st.at)));
     }
     if st.said.res == 0 {
-        return Turn::Stop(Walk::Refused(Fault::BadLayer(st.at)));
+        return ControlFlow::Break(Err(Fault::BadLayer(st.at)));
     }
+    // a match, since `?` does not go from a Result to a ControlFlow, whose Break has good ends too
     match jpeg_segment::seg_at(s, n, 8) {
-        Seg::Refused(f) => Turn::Stop(Walk::Refused(f)),
-        Seg::Body(next) => frame_body(s, st, n, next),
+        Err(f) => ControlFlow::Break(Err(f)),
+        Ok(next) => frame_body(s, st, n, next),
     }
 }
 
-// One marker on, with the code of the marker that is due there and the place after it; or the walk's answer.
+// A marker that is due: what is known before it, its code and the place after that.
 #[derive(Clone, Copy)]
-pub enum Step {
-    Go { st: Reach, code: u8, next: usize },
-    Stop(Walk),
+pub struct Due {
+    pub st: Reach,
+    pub code: u8,
+    pub next: usize,
 }
+
+// One marker on, with the marker that is due there; or the walk's answer.
+pub type Step = ControlFlow<Walk, Due>;
 
 // T.81 B.2.3: the scan header's components are not read; the data after it ends at the next marker, which is not looked for again.
 pub fn scan_step(s: &[u8], st: Reach, n: usize) -> Step
@@ -83,25 +82,24 @@ pub fn scan_step(s: &[u8], st: Reach, n: usize) -> Step
     ensures { (main : ℕ) → Leads s.now main result (scan_step_of s.now st n) }
 {
     if st.framed {
-        let said = st.said;
+        // no `?`, as above
         match jpeg_segment::seg_at(s, n, 2) {
-            Seg::Refused(f) => Step::Stop(Walk::Refused(f)),
-            Seg::Body(from) => match jpeg_scan::next_marker(s, from) {
-                Next::Nothing => Step::Stop(Walk::Refused(Fault::Short(from))),
-                Next::At { place, code, next } => Step::Go {
+            Err(f) => ControlFlow::Break(Err(f)),
+            Ok(from) => match jpeg_scan::next_marker(s, from) {
+                None => ControlFlow::Break(Err(Fault::Short(from))),
+                Some(found) => ControlFlow::Continue(Due {
                     st: Reach {
-                        at: place,
-                        framed: true,
+                        at: found.place,
                         scanned: true,
-                        said,
+                        ..st
                     },
-                    code,
-                    next,
-                },
+                    code: found.code,
+                    next: found.next,
+                }),
             },
         }
     } else {
-        Step::Stop(Walk::Refused(Fault::BadLayer(st.at)))
+        ControlFlow::Break(Err(Fault::BadLayer(st.at)))
     }
 }
 
@@ -109,9 +107,8 @@ pub fn end_step(st: Reach, n: usize) -> Turn
     ensures { result ≡ end_of st n }
 {
     if st.scanned {
-        let said = st.said;
-        Turn::Stop(Walk::Ends { next: n, said })
+        ControlFlow::Break(Ok((n, st.said)))
     } else {
-        Turn::Stop(Walk::Refused(Fault::BadLayer(st.at)))
+        ControlFlow::Break(Err(Fault::BadLayer(st.at)))
     }
 }

@@ -20,18 +20,13 @@ use Rattle.jpeg_rules.specs.declared.Class.{Class}
 use Rattle.jpeg_rules.specs.declared.Class.TheVariants.{Alone, Frame, Scan, End, Wrong, Segment}
 use Rattle.jpeg_rules.specs.declared.Marker.{Marker}
 use Rattle.jpeg_rules.specs.declared.Marker.TheVariants.{Code, Missing, Cut}
-use Rattle.jpeg_rules.specs.declared.Seg.{Seg}
-use Rattle.jpeg_rules.specs.declared.Seg.TheVariants.{Body}
-use Rattle.jpeg_rules.specs.declared.Found.{Found}
-use Rattle.jpeg_rules.specs.declared.Found.TheVariants.{At, Nothing}
+use Rattle.std.specs.Prelude.{Option, Some, None, Result, Ok, Err}
+use Rattle.jpeg_rules.specs.declared.Fault.{Fault}
 use Rattle.jpeg_rules.specs.declared.Reach.{Reach}
-use Rattle.jpeg_rules.specs.declared.Walk.{Walk}
-use Rattle.jpeg_rules.specs.declared.Walk.TheVariants.{Ends}
-use Rattle.jpeg_rules.specs.declared.Turn.{Turn}
-use Rattle.jpeg_rules.specs.declared.Turn.TheVariants.{Go, Stop}
+use Rattle.jpeg_rules.specs.Walk.{Turn, seg_of, scan_of, tag_of, passed, on_body, on_found, components_ok, frame_body_of, frame_of, scan_step_of, segment_of, end_of, mark_of, on_marker, turn_of, on_turn, walk_from, begun, walk_of}
+use Rattle.std.specs.declared.ops.ControlFlow.TheVariants.{Continue, Break}
 use Rattle.jpeg_rules.specs.Marker.{class_of, code_from, marker_of}
 use Rattle.jpeg_rules.specs.Grammar.{DataRun}
-use Rattle.jpeg_rules.specs.Walk.{seg_of, scan_of, tag_of, passed, on_body, on_found, components_ok, frame_body_of, frame_of, scan_step_of, segment_of, end_of, mark_of, on_marker, turn_of, on_turn, walk_from, begun, walk_of}
 use Rattle.jpeg_rules.proofs.Codes.{coded_class, class_low, class_restart, class_rest}
 use Rattle.jpeg_rules.proofs.Scans.{scan_over, plain_next, run_over, run_next, run_here}
 use Rattle.jpeg_padding.specs.Frozen.{frozen_class_of, frozen_marker_of, frozen_seg_of, frozen_stops_of, frozen_scan_from, frozen_scan_of, frozen_tag_of, frozen_on_body, frozen_on_found, frozen_frame_body_of, frozen_frame_of, frozen_scan_step_of, frozen_segment_of, frozen_end_of, frozen_mark_of, frozen_on_marker, frozen_turn_of, frozen_on_turn, frozen_walk_from, frozen_walk_of}
@@ -145,13 +140,13 @@ module _ (s : List ℕ) (i : ℕ) (h : i + 1 < length s) where
       (says_else (says_eq (get_or s i 0) 0xFF))
 
   -- where they ended it and are not both FF, it ends today
-  pair_here : frozen_stops_of (get_or s i 0) (get_or s (i + 1) 0) ≡ true → LoneAt s i → scan_of s i ≡ At i
+  pair_here : frozen_stops_of (get_or s i 0) (get_or s (i + 1) 0) ≡ true → LoneAt s i → scan_of s i ≡ Some i
   pair_here e d =
       let k = (says_stops (get_or s i 0) (get_or s (i + 1) 0)).told e in
       run_here s i (i + 1) k.0 (end_here 0xFF s (i + 1) h (d k.0)) h (λ q. k.1 (run_code q))
 
 -- from the last octet on nothing is found
-past_last : (s : List ℕ) (i : ℕ) → length s ≤ i + 1 → scan_of s i ≡ Nothing
+past_last : (s : List ℕ) (i : ℕ) → length s ≤ i + 1 → scan_of s i ≡ None
 past_last s i h =
     ⊎_elim (λ (ff : get_or s i 0 ≡ 0xFF). run_over s i (i + 1) ff (end_over 0xFF s (i + 1) h) h)
     (λ (d : get_or s i 0 ≢ 0xFF). plain_next s i d ∙ scan_over s (i + 1) h)
@@ -159,15 +154,15 @@ past_last s i h =
 
 -- what the frozen search found, unless it is an FF with an FF behind it, the search of today finds
 module _ (s : List ℕ) where
-  scan_from_same : (k i : ℕ) → length s - (i + 1) ≡ k → ((p : ℕ) → frozen_scan_from k s i ≡ At p → LoneAt s p) → scan_of s i ≡ frozen_scan_from k s i
+  scan_from_same : (k i : ℕ) → length s - (i + 1) ≡ k → ((p : ℕ) → frozen_scan_from k s i ≡ Some p → LoneAt s p) → scan_of s i ≡ frozen_scan_from k s i
   unfolding frozen_scan_from
   scan_from_same zero i h = λ g. past_last s i (omega arith)
   scan_from_same (suc k) i h =
-      cond_with (λ x. ((p : ℕ) → x ≡ At p → LoneAt s p) → scan_of s i ≡ x) (frozen_stops_of (get_or s i 0) (get_or s (i + 1) 0))
+      cond_with (λ x. ((p : ℕ) → x ≡ Some p → LoneAt s p) → scan_of s i ≡ x) (frozen_stops_of (get_or s i 0) (get_or s (i + 1) 0))
       (λ t g. pair_here s i (omega arith) t (g i refl))
       (λ t g. pair_next s i (omega arith) t ∙ scan_from_same k (i + 1) (omega arith) g)
 
-  scan_same : (i : ℕ) → ((p : ℕ) → frozen_scan_of s i ≡ At p → LoneAt s p) → scan_of s i ≡ frozen_scan_of s i
+  scan_same : (i : ℕ) → ((p : ℕ) → frozen_scan_of s i ≡ Some p → LoneAt s p) → scan_of s i ≡ frozen_scan_of s i
   unfolding frozen_scan_of
   scan_same i = scan_from_same (length s - (i + 1)) i refl
 
@@ -194,20 +189,20 @@ marker_same s at d =
 module _ (s : List ℕ) (main : ℕ) where
   -- a turn that goes on to no FF with an FF behind it
   abbrev Lone : Turn → Type 0
-  Lone x = (t : Reach) → x ≡ Go t → LoneAt s t.at
+  Lone x = (t : Reach) → x ≡ Continue t → LoneAt s t.at
 
   scan_step_same : (st : Reach) (n : ℕ) → Lone (frozen_scan_step_of s st n) → scan_step_of s st n ≡ frozen_scan_step_of s st n
   unfolding frozen_scan_step_of scan_step_of frozen_seg_of seg_of
   scan_step_same st n = cond_both (λ u x. Lone x → u ≡ x) st.framed (λ f. body (seg_of s n 2)) (λ f g. refl)
     where
-      after : ℕ → Found → Turn
-      after next x = on_found x next (λ (p : ℕ). Go (passed st p))
+      after : ℕ → Option ℕ → Turn
+      after next x = on_found x next (λ (p : ℕ). Continue (passed st p))
 
-      body : (x : Seg) → Lone (frozen_on_body x (λ (next : ℕ). frozen_on_found (frozen_scan_of s next) next (λ (p : ℕ). Go (passed st p))))
-          → on_body x (λ (next : ℕ). on_found (scan_of s next) next (λ (p : ℕ). Go (passed st p)))
-          ≡ frozen_on_body x (λ (next : ℕ). frozen_on_found (frozen_scan_of s next) next (λ (p : ℕ). Go (passed st p)))
-      body (Body next) g = ap (after next) (scan_same s next (λ p q. g (passed st p) (ap (after next) q)))
-      body (Seg.Refused f) g = refl
+      body : (x : Result ℕ Fault) → Lone (frozen_on_body x (λ (next : ℕ). frozen_on_found (frozen_scan_of s next) next (λ (p : ℕ). Continue (passed st p))))
+          → on_body x (λ (next : ℕ). on_found (scan_of s next) next (λ (p : ℕ). Continue (passed st p)))
+          ≡ frozen_on_body x (λ (next : ℕ). frozen_on_found (frozen_scan_of s next) next (λ (p : ℕ). Continue (passed st p)))
+      body (Ok next) g = ap (after next) (scan_same s next (λ p q. g (passed st p) (ap (after next) q)))
+      body (Err f) g = refl
 
   mark_same : (st : Reach) (c n : ℕ) (k : Class) → Lone (frozen_mark_of components_ok s main st c n k) → mark_of s main st c n k ≡ frozen_mark_of components_ok s main st c n k
   unfolding frozen_mark_of mark_of
@@ -236,15 +231,15 @@ module _ (s : List ℕ) (main : ℕ) where
   -- ---- the walk, with the same count of markers
 
   step_same : (k : ℕ) (st : Reach) → LoneAt s st.at
-      → ((t : Reach) → frozen_turn_of components_ok s main st ≡ Go t → LoneAt s t.at × (walk_from k s main t ≡ frozen_walk_from components_ok k s main t))
+      → ((t : Reach) → frozen_turn_of components_ok s main st ≡ Continue t → LoneAt s t.at × (walk_from k s main t ≡ frozen_walk_from components_ok k s main t))
       → walk_from (suc k) s main st ≡ frozen_walk_from components_ok (suc k) s main st
   unfolding walk_from frozen_walk_from
   step_same k st d more =
       ap (λ (x : Turn). on_turn x (walk_from k s main)) (turn_same st d (λ t q. (more t q).0)) ∙ by (frozen_turn_of components_ok s main st) refl
     where
       by : (x : Turn) → frozen_turn_of components_ok s main st ≡ x → on_turn x (walk_from k s main) ≡ frozen_on_turn x (frozen_walk_from components_ok k s main)
-      by (Go t) q = (more t q).1
-      by (Stop w) q = refl
+      by (Continue t) q = (more t q).1
+      by (Break w) q = refl
 
   lone_same : ((i : ℕ) → LoneAt s i) → (k : ℕ) (st : Reach) → walk_from k s main st ≡ frozen_walk_from components_ok k s main st
   unfolding walk_from frozen_walk_from
@@ -253,38 +248,38 @@ module _ (s : List ℕ) (main : ℕ) where
 
   module _ (e : ℕ) (said : Said) where
     -- where an FF stood behind an FF, the frozen walk was refused
-    ends_lone : (k : ℕ) (st : Reach) → frozen_walk_from components_ok k s main st ≡ Ends e said → LoneAt s st.at
+    ends_lone : (k : ℕ) (st : Reach) → frozen_walk_from components_ok k s main st ≡ Ok (e, said) → LoneAt s st.at
     unfolding frozen_walk_from frozen_marker_of frozen_class_of
     ends_lone zero st z f q = clash cc
     ends_lone (suc k) st z f q =
-        let y : onward (cond (ltb (length s) (st.at + 2)) Cut (Code 0xFF (st.at + 2))) ≡ Ends e said =
+        let y : onward (cond (ltb (length s) (st.at + 2)) Cut (Code 0xFF (st.at + 2))) ≡ Ok (e, said) =
         ap₂ (λ (b : Bool) (c : ℕ). onward (cond (ltb (length s) (st.at + 2)) Cut (cond b (Code c (st.at + 2)) Missing)))
         (sym (eq-eqb (get_or s st.at 0) 0xFF f)) (sym q)
         ∙ z in
         refuses (ltb (length s) (st.at + 2)) y
       where
-        onward : Marker → Walk
+        onward : Marker → Result (ℕ × Said) Fault
         onward x = frozen_on_turn (frozen_on_marker x st.at (λ (c n : ℕ). frozen_mark_of components_ok s main st c n (frozen_class_of c))) (frozen_walk_from components_ok k s main)
 
-        refuses : (b : Bool) → onward (cond b Cut (Code 0xFF (st.at + 2))) ≡ Ends e said → ⊥
+        refuses : (b : Bool) → onward (cond b Cut (Code 0xFF (st.at + 2))) ≡ Ok (e, said) → ⊥
         refuses true y = clash cc
         refuses false y = clash cc
 
-    ends_same : (k : ℕ) (st : Reach) → frozen_walk_from components_ok k s main st ≡ Ends e said → walk_from k s main st ≡ frozen_walk_from components_ok k s main st
+    ends_same : (k : ℕ) (st : Reach) → frozen_walk_from components_ok k s main st ≡ Ok (e, said) → walk_from k s main st ≡ frozen_walk_from components_ok k s main st
     unfolding walk_from frozen_walk_from
     ends_same zero st z = refl
     ends_same (suc k) st z =
         step_same k st (ends_lone (suc k) st z)
         (λ t q.
-        let y : frozen_walk_from components_ok k s main t ≡ Ends e said = sym (ap (λ (x : Turn). frozen_on_turn x (frozen_walk_from components_ok k s main)) q) ∙ z in
+        let y : frozen_walk_from components_ok k s main t ≡ Ok (e, said) = sym (ap (λ (x : Turn). frozen_on_turn x (frozen_walk_from components_ok k s main)) q) ∙ z in
         (ends_lone k t y, ends_same k t y))
 
 module _ (s : List ℕ) (start main : ℕ) where
-  pub walk_ends_same : (e : ℕ) (said : Said) → frozen_walk_of components_ok s start main ≡ Ends e said → walk_of s start main ≡ Ends e said
+  pub walk_ends_same : (e : ℕ) (said : Said) → frozen_walk_of components_ok s start main ≡ Ok (e, said) → walk_of s start main ≡ Ok (e, said)
   unfolding frozen_walk_of walk_of
   walk_ends_same e said =
-      cond_both (λ u x. x ≡ Ends e said → u ≡ Ends e said) (ltb (length s) (start + 2)) (λ t z. z) λ t.
-      cond_both (λ u x. x ≡ Ends e said → u ≡ Ends e said) (eqb (get_or s start 0) 0xFF && eqb (get_or s (start + 1) 0) 0xD8)
+      cond_both (λ u x. x ≡ Ok (e, said) → u ≡ Ok (e, said)) (ltb (length s) (start + 2)) (λ t z. z) λ t.
+      cond_both (λ u x. x ≡ Ok (e, said) → u ≡ Ok (e, said)) (eqb (get_or s start 0) 0xFF && eqb (get_or s (start + 1) 0) 0xD8)
       (λ f z. ends_same s main e said (length s) (begun (start + 2)) z ∙ z) (λ f z. z)
 
   pub walk_lone_same : ((i : ℕ) → LoneAt s i) → walk_of s start main ≡ frozen_walk_of components_ok s start main

@@ -14,15 +14,13 @@ use Rattle.laws.proofs.Cases.{cond_with, clash, bool_else}
 use Rattle.jpeg_rules.specs.declared.Said.{Said}
 use Rattle.jpeg_rules.specs.declared.Class.TheVariants.{Frame, Scan, End}
 use Rattle.jpeg_rules.specs.declared.Fault.TheVariants.{BadRes, BadLayer}
-use Rattle.jpeg_rules.specs.declared.Seg.{Seg}
+use Rattle.std.specs.Prelude.{Option, Some, None, Result}
+use Rattle.jpeg_rules.specs.declared.Fault.{Fault}
 use Rattle.jpeg_rules.specs.declared.Reach.{Reach}
-use Rattle.jpeg_rules.specs.declared.Tag.{Tag}
-use Rattle.jpeg_rules.specs.declared.Tag.TheVariants.{Gives, Plain}
-use Rattle.jpeg_rules.specs.declared.Turn.{Turn}
-use Rattle.jpeg_rules.specs.declared.Turn.TheVariants.{Go}
+use Rattle.jpeg_rules.specs.Walk.{Turn, resolves, tag_of, framed, moved, passed, refused, on_body, on_tag, frame_said, components_ok, frame_body_of, frame_of, scan_step_of, end_of, mark_of, turn_of, begun}
+use Rattle.std.specs.declared.ops.ControlFlow.TheVariants.{Continue}
 use Rattle.jpeg_rules.specs.Codes.{IsFrame, HasLength}
 use Rattle.jpeg_rules.specs.Grammar.{marker, Data, Piece, alone, segment, scan, lengthed, octets_of, pieces_of, Good, Each, Layer}
-use Rattle.jpeg_rules.specs.Walk.{resolves, tag_of, framed, moved, passed, refused, on_body, on_tag, frame_said, components_ok, frame_body_of, frame_of, scan_step_of, end_of, mark_of, turn_of, begun}
 use Rattle.jpeg_rules.proofs.Codes.{end_right, frame_right, frame_other, segment_other}
 use Rattle.jpeg_rules.proofs.Runs.{length_marker}
 use Rattle.jpeg_rules.proofs.Scans.{Opens}
@@ -34,9 +32,9 @@ module _ (s : List ℕ) (main : ℕ) where
   -- ---- a turn that goes on over a piece, the frame or the end goes on to what stands after it
 
   abbrev To : ℕ → Turn → Type 0
-  To n x = (u : Reach) → x ≡ Go u → u.at ≡ n
+  To n x = (u : Reach) → x ≡ Continue u → u.at ≡ n
 
-  to_place : (t : Reach) (n : ℕ) → t.at ≡ n → To n (Go t)
+  to_place : (t : Reach) (n : ℕ) → t.at ≡ n → To n (Continue t)
   to_place t n e u q = let z : t ≡ u = cc in ap (λ (x : Reach). x.at) (sym z) ∙ e
 
   to_none : (n : ℕ) (f : _) → To n (refused f)
@@ -54,10 +52,10 @@ module _ (s : List ℕ) (main : ℕ) where
       segment_to k =
           subst (To next) (sym (segment_opened s main st f c body l other e (tag_of s st c (st.at + f + 2)) refl k)) (by (tag_of s st c (st.at + f + 2)))
         where
-          by : (t : Tag)
-              → To next (on_tag t (Go (moved st next st.said.res)) (λ (v : ℕ). cond (resolves main v) (Go (moved st next v)) (refused (BadRes (st.at + f + 2 + 10)))))
-          by Plain = to_place (moved st next st.said.res) next refl
-          by (Gives v) = cond_with (To next) (resolves main v) (λ t. to_place (moved st next v) next refl) (λ t. to_none next _)
+          by : (t : Option ℕ)
+              → To next (on_tag t (Continue (moved st next st.said.res)) (λ (v : ℕ). cond (resolves main v) (Continue (moved st next v)) (refused (BadRes (st.at + f + 2 + 10)))))
+          by None = to_place (moved st next st.said.res) next refl
+          by (Some v) = cond_with (To next) (resolves main v) (λ t. to_place (moved st next v) next refl) (λ t. to_none next _)
 
       frame_to : IsFrame c → 8 ≤ length body + 2 → To next (turn_of s main st)
       unfolding mark_of frame_of frame_body_of
@@ -65,7 +63,7 @@ module _ (s : List ℕ) (main : ℕ) where
           subst (To next) (sym (turn_class s main st f c (octets16 (length body + 2) ++ (body ++ l)) Frame other (opened s main st f c body l other e) k))
           (cond_with (To next) st.framed (λ t. to_none next _) λ t.
           cond_with (To next) (eqb st.said.res 0) (λ t. to_none next _) λ t.
-          subst (λ (g : Seg). To next (on_body g (λ (n : ℕ). frame_body_of s st (st.at + f + 2) n))) (sym (seg_is s main st f c body l other e 8 h))
+          subst (λ (g : Result ℕ Fault). To next (on_body g (λ (n : ℕ). frame_body_of s st (st.at + f + 2) n))) (sym (seg_is s main st f c body l other e 8 h))
           (cond_with (To next) (eqb (be16_at s (st.at + f + 2 + 3)) 0) (λ t. to_none next _) λ t.
           cond_with (To next) (eqb (be16_at s (st.at + f + 2 + 5)) 0) (λ t. to_none next _) λ t.
           cond_with (To next) (components_ok (get_or s (st.at + f + 2 + 7) 0)) (λ t. to_place (framed st next (frame_said s st (st.at + f + 2))) next refl) (λ t. to_none next _)))
@@ -131,11 +129,11 @@ module _ (s : List ℕ) (main : ℕ) where
 -- ---- the layer
 
 -- at the end's marker no turn goes on
-end_stops : (s : List ℕ) (main : ℕ) (st : Reach) (f : ℕ) (l : List ℕ) → drop st.at s ≡ marker f 0xD9 ++ l → (u : Reach) → turn_of s main st ≡ Go u → ⊥
+end_stops : (s : List ℕ) (main : ℕ) (st : Reach) (f : ℕ) (l : List ℕ) → drop st.at s ≡ marker f 0xD9 ++ l → (u : Reach) → turn_of s main st ≡ Continue u → ⊥
 unfolding mark_of end_of
 end_stops s main st f l e u =
-    subst (λ (x : Turn). x ≡ Go u → ⊥) (sym (turn_class s main st f 0xD9 l End (λ z. omega arith) e refl))
-    (cond_with (λ x. x ≡ Go u → ⊥) st.scanned (λ t q. clash cc) (λ t q. clash cc))
+    subst (λ (x : Turn). x ≡ Continue u → ⊥) (sym (turn_class s main st f 0xD9 l End (λ z. omega arith) e refl))
+    (cond_with (λ x. x ≡ Continue u → ⊥) st.scanned (λ t q. clash cc) (λ t q. clash cc))
 
 module _ (s : List ℕ) (start main : ℕ) {l : List ℕ} (rest : List ℕ) {said : Said} (y : Layer main l said) (e : drop start s ≡ l ++ rest) where
   abbrev frame : List ℕ

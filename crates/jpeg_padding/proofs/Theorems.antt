@@ -8,7 +8,7 @@ use lib.ListN.{get_or, replicate}
 use Rattle.octets.specs.Octets.{Octets}
 use Rattle.jpeg_rules.specs.declared.Said.{Said}
 use Rattle.jpeg_rules.specs.declared.Reach.{Reach}
-use Rattle.jpeg_rules.specs.declared.Walk.TheVariants.{Ends}
+use Rattle.std.specs.Prelude.{Ok}
 use Rattle.jpeg_rules.specs.Grammar.{marker, DataRun, Data, scan, lengthed, Components, Layer}
 use Rattle.jpeg_rules.specs.Walk.{components_ok, begun, walk_of}
 use Rattle.jpeg_rules.proofs.There.{says_components}
@@ -22,8 +22,8 @@ use Rattle.jpeg_padding.proofs.Walked.{walk_more, walk_reaches}
 
 -- ---- where the walk ended before padded markers and grey layers, with one component or three, it ends today, and says the same
 
-pub conservative : (s : List ℕ) (start main e : ℕ) (said : Said) → frozen_walk_of any_count s start main ≡ Ends e said → Components said.components
-    → walk_of s start main ≡ Ends e said
+pub conservative : (s : List ℕ) (start main e : ℕ) (said : Said) → frozen_walk_of any_count s start main ≡ Ok (e, said) → Components said.components
+    → walk_of s start main ≡ Ok (e, said)
 conservative s start main e said q c =
     walk_ends_same s start main e said (walk_counted s main components_ok start e said ((says_components said.components).shown c) q)
 
@@ -48,7 +48,7 @@ fill_inserted y a b m k = layer_more y k m
 
 -- and the walk over it ends so much later
 pub walk_inserted : (s : List ℕ) (start main e : ℕ) (said : Said) (y : LayerAt s start main e said) (p : ℕ) → BeginsAt y.layer start p → (k : ℕ)
-    → walk_of (padded_at s p k) start main ≡ Ends (e + k) said
+    → walk_of (padded_at s p k) start main ≡ Ok (e + k, said)
 walk_inserted = walk_more
 
 -- ---- among these places is every one where a walk that ends looks for a marker after FF D8; so octets FF may stand before each
@@ -57,8 +57,8 @@ pub reached_begins : (s : List ℕ) (start main e : ℕ) (said : Said) (y : Laye
     → BeginsAt y.layer start t.at
 reached_begins = walk_reaches
 
-pub reached_inserted : (s : List ℕ) → Octets s → (start main e : ℕ) (said : Said) → walk_of s start main ≡ Ends e said
-    → (t : Reach) → Comes s main (begun (start + 2)) t → (k : ℕ) → walk_of (padded_at s t.at k) start main ≡ Ends (e + k) said
+pub reached_inserted : (s : List ℕ) → Octets s → (start main e : ℕ) (said : Said) → walk_of s start main ≡ Ok (e, said)
+    → (t : Reach) → Comes s main (begun (start + 2)) t → (k : ℕ) → walk_of (padded_at s t.at k) start main ≡ Ok (e + k, said)
 reached_inserted s o start main e said q t c k =
     let y = (walk_exactly s o start main e said).0 q in
     walk_inserted s start main e said y t.at (reached_begins s start main e said y t c) k

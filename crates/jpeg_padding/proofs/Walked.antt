@@ -9,7 +9,7 @@ use lib.Seq.{length-take-le, take_at, drop_at, take-add}
 use Rattle.octets.proofs.Laws.{drop_next}
 use Rattle.jpeg_rules.specs.declared.Said.{Said}
 use Rattle.jpeg_rules.specs.declared.Reach.{Reach}
-use Rattle.jpeg_rules.specs.declared.Walk.TheVariants.{Ends}
+use Rattle.std.specs.Prelude.{Ok}
 use Rattle.jpeg_rules.specs.Walk.{begun, walk_of}
 use Rattle.jpeg_rules.proofs.Scans.{scan_split}
 use Rattle.jpeg_rules.proofs.There.{layer_walk}
@@ -47,7 +47,7 @@ module _ (s : List ℕ) (start e : ℕ) (after : start ≤ e) (inside : e ≤ le
       omega arith
 
 pub walk_more : (s : List ℕ) (start main e : ℕ) (said : Said) (y : LayerAt s start main e said) (p : ℕ) → BeginsAt y.layer start p → (k : ℕ)
-    → walk_of (padded_at s p k) start main ≡ Ends (e + k) said
+    → walk_of (padded_at s p k) start main ≡ Ok (e + k, said)
 walk_more s start main e said y p m k =
     let a : List ℕ = m.front in
     let b : List ℕ = m.back in
@@ -55,7 +55,7 @@ walk_more s start main e said y p m k =
     ap (λ (n : ℕ). walk_of (padded_at s n k) start main) m.place
     ∙ layer_walk (padded_at s (start + length a) k) start main (padded k a b) (drop e s) said (layer_more y.layer k m.begins)
     (padded_there s start e y.after y.inside a b q k)
-    ∙ ap (λ (n : ℕ). Ends n said) (padded_length s start e y.after y.inside a b q k)
+    ∙ ap (λ (n : ℕ). Ok (n, said)) (padded_length s start e y.after y.inside a b q k)
 
 -- ---- the places that the walk comes to
 

@@ -12,7 +12,7 @@
 use Rattle.std.specs.Prelude.{ℕ, ◌+◌, ◌≤◌, ◌≡◌, List, [], ◌∷◌, ◌++◌, length, replicate, take, drop}
 use Rattle.jpeg_rules.specs.declared.Said.{Said}
 use Rattle.jpeg_rules.specs.declared.Reach.{Reach}
-use Rattle.jpeg_rules.specs.declared.Turn.TheVariants.{Go}
+use Rattle.std.specs.declared.ops.ControlFlow.TheVariants.{Continue}
 use Rattle.jpeg_rules.specs.Grammar.{marker, Data, Piece, scan, lengthed, octets_of, pieces_of, Layer}
 use Rattle.jpeg_rules.specs.Walk.{turn_of}
 
@@ -55,4 +55,4 @@ padded_at s p k = padded k (take p s) (drop p s)
 
 pub data Comes (s : List ℕ) (main : ℕ) : Reach → Reach → Type 0 where
   here : {st : Reach} → Comes s main st st
-  onward : {st t u : Reach} → turn_of s main st ≡ Go t → Comes s main t u → Comes s main st u
+  onward : {st t u : Reach} → turn_of s main st ≡ Continue t → Comes s main t u → Comes s main st u

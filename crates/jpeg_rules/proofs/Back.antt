@@ -15,13 +15,11 @@ use Rattle.sheet_rules.specs.Sentences.{Listed}
 use Rattle.laws.proofs.Says.{says_eq, says_and, says_true}
 use Rattle.jpeg_rules.specs.declared.Class.TheVariants.{Frame, Segment}
 use Rattle.jpeg_rules.specs.declared.Marker.TheVariants.{Code}
-use Rattle.jpeg_rules.specs.declared.Seg.TheVariants.{Body}
-use Rattle.jpeg_rules.specs.declared.Tag.TheVariants.{Gives}
+use Rattle.std.specs.Prelude.{Some, Result, Ok}
+use Rattle.jpeg_rules.specs.declared.Fault.{Fault}
 use Rattle.jpeg_rules.specs.declared.Said.{Said}
 use Rattle.jpeg_rules.specs.declared.Reach.{Reach}
-use Rattle.jpeg_rules.specs.declared.Turn.TheVariants.{Stop}
-use Rattle.jpeg_rules.specs.declared.Walk.{Walk}
-use Rattle.jpeg_rules.specs.declared.Walk.TheVariants.{Ends}
+use Rattle.std.specs.declared.ops.ControlFlow.TheVariants.{Break}
 use Rattle.jpeg_rules.specs.Codes.{IsFrame}
 use Rattle.jpeg_rules.specs.Marker.{class_of, marker_of}
 use Rattle.jpeg_rules.specs.Grammar.{marker, Piece, alone, segment, lengthed, octets_of, pieces_of, Fits, Good, is_scan, tagged, resolution, Each, Scanned, Components, said_by, Layer}
@@ -103,7 +101,7 @@ module _ (s : List ℕ) (o : Octets s) (main e : ℕ) (said : Said) where
 
   -- the frame itself
   head_frame : (st t : Reach) (c n next : ℕ) → marker_of s st.at ≡ Code c n → class_of c ≡ Frame → st.scanned ≡ false → st.said.res ≢ 0
-      → seg_of s n 8 ≡ Body next → be16_at s (n + 3) ≢ 0 → be16_at s (n + 5) ≢ 0 → components_ok (get_or s (n + 7) 0) ≡ true → framed st next (frame_said s st n) ≡ t
+      → seg_of s n 8 ≡ Ok next → be16_at s (n + 3) ≢ 0 → be16_at s (n + 5) ≢ 0 → components_ok (get_or s (n + 7) 0) ≡ true → framed st next (frame_said s st n) ≡ t
       → Tail s t e said → Head s main st e said
   unfolding Each pieces_of resolution
   head_frame st t c n next m k ns d g nh nw co q y =
@@ -143,7 +141,7 @@ module _ (s : List ℕ) (o : Octets s) (main e : ℕ) (said : Said) where
   found_same : (st t : Reach) → t.said.res ≡ st.said.res → Head s main t e said → (st.said.res ≢ 0) ⊎ (resolves main said.res ≡ true)
   found_same st t q k = ⊎_map (λ (d : t.said.res ≢ 0) z. d (q ∙ z)) (λ (v : resolves main said.res ≡ true). v) k.found
 
-  head_tag : (st t : Reach) (c n next v : ℕ) (x : Stood s st.at c n 2 next) → class_of c ≡ Segment → tag_of s st c n ≡ Gives v → resolves main v ≡ true
+  head_tag : (st t : Reach) (c n next v : ℕ) (x : Stood s st.at c n 2 next) → class_of c ≡ Segment → tag_of s st c n ≡ Some v → resolves main v ≡ true
       → moved st next v ≡ t → Head s main t e said → Head s main st e said
   unfolding octets_of Good is_scan resolution
   head_tag st t c n next v x k gv ok q y =
@@ -190,9 +188,9 @@ module _ (s : List ℕ) (o : Octets s) (main e : ℕ) (said : Said) where
       head_tag st t c n next v x k gv ok q
       (go (ap (λ (v : Reach). v.framed) (sym q) ∙ f) (ap (λ (v : Reach). v.scanned) (sym q) ∙ ns))
 
-  head_back : {st : Reach} {x : Walk} → Walks s main st x → x ≡ Ends e said → st.framed ≡ false → st.scanned ≡ false → Head s main st e said
+  head_back : {st : Reach} {x : Result (ℕ × Said) Fault} → Walks s main st x → x ≡ Ok (e, said) → st.framed ≡ false → st.scanned ≡ false → Head s main st e said
   head_back {st} {x} (stops q) z f ns =
-      let k = (turn_told s main st).1 e said (q ∙ ap Stop z) in absurd (false≢true (sym ns ∙ k.scanned))
+      let k = (turn_told s main st).1 e said (q ∙ ap Break z) in absurd (false≢true (sym ns ∙ k.scanned))
   head_back {st} {x} (goes {t = t} q more) z f ns =
       head_onward st t f ns ((turn_told s main st).0 t q) (λ tf ts. head_back more z tf ts) (λ tf tr. tail_back s o main e said more z tf tr)
 
@@ -254,11 +252,11 @@ module _ (s : List ℕ) (o : Octets s) (start main e : ℕ) (said : Said) where
           (λ (v : resolves main said.res ≡ true). (says_resolves main said.res).told v)
           k.found
 
-  pub walk_layer : walk_of s start main ≡ Ends e said → Walked s start main e said
+  pub walk_layer : walk_of s start main ≡ Ok (e, said) → Walked s start main e said
   unfolding walk_of
   walk_layer =
-      cond_with (λ x. x ≡ Ends e said → Walked s start main e said) (ltb (length s) (start + 2)) (λ t q. clash cc) λ l.
-      cond_with (λ x. x ≡ Ends e said → Walked s start main e said) (eqb (get_or s start 0) 0xFF && eqb (get_or s (start + 1) 0) 0xD8)
+      cond_with (λ x. x ≡ Ok (e, said) → Walked s start main e said) (ltb (length s) (start + 2)) (λ t q. clash cc) λ l.
+      cond_with (λ x. x ≡ Ok (e, said) → Walked s start main e said) (eqb (get_or s start 0) 0xFF && eqb (get_or s (start + 1) 0) 0xD8)
       (λ t q.
       let k = (says_and (says_eq (get_or s start 0) 0xFF) (says_eq (get_or s (start + 1) 0) 0xD8)).told t in
       walked (ltb-false (length s) (start + 2) l) k.0 k.1

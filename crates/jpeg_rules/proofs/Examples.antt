@@ -6,7 +6,7 @@ use mathlib.Core.List.{List, [], ◌∷◌, ◌++◌}
 use Rattle.octets.specs.Octets.{be16_at, begins, stands_at}
 use Rattle.jpeg_rules.specs.declared.Fault.TheVariants.{Short, BadRes, BadLayer}
 use Rattle.jpeg_rules.specs.declared.Said.{Said}
-use Rattle.jpeg_rules.specs.declared.Walk.TheVariants.{Ends, Refused}
+use Rattle.std.specs.Prelude.{Ok, Err}
 use Rattle.jpeg_rules.specs.Marker.{class_of, marker_of}
 use Rattle.jpeg_rules.specs.Walk.{seg_of, scan_of, tag_of, frame_body_of, frame_of, scan_step_of, segment_of, end_of, turn_of, walk_of}
 
@@ -43,29 +43,29 @@ abbrev pub small : Said
 small = record { width = 8; height = 16; res = 200; components = 1 }
 
 -- two scans, a marker that stands alone, and octets after the layer, FF D9 FF D9 among them
-pub walk_ends : walk_of (opening ++ tag200 ++ alone ++ frame ++ scan ++ tag300 ++ scan ++ closing ++ closing ++ closing) 0 400 ≡ Ends 68 small
+pub walk_ends : walk_of (opening ++ tag200 ++ alone ++ frame ++ scan ++ tag300 ++ scan ++ closing ++ closing ++ closing) 0 400 ≡ Ok (68, small)
 unfolding walk_of turn_of marker_of class_of seg_of scan_of tag_of frame_of frame_body_of scan_step_of segment_of end_of stands_at begins be16_at opening closing tag200 tag300 frame scan alone
 walk_ends = refl
 
 -- under 400, 300 is refused where it stands
-pub walk_resolution : walk_of (opening ++ tag300 ++ frame ++ scan ++ closing) 0 400 ≡ Refused (BadRes 14)
+pub walk_resolution : walk_of (opening ++ tag300 ++ frame ++ scan ++ closing) 0 400 ≡ Err (BadRes 14)
 unfolding walk_of turn_of marker_of class_of seg_of scan_of tag_of frame_of frame_body_of scan_step_of segment_of end_of stands_at begins be16_at opening closing tag300 frame scan
 walk_resolution = refl
 
 -- a missing frame, scan and resolution at the marker where each was due; a second frame at its marker
-pub walk_no_frame : walk_of (opening ++ tag200 ++ scan ++ closing) 0 400 ≡ Refused (BadLayer 16)
+pub walk_no_frame : walk_of (opening ++ tag200 ++ scan ++ closing) 0 400 ≡ Err (BadLayer 16)
 unfolding walk_of turn_of marker_of class_of seg_of scan_of tag_of frame_of frame_body_of scan_step_of segment_of end_of stands_at begins be16_at opening closing tag200 scan
 walk_no_frame = refl
 
-pub walk_no_scan : walk_of (opening ++ tag200 ++ frame ++ closing) 0 400 ≡ Refused (BadLayer 26)
+pub walk_no_scan : walk_of (opening ++ tag200 ++ frame ++ closing) 0 400 ≡ Err (BadLayer 26)
 unfolding walk_of turn_of marker_of class_of seg_of scan_of tag_of frame_of frame_body_of scan_step_of segment_of end_of stands_at begins be16_at opening closing tag200 frame
 walk_no_scan = refl
 
-pub walk_no_resolution : walk_of (opening ++ frame ++ tag200 ++ scan ++ closing) 0 400 ≡ Refused (BadLayer 2)
+pub walk_no_resolution : walk_of (opening ++ frame ++ tag200 ++ scan ++ closing) 0 400 ≡ Err (BadLayer 2)
 unfolding walk_of turn_of marker_of class_of seg_of scan_of tag_of frame_of frame_body_of scan_step_of segment_of end_of stands_at begins be16_at opening closing tag200 frame scan
 walk_no_resolution = refl
 
-pub walk_two_frames : walk_of (opening ++ tag200 ++ frame ++ frame ++ scan ++ closing) 0 400 ≡ Refused (BadLayer 26)
+pub walk_two_frames : walk_of (opening ++ tag200 ++ frame ++ frame ++ scan ++ closing) 0 400 ≡ Err (BadLayer 26)
 unfolding walk_of turn_of marker_of class_of seg_of scan_of tag_of frame_of frame_body_of scan_step_of segment_of end_of stands_at begins be16_at opening closing tag200 frame scan
 walk_two_frames = refl
 
@@ -75,19 +75,19 @@ unfoldable pub fill : List ℕ
 fill = 0xFF ∷ 0xFF ∷ []
 
 -- before each marker but the first, a restart marker in scan data too: the end is so much later, and nothing else changes
-pub walk_filled : walk_of (opening ++ fill ++ tag200 ++ fill ++ frame ++ fill ++ scan ++ fill ++ (0xFF ∷ 0xD3 ∷ 0x12 ∷ []) ++ fill ++ closing ++ closing) 0 400 ≡ Ends 53 small
+pub walk_filled : walk_of (opening ++ fill ++ tag200 ++ fill ++ frame ++ fill ++ scan ++ fill ++ (0xFF ∷ 0xD3 ∷ 0x12 ∷ []) ++ fill ++ closing ++ closing) 0 400 ≡ Ok (53, small)
 unfolding walk_of turn_of marker_of class_of seg_of scan_of tag_of frame_of frame_body_of scan_step_of segment_of end_of stands_at begins be16_at opening closing tag200 frame scan fill
 walk_filled = refl
 
 -- FF FF 00 in a scan and outside, at the first FF; fill before FF D8
-pub walk_stuffed : (walk_of (opening ++ tag200 ++ frame ++ scan ++ (0xFF ∷ 0xFF ∷ 0x00 ∷ []) ++ closing) 0 400 ≡ Refused (BadLayer 38))
-    × (walk_of (opening ++ tag200 ++ (0xFF ∷ 0xFF ∷ 0x00 ∷ []) ++ frame ++ scan ++ closing) 0 400 ≡ Refused (BadLayer 16))
-    × (walk_of (0xFF ∷ opening ++ tag200 ++ frame ++ scan ++ closing) 0 400 ≡ Refused (BadLayer 0))
+pub walk_stuffed : (walk_of (opening ++ tag200 ++ frame ++ scan ++ (0xFF ∷ 0xFF ∷ 0x00 ∷ []) ++ closing) 0 400 ≡ Err (BadLayer 38))
+    × (walk_of (opening ++ tag200 ++ (0xFF ∷ 0xFF ∷ 0x00 ∷ []) ++ frame ++ scan ++ closing) 0 400 ≡ Err (BadLayer 16))
+    × (walk_of (0xFF ∷ opening ++ tag200 ++ frame ++ scan ++ closing) 0 400 ≡ Err (BadLayer 0))
 unfolding walk_of turn_of marker_of class_of seg_of scan_of tag_of frame_of frame_body_of scan_step_of segment_of end_of stands_at begins be16_at opening closing tag200 frame scan
 walk_stuffed = (refl, refl, refl)
 
 -- a run that the list cuts: outside a scan at its first FF, in scan data at the data's first octet
-pub walk_cut : (walk_of (opening ++ tag200 ++ fill) 0 400 ≡ Refused (Short 16)) × (walk_of (opening ++ tag200 ++ frame ++ scan ++ fill) 0 400 ≡ Refused (Short 31))
+pub walk_cut : (walk_of (opening ++ tag200 ++ fill) 0 400 ≡ Err (Short 16)) × (walk_of (opening ++ tag200 ++ frame ++ scan ++ fill) 0 400 ≡ Err (Short 31))
 unfolding walk_of turn_of marker_of class_of seg_of scan_of tag_of frame_of frame_body_of scan_step_of segment_of end_of stands_at begins be16_at opening tag200 frame scan fill
 walk_cut = (refl, refl)
 
@@ -95,13 +95,13 @@ walk_cut = (refl, refl)
 
 -- three are taken, whatever the scan's header says; two and four are refused where the frame counts them, but a height of 0 comes before
 pub walk_three : walk_of (opening ++ tag200 ++ counting 0x10 3 ++ (0xFF ∷ 0xDA ∷ 0x00 ∷ 0x03 ∷ 0x01 ∷ 0x12 ∷ []) ++ closing) 0 400
-    ≡ Ends 34 (record { width = 8; height = 16; res = 200; components = 3 })
+    ≡ Ok (34, record { width = 8; height = 16; res = 200; components = 3 })
 unfolding walk_of turn_of marker_of class_of seg_of scan_of tag_of frame_of frame_body_of scan_step_of segment_of end_of stands_at begins be16_at opening closing tag200 counting
 walk_three = refl
 
-pub walk_miscounted : (walk_of (opening ++ tag200 ++ counting 0x10 2 ++ scan ++ closing) 0 400 ≡ Refused (BadLayer 25))
-    × (walk_of (opening ++ tag200 ++ counting 0x10 4 ++ scan ++ closing) 0 400 ≡ Refused (BadLayer 25))
-    × (walk_of (opening ++ tag200 ++ counting 0x10 0 ++ scan ++ closing) 0 400 ≡ Refused (BadLayer 25))
-    × (walk_of (opening ++ tag200 ++ counting 0x00 2 ++ scan ++ closing) 0 400 ≡ Refused (BadLayer 21))
+pub walk_miscounted : (walk_of (opening ++ tag200 ++ counting 0x10 2 ++ scan ++ closing) 0 400 ≡ Err (BadLayer 25))
+    × (walk_of (opening ++ tag200 ++ counting 0x10 4 ++ scan ++ closing) 0 400 ≡ Err (BadLayer 25))
+    × (walk_of (opening ++ tag200 ++ counting 0x10 0 ++ scan ++ closing) 0 400 ≡ Err (BadLayer 25))
+    × (walk_of (opening ++ tag200 ++ counting 0x00 2 ++ scan ++ closing) 0 400 ≡ Err (BadLayer 21))
 unfolding walk_of turn_of marker_of class_of seg_of scan_of tag_of frame_of frame_body_of scan_step_of segment_of end_of stands_at begins be16_at opening closing tag200 scan counting
 walk_miscounted = (refl, refl, refl, refl)

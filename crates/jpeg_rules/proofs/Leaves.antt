@@ -15,7 +15,7 @@ use Rattle.laws.proofs.Cases.{cond_with, clash}
 use Rattle.octets.specs.Octets.{Octets, be16_at, octets16}
 use Rattle.octets.proofs.Laws.{be16_there, be16_stands, be16_bound, drop_next, drop_octet, length_octets16}
 use Rattle.laws.proofs.Says.{Says, says_as, says_eq, says_le, says_and, says_or}
-use Rattle.jpeg_rules.specs.declared.Seg.TheVariants.{Body}
+use Rattle.std.specs.Prelude.{Ok}
 use Rattle.laws.specs.Tests.{within}
 use Rattle.jpeg_rules.specs.Grammar.{DataRun, Fits}
 use Rattle.jpeg_rules.specs.Walk.{seg_of, data_run}
@@ -64,7 +64,7 @@ module _ (s : List ℕ) (at : ℕ) where
 
 module _ (s : List ℕ) (n : ℕ) where
   pub seg_there : (least : ℕ) (body r : List ℕ) → drop n s ≡ octets16 (length body + 2) ++ (body ++ r) → least ≤ length body + 2
-      → (seg_of s n least ≡ Body (n + (length body + 2))) × (drop (n + 2) s ≡ body ++ r) × (drop (n + (length body + 2)) s ≡ r) × (n + (length body + 2) ≤ length s)
+      → (seg_of s n least ≡ Ok (n + (length body + 2))) × (drop (n + 2) s ≡ body ++ r) × (drop (n + (length body + 2)) s ≡ r) × (n + (length body + 2) ≤ length s)
   unfolding seg_of
   seg_there least body r e h =
       let w : be16_at s n ≡ length body + 2 = be16_there s (body ++ r) n (length body + 2) e in
@@ -87,12 +87,12 @@ module _ (s : List ℕ) (n : ℕ) where
     pub start : drop (n + 2) s ≡ body ++ drop next s
     pub stands : drop n s ≡ octets16 (length body + 2) ++ (body ++ drop next s)
 
-  pub seg_back : (least next : ℕ) → Octets s → 2 ≤ least → seg_of s n least ≡ Body next → Segmented least next
+  pub seg_back : (least next : ℕ) → Octets s → 2 ≤ least → seg_of s n least ≡ Ok next → Segmented least next
   unfolding seg_of
   seg_back least next o two =
-      cond_with (λ x. x ≡ Body next → Segmented least next) (ltb (length s) (n + 2)) (λ t e. clash cc) λ f1.
-      cond_with (λ x. x ≡ Body next → Segmented least next) (ltb (be16_at s n) least) (λ t e. clash cc) λ f2.
-      cond_with (λ x. x ≡ Body next → Segmented least next) (ltb (length s) (n + be16_at s n)) (λ t e. clash cc) λ f3 e.
+      cond_with (λ x. x ≡ Ok next → Segmented least next) (ltb (length s) (n + 2)) (λ t e. clash cc) λ f1.
+      cond_with (λ x. x ≡ Ok next → Segmented least next) (ltb (be16_at s n) least) (λ t e. clash cc) λ f2.
+      cond_with (λ x. x ≡ Ok next → Segmented least next) (ltb (length s) (n + be16_at s n)) (λ t e. clash cc) λ f3 e.
       let h1 = ltb-false (length s) (n + 2) f1 in
       let h2 = ltb-false (be16_at s n) least f2 in
       let h3 = ltb-false (length s) (n + be16_at s n) f3 in

@@ -17,20 +17,14 @@ use Rattle.jpeg_rules.specs.declared.Class.TheVariants.{Alone, Frame, Scan, End,
 use Rattle.jpeg_rules.specs.declared.Marker.{Marker}
 use Rattle.jpeg_rules.specs.declared.Marker.TheVariants.{Code, Missing, Cut}
 use Rattle.jpeg_rules.specs.declared.Fault.{Fault}
-use Rattle.jpeg_rules.specs.declared.Seg.{Seg}
-use Rattle.jpeg_rules.specs.declared.Seg.TheVariants.{Body}
-use Rattle.jpeg_rules.specs.declared.Found.{Found}
-use Rattle.jpeg_rules.specs.declared.Found.TheVariants.{At, Nothing}
-use Rattle.jpeg_rules.specs.declared.Tag.{Tag}
-use Rattle.jpeg_rules.specs.declared.Tag.TheVariants.{Gives, Plain}
+use Rattle.std.specs.Prelude.{Option, Some, None, Result, Ok, Err}
+use Rattle.jpeg_rules.specs.declared.Said.{Said}
 use Rattle.jpeg_rules.specs.declared.Reach.{Reach}
-use Rattle.jpeg_rules.specs.declared.Walk.{Walk}
-use Rattle.jpeg_rules.specs.declared.Turn.{Turn}
-use Rattle.jpeg_rules.specs.declared.Turn.TheVariants.{Go, Stop}
+use Rattle.jpeg_rules.specs.Walk.{Turn, seg_of, scan_of, resolves, tag_of, passed, moved, refused, on_body, on_found, on_tag, components_ok, frame_body_of, frame_of, scan_step_of, segment_of, end_of, mark_of, on_marker, turn_of, begun, walk_of}
+use Rattle.std.specs.declared.ops.ControlFlow.TheVariants.{Continue, Break}
 use Rattle.jpeg_rules.specs.Codes.{IsFrame, HasLength}
 use Rattle.jpeg_rules.specs.Marker.{class_of, marker_of}
 use Rattle.jpeg_rules.specs.Grammar.{marker, Piece, alone, segment, scan, lengthed, Good}
-use Rattle.jpeg_rules.specs.Walk.{seg_of, scan_of, resolves, tag_of, passed, moved, refused, on_body, on_found, on_tag, components_ok, frame_body_of, frame_of, scan_step_of, segment_of, end_of, mark_of, on_marker, turn_of, begun, walk_of}
 use Rattle.jpeg_rules.specs.Faults.{Known, height_of, width_of, components_of, res_of, FrameDue, May, past, framing, Next, any, no_data, Least, of_segment, of_scan, of_frame, BadLength, cut_length, small, cut_body, BadMarker, cut, cut_run, no_marker, wrong_code, second_frame, no_resolution, no_frame, no_scan, bad_length, no_height, no_width, bad_components, bad_resolution, endless, BadFrom, here, past_piece, past_frame, BadLayer, cut_start, no_start, started}
 use Rattle.jpeg_rules.proofs.Codes.{Coded}
 use Rattle.jpeg_rules.proofs.CodesBack.{class_coded}
@@ -45,10 +39,10 @@ use Rattle.jpeg_rules.proofs.Refuses.{known_of}
 
 -- ---- a length
 
-length_blames : (s : List ℕ) → Octets s → (least n : ℕ) (f : Fault) → seg_of s n least ≡ Seg.Refused f → BadLength least n (drop n s) f
+length_blames : (s : List ℕ) → Octets s → (least n : ℕ) (f : Fault) → seg_of s n least ≡ Err f → BadLength least n (drop n s) f
 unfolding seg_of
 length_blames s o least n f =
-    cond_with (λ x. x ≡ Seg.Refused f → BadLength least n (drop n s) f) (ltb (length s) (n + 2))
+    cond_with (λ x. x ≡ Err f → BadLength least n (drop n s) f) (ltb (length s) (n + 2))
     (λ t e.
     let z : Fault.Short n ≡ f = cc in
     let d = length-drop n s in
@@ -57,12 +51,12 @@ length_blames s o least n f =
     let g = ltb-false (length s) (n + 2) t in
     let d = be16_stands s n o g in
     let b = be16_bound s n o in
-    cond_with (λ x. x ≡ Seg.Refused f → BadLength least n (drop n s) f) (ltb (be16_at s n) least)
+    cond_with (λ x. x ≡ Err f → BadLength least n (drop n s) f) (ltb (be16_at s n) least)
     (λ u e.
     let z : Fault.BadLength n ≡ f = cc in
     subst (BadLength least n (drop n s)) z
     (subst (λ (l : List ℕ). BadLength least n l (Fault.BadLength n)) (sym d) (small (be16_at s n) (drop (n + 2) s) b (ltb-true (be16_at s n) least u)))) λ u.
-    cond_with (λ x. x ≡ Seg.Refused f → BadLength least n (drop n s) f) (ltb (length s) (n + be16_at s n))
+    cond_with (λ x. x ≡ Err f → BadLength least n (drop n s) f) (ltb (length s) (n + be16_at s n))
     (λ v e.
     let z : Fault.Short (n + 2) ≡ f = cc in
     let i = length-drop (n + 2) s in
@@ -84,7 +78,7 @@ module _ (s : List ℕ) (o : Octets s) (main : ℕ) (st : Reach) (q : Bool) wher
   abbrev Blames : Turn → Type 0
   Blames x = (f : Fault) → x ≡ refused f → Blame f
 
-  go_blames : (t : Reach) → Blames (Go t)
+  go_blames : (t : Reach) → Blames (Continue t)
   go_blames t f e = clash cc
 
   refused_blames : (g : Fault) → Blame g → Blames (refused g)
@@ -105,13 +99,13 @@ module _ (s : List ℕ) (o : Octets s) (main : ℕ) (st : Reach) (q : Bool) wher
     by_one : {v : ℕ} {f : Fault} → c ≡ v → BadMarker main k st.at (marker mk.fill v ++ drop n s) f → Blame f
     by_one {f = f} w b = by_code (subst (λ (v : ℕ). BadMarker main k st.at (marker mk.fill v ++ drop n s) f) (sym w) b)
 
-    body_blames : (least : ℕ) (go : ℕ → Turn) → Least k c least → ((next : ℕ) → seg_of s n least ≡ Body next → Blames (go next))
+    body_blames : (least : ℕ) (go : ℕ → Turn) → Least k c least → ((next : ℕ) → seg_of s n least ≡ Ok next → Blames (go next))
         → Blames (on_body (seg_of s n least) go)
     body_blames least go ln y = by (seg_of s n least) refl
       where
-        by : (g : Seg) → seg_of s n least ≡ g → Blames (on_body g go)
-        by (Body next) e = y next e
-        by (Seg.Refused f) e =
+        by : (g : Result ℕ Fault) → seg_of s n least ≡ g → Blames (on_body g go)
+        by (Ok next) e = y next e
+        by (Err f) e =
             refused_blames f
             (by_code (bad_length mk.fill c least (drop n s) ln (subst (λ (j : ℕ). BadLength least j (drop n s) f) mk.ends (length_blames s o least n f e))))
 
@@ -152,15 +146,15 @@ module _ (s : List ℕ) (o : Octets s) (main : ℕ) (st : Reach) (q : Bool) wher
     scan_blames w =
         cond_with Blames st.framed
         (λ fr.
-        body_blames 2 (λ (next : ℕ). on_found (scan_of s next) next (λ (p : ℕ). Go (passed st p)))
+        body_blames 2 (λ (next : ℕ). on_found (scan_of s next) next (λ (p : ℕ). Continue (passed st p)))
         (subst (λ (v : ℕ). Least k v 2) (sym w) (of_scan fr)) λ next g.
         by fr next g (scan_of s next) refl)
         (λ nf. refused_blames _ (by_one w (no_frame mk.fill (drop n s) nf)))
       where
-        by : st.framed ≡ true → (next : ℕ) → seg_of s n 2 ≡ Body next → (x : Found) → scan_of s next ≡ x
-            → Blames (on_found x next (λ (p : ℕ). Go (passed st p)))
-        by fr next g (At p) e = go_blames _
-        by fr next g Nothing e =
+        by : st.framed ≡ true → (next : ℕ) → seg_of s n 2 ≡ Ok next → (x : Option ℕ) → scan_of s next ≡ x
+            → Blames (on_found x next (λ (p : ℕ). Continue (passed st p)))
+        by fr next g (Some p) e = go_blames _
+        by fr next g None e =
             let x = stood s o st.at c n 2 next (omega arith) m g in
             let en = x.ends in
             let hi = x.after in
@@ -175,13 +169,13 @@ module _ (s : List ℕ) (o : Octets s) (main : ℕ) (st : Reach) (q : Bool) wher
     segment_blames w =
         body_blames 2
         (λ (next : ℕ).
-        on_tag (tag_of s st c n) (Go (moved st next st.said.res)) (λ (r : ℕ). cond (resolves main r) (Go (moved st next r)) (refused (Fault.BadRes (n + 10)))))
+        on_tag (tag_of s st c n) (Continue (moved st next st.said.res)) (λ (r : ℕ). cond (resolves main r) (Continue (moved st next r)) (refused (Fault.BadRes (n + 10)))))
         (of_segment w) λ next g. by next g (tag_of s st c n) refl
       where
-        by : (next : ℕ) → seg_of s n 2 ≡ Body next → (x : Tag) → tag_of s st c n ≡ x
-            → Blames (on_tag x (Go (moved st next st.said.res)) (λ (r : ℕ). cond (resolves main r) (Go (moved st next r)) (refused (Fault.BadRes (n + 10)))))
-        by next g Plain e = go_blames _
-        by next g (Gives v) e =
+        by : (next : ℕ) → seg_of s n 2 ≡ Ok next → (x : Option ℕ) → tag_of s st c n ≡ x
+            → Blames (on_tag x (Continue (moved st next st.said.res)) (λ (r : ℕ). cond (resolves main r) (Continue (moved st next r)) (refused (Fault.BadRes (n + 10)))))
+        by next g None e = go_blames _
+        by next g (Some v) e =
             cond_with Blames (resolves main v) (λ t. go_blames _)
             (λ t.
             let x = stood s o st.at c n 2 next (omega arith) m g in
@@ -255,7 +249,7 @@ module _ (s : List ℕ) (o : Octets s) (main : ℕ) (f : Fault) where
   known_of_lem r e = ap (λ (z : Reach). known_of z r) (sym e)
 
   -- what stands where scan data ends
-  next_marker : (next p : ℕ) → scan_of s next ≡ At p → Next true (drop p s)
+  next_marker : (next p : ℕ) → scan_of s next ≡ Some p → Next true (drop p s)
   next_marker next p fo =
       let b = scan_back s next p fo in
       let y = b.marked in
@@ -305,14 +299,14 @@ module _ (s : List ℕ) (o : Octets s) (main : ℕ) (f : Fault) where
       ∙ ap (λ (b : Bool). record { framed = st.framed; scanned = st.scanned; res = cond b (res_of x.body) st.said.res; in_scan = false }) (sym gt.0))
       (go false any)
 
-  walk_blames : {st : Reach} {w : Walk} → Walks s main st w → w ≡ Walk.Refused f → (q : Bool) → Next q (drop st.at s) → From st q
-  walk_blames {st} (stops e) z q n = here n (turn_blames s o main st q f (e ∙ ap Stop z))
+  walk_blames : {st : Reach} {w : Result (ℕ × Said) Fault} → Walks s main st w → w ≡ Err f → (q : Bool) → Next q (drop st.at s) → From st q
+  walk_blames {st} (stops e) z q n = here n (turn_blames s o main st q f (e ∙ ap Break z))
   walk_blames {st} (goes {t = t} e more) z q n = onward st t q ((turn_told s main st).0 t e) (λ r m. walk_blames more z r m)
 
-  pub layer_blames : (at : ℕ) → walk_of s at main ≡ Walk.Refused f → BadLayer main at (drop at s) f
+  pub layer_blames : (at : ℕ) → walk_of s at main ≡ Err f → BadLayer main at (drop at s) f
   unfolding walk_of
   layer_blames at =
-      cond_with (λ x. x ≡ Walk.Refused f → BadLayer main at (drop at s) f) (ltb (length s) (at + 2))
+      cond_with (λ x. x ≡ Err f → BadLayer main at (drop at s) f) (ltb (length s) (at + 2))
       (λ t e.
       let z : Fault.Short at ≡ f = cc in
       let d = length-drop at s in
@@ -320,7 +314,7 @@ module _ (s : List ℕ) (o : Octets s) (main : ℕ) (f : Fault) where
       subst (BadLayer main at (drop at s)) z (cut_start (omega arith))) λ t.
       let g = ltb-false (length s) (at + 2) t in
       let y = says_and (says_eq (get_or s at 0) 0xFF) (says_eq (get_or s (at + 1) 0) 0xD8) in
-      cond_with (λ x. x ≡ Walk.Refused f → BadLayer main at (drop at s) f) (eqb (get_or s at 0) 0xFF && eqb (get_or s (at + 1) 0) 0xD8)
+      cond_with (λ x. x ≡ Err f → BadLayer main at (drop at s) f) (eqb (get_or s at 0) 0xFF && eqb (get_or s (at + 1) 0) 0xD8)
       (λ u e.
       let v = y.told u in
       subst (λ (l : List ℕ). BadLayer main at l f) (sym (two_stand s at g ∙ ap₂ (λ (a b : ℕ). a ∷ b ∷ drop (at + 2) s) v.0 v.1))

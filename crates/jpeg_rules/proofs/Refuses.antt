@@ -15,12 +15,10 @@ use Rattle.laws.proofs.Cases.{bool_else}
 use Rattle.jpeg_rules.specs.declared.Class.TheVariants.{Frame, Scan, End, Wrong, Segment}
 use Rattle.jpeg_rules.specs.declared.Marker.{Marker}
 use Rattle.jpeg_rules.specs.declared.Fault.{Fault}
-use Rattle.jpeg_rules.specs.declared.Seg.{Seg}
-use Rattle.jpeg_rules.specs.declared.Tag.TheVariants.{Gives, Plain}
+use Rattle.std.specs.Prelude.{Some, None, Result, Err}
 use Rattle.jpeg_rules.specs.declared.Said.{Said}
 use Rattle.jpeg_rules.specs.declared.Reach.{Reach}
-use Rattle.jpeg_rules.specs.declared.Walk.{Walk}
-use Rattle.jpeg_rules.specs.declared.Turn.TheVariants.{Go}
+use Rattle.std.specs.declared.ops.ControlFlow.TheVariants.{Continue}
 use Rattle.jpeg_rules.specs.Codes.{IsFrame}
 use Rattle.jpeg_rules.specs.Marker.{class_of, marker_of}
 use Rattle.jpeg_rules.specs.Grammar.{marker, Piece, alone, segment, scan, lengthed, octets_of, Good, tagged, said_by}
@@ -40,7 +38,7 @@ known_of st o = record { framed = st.framed; scanned = st.scanned; res = st.said
 
 -- ---- a length
 
-length_bad : (s : List ℕ) (least n : ℕ) {l : List ℕ} {f : Fault} → drop n s ≡ l → BadLength least n l f → seg_of s n least ≡ Seg.Refused f
+length_bad : (s : List ℕ) (least n : ℕ) {l : List ℕ} {f : Fault} → drop n s ≡ l → BadLength least n l f → seg_of s n least ≡ Err f
 unfolding seg_of
 length_bad s least n e (cut_length c) =
     let d = length-drop n s in let q = ap length e in simp (lt-ltb (length s) (n + 2) (omega arith))
@@ -63,16 +61,16 @@ module _ (s : List ℕ) (main : ℕ) (st : Reach) (o : Bool) where
   abbrev k : Known
   k = known_of st o
 
-  bodied : (i : ℕ) {c least : ℕ} (r : List ℕ) (f : Fault) → drop st.at s ≡ marker i c ++ r → Least k c least → seg_of s (st.at + i + 2) least ≡ Seg.Refused f
+  bodied : (i : ℕ) {c least : ℕ} (r : List ℕ) (f : Fault) → drop st.at s ≡ marker i c ++ r → Least k c least → seg_of s (st.at + i + 2) least ≡ Err f
       → turn_of s main st ≡ refused f
   unfolding mark_of segment_of scan_step_of frame_of
   bodied i {c = c} r f e (of_segment w) q =
       turn_class s main st i c r Segment (segment_other c w) e w
       ∙ ap
-      (λ (g : Seg).
+      (λ (g : Result ℕ Fault).
       on_body g (λ (next : ℕ).
-      on_tag (tag_of s st c (st.at + i + 2)) (Go (moved st next st.said.res)) (λ (v : ℕ).
-      cond (resolves main v) (Go (moved st next v)) (refused (Fault.BadRes (st.at + i + 2 + 10))))))
+      on_tag (tag_of s st c (st.at + i + 2)) (Continue (moved st next st.said.res)) (λ (v : ℕ).
+      cond (resolves main v) (Continue (moved st next v)) (refused (Fault.BadRes (st.at + i + 2 + 10))))))
       q
   bodied i r f e (of_scan fr) q = turn_class s main st i 0xDA r Scan scan_other e refl ∙ simp (fr, q)
   bodied i {c = c} r f e (of_frame w) q =
@@ -166,11 +164,11 @@ module _ (s : List ℕ) (main : ℕ) (st : Reach) (o : Bool) where
       let long = tagged_long s main c body u.1 in
       let other = segment_other c g.0 in
       let v : be16_at s (st.at + i + 2 + 10) ≡ res_of body = number_is s main st i c body r other e 8 (st.at + i + 2 + 10) (omega arith) (omega arith) in
-      let tg : tag_of s st c (st.at + i + 2) ≡ Gives (res_of body) =
-      tag_of_lem s main st i c body r other e ∙ ap (λ (b : Bool). cond b (Gives (be16_at s (st.at + i + 2 + 10))) Plain) t ∙ ap Gives v in
+      let tg : tag_of s st c (st.at + i + 2) ≡ Some (res_of body) =
+      tag_of_lem s main st i c body r other e ∙ ap (λ (b : Bool). cond b (Some (be16_at s (st.at + i + 2 + 10))) None) t ∙ ap Some v in
       placed Fault.BadRes (st.at + i + 2 + 10) (st.at + i + 12) (omega arith)
-      (segment_opened s main st i c body r other e (Gives (res_of body)) tg g.0
-      ∙ ap (λ (b : Bool). cond b (Go (moved st (st.at + i + 2 + (length body + 2)) (res_of body))) (refused (Fault.BadRes (st.at + i + 2 + 10))))
+      (segment_opened s main st i c body r other e (Some (res_of body)) tg g.0
+      ∙ ap (λ (b : Bool). cond b (Continue (moved st (st.at + i + 2 + (length body + 2)) (res_of body))) (refused (Fault.BadRes (st.at + i + 2 + 10))))
       (says_fails (says_resolves main (res_of body)) n))
   turn_bad e (endless i header r fits fr z) =
       placed Fault.Short (st.at + i + 2 + (length header + 2)) (st.at + i + 4 + length header) (omega arith)
@@ -193,7 +191,7 @@ from_opens (here n b) e = by n e
 from_opens (past_piece q l g m b) e = piece_opens q l g
 from_opens (past_frame i c body l w lo hi wi co b) e = lengthed_opens i c body l (frame_right c w.code)
 
-module _ (s : List ℕ) (main : ℕ) (st : Reach) (o : Bool) (w : Walk) where
+module _ (s : List ℕ) (main : ℕ) (st : Reach) (o : Bool) (w : Result (ℕ × Said) Fault) where
   -- after a piece the walk goes on, with what is known there
   abbrev On : Piece → List ℕ → Type 0
   On q l =
@@ -232,13 +230,13 @@ module _ (s : List ℕ) (main : ℕ) (st : Reach) (o : Bool) (w : Walk) where
 
 module _ (s : List ℕ) (main : ℕ) where
   walk_bad : {j : Known} {p : ℕ} {l : List ℕ} {f : Fault} → BadFrom main j p l f → (st : Reach) (o : Bool) → known_of st o ≡ j → st.at ≡ p
-      → drop st.at s ≡ l → Walks s main st (Walk.Refused f)
+      → drop st.at s ≡ l → Walks s main st (Err f)
   walk_bad {j = j} {p = p} {l = l} {f = f} (here n b) st o e a d =
       stops
       (turn_bad s main st o d
       (subst (λ (u : ℕ). BadMarker main (known_of st o) u l f) (sym a) (subst (λ (i : Known). BadMarker main i p l f) (sym e) b)))
   walk_bad {j = j} {p = p} {f = f} (past_piece q l g m b) st o e a d =
-      piece_on s main st o (Walk.Refused f) q l g (subst (λ (i : Known). May main i q) (sym e) m) d
+      piece_on s main st o (Err f) q l g (subst (λ (i : Known). May main i q) (sym e) m) d
       (λ z. from_opens b (ap (λ (i : Known). (past i q).in_scan) (sym e) ∙ z))
       (λ t u k at r. walk_bad b t u (k ∙ ap (λ (i : Known). past i q) e) (at ∙ ap (λ (n : ℕ). n + length (octets_of q)) a) r)
   walk_bad {j = j} {p = p} {f = f} (past_frame i c body l w lo hi wi co b) st o e a d =
@@ -251,7 +249,7 @@ module _ (s : List ℕ) (main : ℕ) where
 
   -- ---- the layer
 
-  pub layer_bad : (at : ℕ) {l : List ℕ} {f : Fault} → drop at s ≡ l → BadLayer main at l f → walk_of s at main ≡ Walk.Refused f
+  pub layer_bad : (at : ℕ) {l : List ℕ} {f : Fault} → drop at s ≡ l → BadLayer main at l f → walk_of s at main ≡ Err f
   unfolding walk_of
   layer_bad at e (cut_start c) = let d = length-drop at s in let q = ap length e in simp (lt-ltb (length s) (at + 2) (omega arith))
   layer_bad at e (no_start x y r d) =

@@ -14,8 +14,7 @@ use Rattle.octets.proofs.Laws.{drop_octet, drop_next}
 use Rattle.octets.proofs.Runs.{run_from, run_end, end_ahead}
 use Rattle.laws.proofs.Says.{Says, says_eq, says_lt, says_le, says_else, says_fails}
 use Rattle.laws.proofs.Cases.{cond_with, clash}
-use Rattle.jpeg_rules.specs.declared.Found.{Found}
-use Rattle.jpeg_rules.specs.declared.Found.TheVariants.{At, Nothing}
+use Rattle.std.specs.Prelude.{Option, Some, None}
 use Rattle.jpeg_rules.specs.Grammar.{marker, DataRun, Data, none, plain, stuffed}
 use Rattle.jpeg_rules.specs.Walk.{data_run, scan_from, scan_of}
 use Rattle.jpeg_rules.specs.Faults.{Endless, all_data, in_run}
@@ -25,11 +24,11 @@ use Rattle.jpeg_rules.proofs.Runs.{fill_end, ff_inside, none_left, length_marker
 -- ---- the search from place to place
 
 -- the run that begins at i has its code at e: it is data, and what comes after it goes on, or it is the next marker; or the list cuts it
-abbrev on_run : List ℕ → ℕ → ℕ → Found → Found
-on_run s i e more = cond (ltb e (length s)) (cond (data_run (e - i) (get_or s e 0)) more (At i)) Nothing
+abbrev on_run : List ℕ → ℕ → ℕ → Option ℕ → Option ℕ
+on_run s i e more = cond (ltb e (length s)) (cond (data_run (e - i) (get_or s e 0)) more (Some i)) None
 
 -- past the last octet nothing is found
-pub scan_over : (s : List ℕ) (i : ℕ) → length s ≤ i → scan_of s i ≡ Nothing
+pub scan_over : (s : List ℕ) (i : ℕ) → length s ≤ i → scan_of s i ≡ None
 unfolding scan_of
 scan_over s i h = ap (λ (l : List ℕ). scan_from l 0 i) (drop_of_length-le s h)
 
@@ -39,7 +38,7 @@ run_on : (s : List ℕ) (n i run j : ℕ) → j + n ≡ length s → j ≡ i + r
 unfolding scan_from run_from scan_of
 run_on s zero i run j h e lt =
     ap (λ (l : List ℕ). scan_from l run j) (none_left s j (omega arith))
-    ∙ sym (ap (λ (b : Bool). cond b (cond (data_run (j - i) (get_or s j 0)) (scan_from (drop (j + 1) s) 0 (j + 1)) (At i)) Nothing) (le-ltb j (length s) (omega arith)))
+    ∙ sym (ap (λ (b : Bool). cond b (cond (data_run (j - i) (get_or s j 0)) (scan_from (drop (j + 1) s) 0 (j + 1)) (Some i)) None) (le-ltb j (length s) (omega arith)))
 run_on s (suc n) i run j h e lt =
     ap (λ (l : List ℕ). scan_from l run j) (drop_octet s j (omega arith))
     ∙ cond_with (λ x. stepped ≡ on_run s i x (scan_from (drop (x + 1) s) 0 (x + 1))) (eqb (get_or s j 0) 0xFF)
@@ -48,14 +47,14 @@ run_on s (suc n) i run j h e lt =
     let a : j - i ≡ run = omega arith in
     let b : j - run ≡ i = omega arith in
     ap (λ (b : Bool). cond b (scan_from (drop (j + 1) s) (run + 1) (j + 1)) other) t
-    ∙ ap (λ (b : Bool). cond (b || data_run run (get_or s j 0)) (scan_from (drop (j + 1) s) 0 (j + 1)) (At (j - run))) (ne_eqb run 0 (λ q. omega arith))
-    ∙ ap₂ (λ (k m : ℕ). cond (data_run k (get_or s j 0)) (scan_from (drop (j + 1) s) 0 (j + 1)) (At m)) (sym a) b
-    ∙ sym (ap (λ (b : Bool). cond b (cond (data_run (j - i) (get_or s j 0)) (scan_from (drop (j + 1) s) 0 (j + 1)) (At i)) Nothing) (lt-ltb j (length s) (omega arith))))
+    ∙ ap (λ (b : Bool). cond (b || data_run run (get_or s j 0)) (scan_from (drop (j + 1) s) 0 (j + 1)) (Some (j - run))) (ne_eqb run 0 (λ q. omega arith))
+    ∙ ap₂ (λ (k m : ℕ). cond (data_run k (get_or s j 0)) (scan_from (drop (j + 1) s) 0 (j + 1)) (Some m)) (sym a) b
+    ∙ sym (ap (λ (b : Bool). cond b (cond (data_run (j - i) (get_or s j 0)) (scan_from (drop (j + 1) s) 0 (j + 1)) (Some i)) None) (lt-ltb j (length s) (omega arith))))
   where
-    other : Found
-    other = cond (eqb run 0 || data_run run (get_or s j 0)) (scan_from (drop (j + 1) s) 0 (j + 1)) (At (j - run))
+    other : Option ℕ
+    other = cond (eqb run 0 || data_run run (get_or s j 0)) (scan_from (drop (j + 1) s) 0 (j + 1)) (Some (j - run))
 
-    stepped : Found
+    stepped : Option ℕ
     stepped = cond (eqb (get_or s j 0) 0xFF) (scan_from (drop (j + 1) s) (run + 1) (j + 1)) other
 
 pub scan_opens : (s : List ℕ) (i : ℕ) → i < length s
@@ -63,7 +62,7 @@ pub scan_opens : (s : List ℕ) (i : ℕ) → i < length s
 unfolding scan_of run_end
 scan_opens s i h =
     ap (λ (l : List ℕ). scan_from l 0 i) (drop_octet s i h)
-    ∙ ap (λ (x : Found). cond (eqb (get_or s i 0) 0xFF) x (scan_from (drop (i + 1) s) 0 (i + 1))) (run_on s (length s - (i + 1)) i 1 (i + 1) (omega arith) refl (omega arith))
+    ∙ ap (λ (x : Option ℕ). cond (eqb (get_or s i 0) 0xFF) x (scan_from (drop (i + 1) s) 0 (i + 1))) (run_on s (length s - (i + 1)) i 1 (i + 1) (omega arith) refl (omega arith))
 
 -- ---- one step: an octet of data, a run of FF
 
@@ -84,16 +83,16 @@ module _ (s : List ℕ) (i e : ℕ) (ff : get_or s i 0 ≡ 0xFF) (q : fill_end s
       ∙ ap (λ (b : Bool). cond b (on_run s i (fill_end s (i + 1)) (scan_of s (fill_end s (i + 1) + 1))) (scan_of s (i + 1))) (eq-eqb (get_or s i 0) 0xFF ff)
       ∙ ap (λ (k : ℕ). on_run s i k (scan_of s (k + 1))) q
 
-  pub run_over : length s ≤ e → scan_of s i ≡ Nothing
+  pub run_over : length s ≤ e → scan_of s i ≡ None
   run_over h =
       run_opens
-      ∙ ap (λ (b : Bool). cond b (cond (data_run (e - i) (get_or s e 0)) (scan_of s (e + 1)) (At i)) Nothing) (le-ltb e (length s) h)
+      ∙ ap (λ (b : Bool). cond b (cond (data_run (e - i) (get_or s e 0)) (scan_of s (e + 1)) (Some i)) None) (le-ltb e (length s) h)
 
   module _ (h : e < length s) where
-    run_by : (b : Bool) → data_run (e - i) (get_or s e 0) ≡ b → scan_of s i ≡ cond b (scan_of s (e + 1)) (At i)
+    run_by : (b : Bool) → data_run (e - i) (get_or s e 0) ≡ b → scan_of s i ≡ cond b (scan_of s (e + 1)) (Some i)
     run_by b t =
         run_opens
-        ∙ ap₂ (λ (x y : Bool). cond x (cond y (scan_of s (e + 1)) (At i)) Nothing) (lt-ltb e (length s) h) t
+        ∙ ap₂ (λ (x y : Bool). cond x (cond y (scan_of s (e + 1)) (Some i)) None) (lt-ltb e (length s) h) t
 
     says_this : Says (data_run (e - i) (get_or s e 0)) (DataRun (e - (i + 1)) (get_or s e 0))
     says_this = let a = end_ahead 0xFF s (i + 1) in says_run (e - i) (e - (i + 1)) (get_or s e 0) (omega arith)
@@ -101,7 +100,7 @@ module _ (s : List ℕ) (i e : ℕ) (ff : get_or s i 0 ≡ 0xFF) (q : fill_end s
     pub run_next : DataRun (e - (i + 1)) (get_or s e 0) → scan_of s i ≡ scan_of s (e + 1)
     run_next k = run_by _ (says_this.shown k)
 
-    pub run_here : (DataRun (e - (i + 1)) (get_or s e 0) → ⊥) → scan_of s i ≡ At i
+    pub run_here : (DataRun (e - (i + 1)) (get_or s e 0) → ⊥) → scan_of s i ≡ Some i
     run_here k = run_by _ (says_fails says_this k)
 
 -- a run whose octets stand there: its fill and its code as the search sees them
@@ -141,7 +140,7 @@ pub record Opens (l : List ℕ) : Type 0 where
   pub other : code ≢ 0xFF
   pub stop : DataRun fill code → ⊥
 
-pub scan_there : (s : List ℕ) (d : List ℕ) → Data d → (i : ℕ) (l : List ℕ) → drop i s ≡ d ++ l → Opens l → scan_of s i ≡ At (i + length d)
+pub scan_there : (s : List ℕ) (d : List ℕ) → Data d → (i : ℕ) (l : List ℕ) → drop i s ≡ d ++ l → Opens l → scan_of s i ≡ Some (i + length d)
 scan_there s d k i l e o =
     let j : ℕ = i + length d in
     let t = begins_there s j o.fill o.code o.rest o.other (drop_next s d l i e ∙ o.is) in
@@ -161,9 +160,9 @@ pub record Passed (s : List ℕ) (i p : ℕ) : Type 0 where
   pub coded : Data (take (p - i) (drop i s))
 
 -- what a search came to: a marker after scan data, or data to the end
-data Scanned (s : List ℕ) (i : ℕ) : Found → Type 0 where
-  to_marker : {p : ℕ} → Passed s i p → Scanned s i (At p)
-  to_end : Endless (drop i s) → Scanned s i Nothing
+data Scanned (s : List ℕ) (i : ℕ) : Option ℕ → Type 0 where
+  to_marker : {p : ℕ} → Passed s i p → Scanned s i (Some p)
+  to_end : Endless (drop i s) → Scanned s i None
 
 endless_plain : {x : ℕ} {l : List ℕ} → x ≢ 0xFF → Endless l → Endless (x ∷ l)
 endless_plain n (all_data k) = all_data (plain n k)
@@ -185,7 +184,7 @@ nothing_taken s i = let z : i - i ≡ 0 = omega arith in subst (λ (n : ℕ). Da
 
 module _ (s : List ℕ) where
   -- scan data in front of what a search came to: octets that stand from i up to j
-  before : {x : Found} (a : List ℕ) (i j : ℕ) → drop i s ≡ a ++ drop j s → j ≡ i + length a → ((d : List ℕ) → Data d → Data (a ++ d))
+  before : {x : Option ℕ} (a : List ℕ) (i j : ℕ) → drop i s ≡ a ++ drop j s → j ≡ i + length a → ((d : List ℕ) → Data d → Data (a ++ d))
       → ((d : List ℕ) → Endless d → Endless (a ++ d)) → Scanned s j x → Scanned s i x
   before a i j e q more on (to_marker {p = p} m) =
       let h = m.after in
@@ -252,10 +251,10 @@ module _ (s : List ℕ) where
   scanned : (i : ℕ) → Scanned s i (scan_of s i)
   scanned i = scanned_from (length s) i (omega arith)
 
-pub scan_back : (s : List ℕ) (i p : ℕ) → scan_of s i ≡ At p → Passed s i p
+pub scan_back : (s : List ℕ) (i p : ℕ) → scan_of s i ≡ Some p → Passed s i p
 scan_back s i p e = by (subst (Scanned s i) e (scanned s i)) refl
   where
-    by : {x : Found} → Scanned s i x → x ≡ At p → Passed s i p
+    by : {x : Option ℕ} → Scanned s i x → x ≡ Some p → Passed s i p
     by (to_marker {p = q} m) z = let y : q ≡ p = cc in subst (Passed s i) y m
     by (to_end k) z = clash cc
 
@@ -267,14 +266,14 @@ scan_split s i p h =
 
 -- ---- where there is none, the data goes on to the end
 
-pub none_endless : (s : List ℕ) (i : ℕ) → scan_of s i ≡ Nothing → Endless (drop i s)
+pub none_endless : (s : List ℕ) (i : ℕ) → scan_of s i ≡ None → Endless (drop i s)
 none_endless s i e = by (subst (Scanned s i) e (scanned s i)) refl
   where
-    by : {x : Found} → Scanned s i x → x ≡ Nothing → Endless (drop i s)
+    by : {x : Option ℕ} → Scanned s i x → x ≡ None → Endless (drop i s)
     by (to_marker m) z = clash cc
     by (to_end k) z = k
 
-pub endless_none : (s : List ℕ) (i : ℕ) {l : List ℕ} → drop i s ≡ l → Endless l → scan_of s i ≡ Nothing
+pub endless_none : (s : List ℕ) (i : ℕ) {l : List ℕ} → drop i s ≡ l → Endless l → scan_of s i ≡ None
 endless_none s i e (all_data {d = d} k) =
     let q = length-drop i s in
     let w = ap length e in

@@ -13,14 +13,11 @@ use Rattle.octets.specs.Octets.{Octets, be16_at, octets16, stands_at}
 use Rattle.laws.proofs.Says.{says_eq, says_le, says_and, says_true, says_fails}
 use Rattle.jpeg_rules.specs.declared.Marker.TheVariants.{Code}
 use Rattle.jpeg_rules.specs.declared.Class.TheVariants.{Alone, Scan, End, Segment}
-use Rattle.jpeg_rules.specs.declared.Found.TheVariants.{At}
-use Rattle.jpeg_rules.specs.declared.Seg.TheVariants.{Body}
-use Rattle.jpeg_rules.specs.declared.Tag.TheVariants.{Gives, Plain}
+use Rattle.std.specs.Prelude.{Some, None, Result, Ok}
+use Rattle.jpeg_rules.specs.declared.Fault.{Fault}
 use Rattle.jpeg_rules.specs.declared.Said.{Said}
 use Rattle.jpeg_rules.specs.declared.Reach.{Reach}
-use Rattle.jpeg_rules.specs.declared.Turn.TheVariants.{Stop}
-use Rattle.jpeg_rules.specs.declared.Walk.{Walk}
-use Rattle.jpeg_rules.specs.declared.Walk.TheVariants.{Ends}
+use Rattle.std.specs.declared.ops.ControlFlow.TheVariants.{Break}
 use Rattle.jpeg_rules.specs.Marker.{class_of, marker_of}
 use Rattle.jpeg_rules.specs.Grammar.{marker, Piece, alone, segment, scan, lengthed, octets_of, pieces_of, Fits, Good, is_scan, g3fax, tagged, Each, Scanned}
 use Rattle.jpeg_rules.specs.Walk.{seg_of, scan_of, tag_of}
@@ -47,7 +44,7 @@ pub record Stood (s : List ℕ) (at c n least next : ℕ) : Type 0 where
   pub inside : next ≤ length s
   pub stands : drop at s ≡ lengthed fill c body ++ drop next s
 
-pub stood : (s : List ℕ) → Octets s → (at c n least next : ℕ) → 2 ≤ least → marker_of s at ≡ Code c n → seg_of s n least ≡ Body next → Stood s at c n least next
+pub stood : (s : List ℕ) → Octets s → (at c n least next : ℕ) → 2 ≤ least → marker_of s at ≡ Code c n → seg_of s n least ≡ Ok next → Stood s at c n least next
 unfolding lengthed
 stood s o at c n least next two m g =
     let k = marker_back s at c n m in
@@ -100,7 +97,7 @@ module _ (s : List ℕ) (st t : Reach) (c : ℕ) where
           at = omega arith;
         }
 
-    pub scan_over : (p : ℕ) → class_of c ≡ Scan → scan_of s next ≡ At p → t.at ≡ p → Over s st t (scan x.fill x.body (take (p - next) (drop next s)))
+    pub scan_over : (p : ℕ) → class_of c ≡ Scan → scan_of s next ≡ Some p → t.at ≡ p → Over s st t (scan x.fill x.body (take (p - next) (drop next s)))
     unfolding octets_of Good
     scan_over p k q a =
         let b = scan_back s next p q in
@@ -133,28 +130,28 @@ module _ (s : List ℕ) (main : ℕ) (st : Reach) (c n next : ℕ) (x : Stood s 
   tag_at : tag_of s st c n ≡ tag_of s st c behind
   tag_at = ap (tag_of s st c) x.after
 
-  tag_by : (b : Bool) → eqb st.said.res 0 && tagged c x.body ≡ b → tag_of s st c n ≡ cond b (Gives (be16_at s (behind + 10))) Plain
+  tag_by : (b : Bool) → eqb st.said.res 0 && tagged c x.body ≡ b → tag_of s st c n ≡ cond b (Some (be16_at s (behind + 10))) None
   tag_by b t =
       tag_at ∙ tag_of_lem s main st x.fill c x.body (drop next s) x.other x.stands
-      ∙ ap (λ (b : Bool). cond b (Gives (be16_at s (behind + 10))) Plain) t
+      ∙ ap (λ (b : Bool). cond b (Some (be16_at s (behind + 10))) None) t
 
   -- one that gives none, and one that does
-  pub plain_test : tag_of s st c n ≡ Plain → eqb st.said.res 0 && tagged c x.body ≡ false
+  pub plain_test : tag_of s st c n ≡ None → eqb st.said.res 0 && tagged c x.body ≡ false
   plain_test q =
       says_fails (says_true (eqb st.said.res 0 && tagged c x.body))
-      (λ t. let z : Gives (be16_at s (behind + 10)) ≡ Plain = sym (tag_by true t) ∙ q in clash cc)
+      (λ t. let z : Some (be16_at s (behind + 10)) ≡ None = sym (tag_by true t) ∙ q in clash cc)
 
-  pub gives_test : (v : ℕ) → tag_of s st c n ≡ Gives v → (eqb st.said.res 0 && tagged c x.body ≡ true) × (v ≡ be16_at x.body 8)
+  pub gives_test : (v : ℕ) → tag_of s st c n ≡ Some v → (eqb st.said.res 0 && tagged c x.body ≡ true) × (v ≡ be16_at x.body 8)
   gives_test v q =
       ⊎_elim
       (λ (t : eqb st.said.res 0 && tagged c x.body ≡ true).
-      let z : Gives (be16_at s (behind + 10)) ≡ Gives v = sym (tag_by true t) ∙ q in
+      let z : Some (be16_at s (behind + 10)) ≡ Some v = sym (tag_by true t) ∙ q in
       let u : be16_at s (behind + 10) ≡ v = cc in
       let b = (says_and (says_eq st.said.res 0) (says_true (tagged c x.body))).told t in
       let l = tagged_long s main c x.body b.1 in
       let y : behind + 2 + 8 ≡ behind + 10 = omega arith in
       (t, sym u ∙ number_is s main st x.fill c x.body (drop next s) x.other x.stands 8 (behind + 10) y (omega arith)))
-      (λ (t : eqb st.said.res 0 && tagged c x.body ≡ false). let z : Plain ≡ Gives v = sym (tag_by false t) ∙ q in clash cc)
+      (λ (t : eqb st.said.res 0 && tagged c x.body ≡ false). let z : None ≡ Some v = sym (tag_by false t) ∙ q in clash cc)
       (bool_else (eqb st.said.res 0 && tagged c x.body))
 
 -- ---- after the frame
@@ -192,10 +189,10 @@ tail_more s st t e said p y sc ts k =
       inside = k.inside;
     }
 
-tag_gives : (s : List ℕ) (st : Reach) (c n v : ℕ) → tag_of s st c n ≡ Gives v → st.said.res ≡ 0
+tag_gives : (s : List ℕ) (st : Reach) (c n v : ℕ) → tag_of s st c n ≡ Some v → st.said.res ≡ 0
 unfolding tag_of
 tag_gives s st c n v =
-    cond_with (λ x. x ≡ Gives v → st.said.res ≡ 0) (eqb c 0xE1 && eqb st.said.res 0 && leb 12 (be16_at s n) && stands_at s (n + 2) g3fax)
+    cond_with (λ x. x ≡ Some v → st.said.res ≡ 0) (eqb c 0xE1 && eqb st.said.res 0 && leb 12 (be16_at s n) && stands_at s (n + 2) g3fax)
     (λ t e.
     ((says_and (says_and (says_and (says_eq c 0xE1) (says_eq st.said.res 0)) (says_le 12 (be16_at s n))) (says_true (stands_at s (n + 2) g3fax))).told t).0.0.1)
     (λ t e. clash cc)
@@ -241,7 +238,7 @@ module _ (s : List ℕ) (o : Octets s) (main e : ℕ) (said : Said) where
       (go (reach_of (λ (z : Reach). z.framed) q ∙ f) (λ y. d (sym (reach_of (λ (z : Reach). z.said.res) q) ∙ y)))
   tail_onward st t f d (by_tag c n next v m k g gv ok q) go = absurd (d (tag_gives s st c n v gv))
 
-  pub tail_back : {st : Reach} {x : Walk} → Walks s main st x → x ≡ Ends e said → st.framed ≡ true → st.said.res ≢ 0 → Tail s st e said
-  tail_back {st} {x} (stops q) z f d = tail_end st ((turn_told s main st).1 e said (q ∙ ap Stop z))
+  pub tail_back : {st : Reach} {x : Result (ℕ × Said) Fault} → Walks s main st x → x ≡ Ok (e, said) → st.framed ≡ true → st.said.res ≢ 0 → Tail s st e said
+  tail_back {st} {x} (stops q) z f d = tail_end st ((turn_told s main st).1 e said (q ∙ ap Break z))
   tail_back {st} {x} (goes {t = t} q more) z f d =
       tail_onward st t f d ((turn_told s main st).0 t q) (λ tf td. tail_back more z tf td)

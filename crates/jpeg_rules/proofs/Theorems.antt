@@ -12,8 +12,7 @@ use Rattle.octets.specs.Octets.{Octets}
 use Rattle.jpeg_rules.specs.declared.Class.{Class}
 use Rattle.jpeg_rules.specs.declared.Fault.{Fault}
 use Rattle.jpeg_rules.specs.declared.Said.{Said}
-use Rattle.jpeg_rules.specs.declared.Walk.{Walk}
-use Rattle.jpeg_rules.specs.declared.Walk.TheVariants.{Ends, Refused}
+use Rattle.std.specs.Prelude.{Result, Ok, Err}
 use Rattle.jpeg_rules.specs.Marker.{class_of}
 use Rattle.jpeg_rules.specs.Grammar.{Layer}
 use Rattle.jpeg_rules.specs.Walk.{walk_of}
@@ -51,14 +50,14 @@ pub record LayerAt (s : List ℕ) (start main e : ℕ) (said : Said) : Type 0 wh
 cut_length : (s : List ℕ) (start e : ℕ) → e ≤ length s → length (take (e - start) (drop start s)) ≡ e - start
 cut_length s start e h = length-take-le (e - start) (drop start s) (let l = length-drop start s in omega arith)
 
-layer_ends : (s : List ℕ) (start main e : ℕ) (said : Said) → LayerAt s start main e said → walk_of s start main ≡ Ends e said
+layer_ends : (s : List ℕ) (start main e : ℕ) (said : Said) → LayerAt s start main e said → walk_of s start main ≡ Ok (e, said)
 layer_ends s start main e said k =
     let a = k.after in
     let l = cut_length s start e k.inside in
     let z : start + length (take (e - start) (drop start s)) ≡ e = omega arith in
-    layer_walk s start main (take (e - start) (drop start s)) (drop e s) said k.layer (scan_split s start e a) ∙ ap (λ (n : ℕ). Ends n said) z
+    layer_walk s start main (take (e - start) (drop start s)) (drop e s) said k.layer (scan_split s start e a) ∙ ap (λ (n : ℕ). Ok (n, said)) z
 
-pub walk_exactly : (s : List ℕ) → Octets s → (start main e : ℕ) (said : Said) → walk_of s start main ≡ Ends e said ↔ LayerAt s start main e said
+pub walk_exactly : (s : List ℕ) → Octets s → (start main e : ℕ) (said : Said) → walk_of s start main ≡ Ok (e, said) ↔ LayerAt s start main e said
 walk_exactly s o start main e said = (
   λ q. let k = walk_layer s o start main e said q in let a = k.after in record { layer = k.layer; after = omega arith; inside = k.inside },
   layer_ends s start main e said,
@@ -66,7 +65,7 @@ walk_exactly s o start main e said = (
 
 -- ---- and it is refused exactly if the octets from its start on are at fault so
 
-pub walk_refused_exactly : (s : List ℕ) → Octets s → (start main : ℕ) (f : Fault) → walk_of s start main ≡ Refused f ↔ BadLayer main start (drop start s) f
+pub walk_refused_exactly : (s : List ℕ) → Octets s → (start main : ℕ) (f : Fault) → walk_of s start main ≡ Err f ↔ BadLayer main start (drop start s) f
 walk_refused_exactly s o start main f = (layer_blames s o main f start, layer_bad s main start refl)
 
 -- a layer stands at a place or the octets are at fault there; never both, and with one fault only
@@ -77,27 +76,28 @@ pub data LayerOrFault (s : List ℕ) (start main : ℕ) : Type 0 where
 pub layer_or_fault : (s : List ℕ) → Octets s → (start main : ℕ) → LayerOrFault s start main
 layer_or_fault s o start main = by (walk_of s start main) refl
   where
-    by : (x : Walk) → walk_of s start main ≡ x → LayerOrFault s start main
-    by (Ends e said) q = a_layer ((walk_exactly s o start main e said).0 q)
-    by (Refused f) q = a_fault ((walk_refused_exactly s o start main f).0 q)
+    by : (x : Result (ℕ × Said) Fault) → walk_of s start main ≡ x → LayerOrFault s start main
+    by (Ok (e, said)) q = a_layer ((walk_exactly s o start main e said).0 q)
+    by (Err f) q = a_fault ((walk_refused_exactly s o start main f).0 q)
 
 pub layer_no_fault : (s : List ℕ) (start main e : ℕ) (said : Said) (f : Fault) → LayerAt s start main e said → BadLayer main start (drop start s) f → ⊥
 layer_no_fault s start main e said f k b =
-    let z : Ends e said ≡ Refused f = sym (layer_ends s start main e said k) ∙ layer_bad s main start refl b in clash cc
+    let z : ◌≡◌ {A = Result (ℕ × Said) Fault} (Ok (e, said)) (Err f) = sym (layer_ends s start main e said k) ∙ layer_bad s main start refl b in clash cc
 
 pub layer_fault_once : (s : List ℕ) (start main : ℕ) (f g : Fault) → BadLayer main start (drop start s) f → BadLayer main start (drop start s) g → f ≡ g
-layer_fault_once s start main f g b c = let z : Refused f ≡ Refused g = sym (layer_bad s main start refl b) ∙ layer_bad s main start refl c in cc
+layer_fault_once s start main f g b c = let z : ◌≡◌ {A = Result (ℕ × Said) Fault} (Err f) (Err g) = sym (layer_bad s main start refl b) ∙ layer_bad s main start refl c in cc
 
 -- ---- no layer is a proper prefix of another, and its octets determine its values
 
-layer_at_0 : (l rest : List ℕ) (main : ℕ) (said : Said) → Layer main l said → walk_of (l ++ rest) 0 main ≡ Ends (length l) said
-layer_at_0 l rest main said y = let z : 0 + length l ≡ length l = omega arith in layer_walk (l ++ rest) 0 main l rest said y refl ∙ ap (λ (n : ℕ). Ends n said) z
+layer_at_0 : (l rest : List ℕ) (main : ℕ) (said : Said) → Layer main l said → walk_of (l ++ rest) 0 main ≡ Ok (length l, said)
+layer_at_0 l rest main said y = let z : 0 + length l ≡ length l = omega arith in layer_walk (l ++ rest) 0 main l rest said y refl ∙ ap (λ (n : ℕ). Ok (n, said)) z
 
 pub layer_prefix : (l more : List ℕ) (main : ℕ) (said said' : Said) → Layer main l said → Layer main (l ++ more) said' → more ≡ []
 layer_prefix l more main said said' x y =
     let a = layer_at_0 l more main said x in
-    let b : walk_of (l ++ more) 0 main ≡ Ends (length (l ++ more)) said' = ap (λ (z : List ℕ). walk_of z 0 main) (sym (append-nil (l ++ more))) ∙ layer_at_0 (l ++ more) [] main said' y in
-    let q : length l ≡ length (l ++ more) = cc in
+    let b : walk_of (l ++ more) 0 main ≡ Ok (length (l ++ more), said') = ap (λ (z : List ℕ). walk_of z 0 main) (sym (append-nil (l ++ more))) ∙ layer_at_0 (l ++ more) [] main said' y in
+    let p : (length l, said) ≡ (length (l ++ more), said') = cc in
+    let q : length l ≡ length (l ++ more) = ap (λ (w : ℕ × Said). w.0) p in
     let n = length-append l more in
     none more (omega arith)
   where
@@ -107,13 +107,14 @@ layer_prefix l more main said said' x y =
 
 pub layer_values : (l : List ℕ) (main : ℕ) (said said' : Said) → Layer main l said → Layer main l said' → said ≡ said'
 layer_values l main said said' x y =
-    let a = layer_at_0 l [] main said x in let b = layer_at_0 l [] main said' y in cc
+    let a = layer_at_0 l [] main said x in let b = layer_at_0 l [] main said' y in
+    let p : (length l, said) ≡ (length l, said') = cc in ap (λ (w : ℕ × Said). w.1) p
 
 -- ---- a walk that ends depends on nothing but the octets from its start to its end, and shifts with them
 
-pub walk_shift : (s t : List ℕ) → Octets s → (start at main e : ℕ) (said : Said) → walk_of s start main ≡ Ends e said
+pub walk_shift : (s t : List ℕ) → Octets s → (start at main e : ℕ) (said : Said) → walk_of s start main ≡ Ok (e, said)
     → take (e - start) (drop at t) ≡ take (e - start) (drop start s) → at + (e - start) ≤ length t
-    → walk_of t at main ≡ Ends (at + (e - start)) said
+    → walk_of t at main ≡ Ok (at + (e - start), said)
 walk_shift s t o start at main e said q same fits =
     let k = walk_layer s o start main e said q in
     let a = k.after in
@@ -122,4 +123,4 @@ walk_shift s t o start at main e said q same fits =
     let n : length l ≡ e - start = cut_length s start e k.inside in
     let split : drop at t ≡ l ++ drop (at + (e - start)) t =
     scan_split t at (at + (e - start)) (omega arith) ∙ ap (λ (m : ℕ). take m (drop at t) ++ drop (at + (e - start)) t) z ∙ ap (λ (x : List ℕ). x ++ drop (at + (e - start)) t) same in
-    layer_walk t at main l (drop (at + (e - start)) t) said k.layer split ∙ ap (λ (m : ℕ). Ends (at + m) said) n
+    layer_walk t at main l (drop (at + (e - start)) t) said k.layer split ∙ ap (λ (m : ℕ). Ok (at + m, said)) n

@@ -17,9 +17,9 @@ use Rattle.sheet_rules.proofs.New.{says_listed, says_divides}
 use Rattle.sheet_rules.proofs.Backward.{listed_nonzero}
 use Rattle.jpeg_rules.specs.declared.Said.{Said}
 use Rattle.jpeg_rules.specs.declared.Reach.{Reach}
-use Rattle.jpeg_rules.specs.declared.Turn.TheVariants.{Stop}
-use Rattle.jpeg_rules.specs.declared.Walk.{Walk}
-use Rattle.jpeg_rules.specs.declared.Walk.TheVariants.{Ends}
+use Rattle.std.specs.declared.ops.ControlFlow.TheVariants.{Break}
+use Rattle.std.specs.Prelude.{Result, Ok}
+use Rattle.jpeg_rules.specs.declared.Fault.{Fault}
 use Rattle.jpeg_rules.specs.Codes.{IsFault, HasLength}
 use Rattle.jpeg_rules.specs.Grammar.{marker, Data, Piece, alone, segment, scan, lengthed, octets_of, pieces_of, Good, is_scan, g3fax, tagged, resolution, Each, Scanned, Components, said_by, Layer}
 use Rattle.jpeg_rules.specs.Walk.{resolves, with_res, components_ok, framed, passed, moved, begun, walk_of}
@@ -118,7 +118,7 @@ module _ (s : List ℕ) (main : ℕ) where
   abbrev Resolved : Reach → List Piece → Type 0
   Resolved st ps = (st.said.res ≢ 0) ⊎ (resolves main (resolution ps) ≡ true)
 
-  abbrev Onto : Reach → List Piece → List ℕ → Walk → Type 0
+  abbrev Onto : Reach → List Piece → List ℕ → Result (ℕ × Said) Fault → Type 0
   Onto st ps l w = (t : Reach) → Behind st t ps → drop t.at s ≡ l → Walks s main t w
 
   allowed_same : (st u : Reach) (ps : List Piece) → u.framed ≡ st.framed → Allowed st ps → Allowed u ps
@@ -180,10 +180,10 @@ module _ (s : List ℕ) (main : ℕ) where
   resolved_same ps st p q (inr o) = inr (ap (resolves main) q ∙ o)
 
   -- the walk over the pieces after the first, from any state that fits
-  abbrev Rest : List Piece → List ℕ → Walk → Bool → Type 0
+  abbrev Rest : List Piece → List ℕ → Result (ℕ × Said) Fault → Bool → Type 0
   Rest ps l w f = (u : Reach) → drop u.at s ≡ pieces_of ps ++ l → u.framed ≡ f → Resolved u ps → Onto u ps l w → Walks s main u w
 
-  module _ (ps : List Piece) (st : Reach) (l : List ℕ) (w : Walk) (rec : Rest ps l w st.framed) where
+  module _ (ps : List Piece) (st : Reach) (l : List ℕ) (w : Result (ℕ × Said) Fault) (rec : Rest ps l w st.framed) where
     alone_walk : (f : ℕ) → drop st.at s ≡ pieces_of (alone f ∷ ps) ++ l → Resolved st (alone f ∷ ps) → Onto st (alone f ∷ ps) l w → Walks s main st w
     unfolding pieces_of resolution is_scan octets_of
     alone_walk f e v k =
@@ -272,7 +272,7 @@ module _ (s : List ℕ) (main : ℕ) where
         (behind_more st u t (scan f header scanned) ps (omega arith) (sym fr) (λ z. refl) st.said.res refl (res_same ps st.said.res (scan f header scanned) refl) q)
         y))
 
-  pub pieces_walk : (ps : List Piece) (st : Reach) (l : List ℕ) (w : Walk) → drop st.at s ≡ pieces_of ps ++ l
+  pub pieces_walk : (ps : List Piece) (st : Reach) (l : List ℕ) (w : Result (ℕ × Said) Fault) → drop st.at s ≡ pieces_of ps ++ l
       → Opens l → Each Good ps → Allowed st ps → Resolved st ps → Onto st ps l w → Walks s main st w
   unfolding Each Good pieces_of is_scan
   pieces_walk [] st l w e h g a v k = k st (behind_none st) e
@@ -323,8 +323,8 @@ module _ (s : List ℕ) (start main : ℕ) (l rest : List ℕ) (said : Said) (y 
   res_resolves : resolves main (resolution y.before) ≡ true
   res_resolves = ap (resolves main) (sym res_is) ∙ (says_resolves main said.res).shown (y.listed, y.divides)
 
-  w : Walk
-  w = Ends (start + length l) said
+  w : Result (ℕ × Said) Fault
+  w = Ok (start + length l, said)
 
   -- after the frame
   last_walk : (u t : Reach) → Behind u t y.after → u.at ≡ start + 2 + length (pieces_of y.before) + y.fill + 2 + (length y.body + 2)
@@ -336,7 +336,7 @@ module _ (s : List ℕ) (start main : ℕ) (l rest : List ℕ) (said : Said) (y 
       let end : t.at + y.last + 2 ≡ start + length l = omega arith in
       let nz : eqb u.said.res 0 ≡ false = ne_eqb u.said.res 0 (λ k. res_nonzero (sym (ap (λ (i : Said). i.res) x) ∙ k)) in
       let same : t.said ≡ said = b.says ∙ ap (λ (c : Bool). with_res u.said (cond c (resolution y.after) u.said.res)) nz ∙ x in
-      stops (turn_end s main t y.last rest d (b.scanned (inr y.scanned)) ∙ ap₂ (λ (n : ℕ) (i : Said). Stop (Ends n i)) end same)
+      stops (turn_end s main t y.last rest d (b.scanned (inr y.scanned)) ∙ ap₂ (λ (n : ℕ) (i : Said). Break (Ok (n, i))) end same)
 
   other_frame : y.code ≢ 0xFF
   other_frame = frame_other y.code y.frame
@@ -358,7 +358,7 @@ module _ (s : List ℕ) (start main : ℕ) (l rest : List ℕ) (said : Said) (y 
       (inl (λ k. res_nonzero (sym tr ∙ k)))
       (λ v c f. last_walk u v c (omega arith) (ap (said_by y.body) (tr ∙ res_is) ∙ sym y.says) f))
 
-  pub layer_walk : walk_of s start main ≡ Ends (start + length l) said
+  pub layer_walk : walk_of s start main ≡ Ok (start + length l, said)
   unfolding walk_of w
   layer_walk =
       let t = two_there s start 0xFF 0xD8 (pieces_of y.before ++ (lengthed y.fill y.code y.body ++ (pieces_of y.after ++ (marker y.last 0xD9 ++ rest)))) opened_layer in

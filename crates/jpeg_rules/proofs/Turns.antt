@@ -16,14 +16,11 @@ use Rattle.jpeg_rules.specs.declared.Class.{Class}
 use Rattle.jpeg_rules.specs.declared.Class.TheVariants.{Alone, Frame, Scan, End, Segment}
 use Rattle.jpeg_rules.specs.declared.Marker.{Marker}
 use Rattle.jpeg_rules.specs.declared.Fault.TheVariants.{BadRes, BadLayer}
-use Rattle.jpeg_rules.specs.declared.Seg.{Seg}
-use Rattle.jpeg_rules.specs.declared.Seg.TheVariants.{Body}
-use Rattle.jpeg_rules.specs.declared.Tag.{Tag}
-use Rattle.jpeg_rules.specs.declared.Tag.TheVariants.{Gives, Plain}
+use Rattle.std.specs.Prelude.{Option, Some, None, Result, Ok}
+use Rattle.jpeg_rules.specs.declared.Fault.{Fault}
 use Rattle.jpeg_rules.specs.declared.Said.{Said}
 use Rattle.jpeg_rules.specs.declared.Reach.{Reach}
-use Rattle.jpeg_rules.specs.declared.Walk.TheVariants.{Ends}
-use Rattle.jpeg_rules.specs.declared.Turn.TheVariants.{Go, Stop}
+use Rattle.std.specs.declared.ops.ControlFlow.TheVariants.{Continue, Break}
 use Rattle.jpeg_rules.specs.Codes.{IsFrame, HasLength}
 use Rattle.jpeg_rules.specs.Marker.{class_of}
 use Rattle.jpeg_rules.specs.Grammar.{marker, Data, lengthed, g3fax, tagged, said_by}
@@ -41,16 +38,16 @@ module _ (s : List ℕ) (main : ℕ) (st : Reach) where
       ap (λ (m : Marker). on_marker m st.at (λ (c n : ℕ). mark_of s main st c n (class_of c))) (marker_there s st.at f c r d e)
       ∙ ap (mark_of s main st c (st.at + f + 2)) (coded_class c k h)
 
-  pub turn_alone : (f : ℕ) (r : List ℕ) → drop st.at s ≡ marker f 0x01 ++ r → turn_of s main st ≡ Go (moved st (st.at + f + 2) st.said.res)
+  pub turn_alone : (f : ℕ) (r : List ℕ) → drop st.at s ≡ marker f 0x01 ++ r → turn_of s main st ≡ Continue (moved st (st.at + f + 2) st.said.res)
   unfolding mark_of
   turn_alone f r e = turn_class f 0x01 r Alone (λ z. omega arith) e refl
 
   pub turn_end : (f : ℕ) (r : List ℕ) → drop st.at s ≡ marker f 0xD9 ++ r → st.scanned ≡ true
-      → turn_of s main st ≡ Stop (Ends (st.at + f + 2) st.said)
+      → turn_of s main st ≡ Break (Ok (st.at + f + 2, st.said))
   unfolding mark_of
   turn_end f r e h =
       turn_class f 0xD9 r End (λ z. omega arith) e refl
-      ∙ ap (λ (b : Bool). cond b (Stop (Ends (st.at + f + 2) st.said)) (refused (BadLayer st.at))) h
+      ∙ ap (λ (b : Bool). cond b (Break (Ok (st.at + f + 2, st.said))) (refused (BadLayer st.at))) h
 
   -- a marker with a length: the body, and what stands after it
   module _ (f c : ℕ) (body r : List ℕ) (other : c ≢ 0xFF) (e : drop st.at s ≡ lengthed f c body ++ r) where
@@ -67,7 +64,7 @@ module _ (s : List ℕ) (main : ℕ) (st : Reach) where
     size_is : be16_at s (st.at + f + 2) ≡ length body + 2
     size_is = be16_there s (body ++ r) (st.at + f + 2) (length body + 2) length_at
 
-    pub seg_is : (least : ℕ) → least ≤ length body + 2 → seg_of s (st.at + f + 2) least ≡ Body (st.at + f + 2 + (length body + 2))
+    pub seg_is : (least : ℕ) → least ≤ length body + 2 → seg_of s (st.at + f + 2) least ≡ Ok (st.at + f + 2 + (length body + 2))
     seg_is least h = (seg_there s (st.at + f + 2) least body r length_at h).0
 
     pub body_at : drop (st.at + f + 2 + 2) s ≡ body ++ r
@@ -137,42 +134,42 @@ module _ (s : List ℕ) (main : ℕ) (st : Reach) where
             ∙ and_none (eqb c 0xE1) (eqb st.said.res 0) (stands_at s (st.at + f + 2 + 2) g3fax)
             ∙ sym (ap (λ (b : Bool). eqb st.said.res 0 && (eqb c 0xE1 && b && begins body g3fax)) q ∙ none_left (eqb c 0xE1) (eqb st.said.res 0) (begins body g3fax))
 
-    pub tag_of_lem : tag_of s st c (st.at + f + 2) ≡ cond (eqb st.said.res 0 && tagged c body) (Gives (be16_at s (st.at + f + 2 + 10))) Plain
+    pub tag_of_lem : tag_of s st c (st.at + f + 2) ≡ cond (eqb st.said.res 0 && tagged c body) (Some (be16_at s (st.at + f + 2 + 10))) None
     unfolding tag_of
-    tag_of_lem = ap (λ (b : Bool). cond b (Gives (be16_at s (st.at + f + 2 + 10))) Plain) tag_test
+    tag_of_lem = ap (λ (b : Bool). cond b (Some (be16_at s (st.at + f + 2 + 10))) None) tag_test
 
     -- ---- a segment
 
-    pub segment_opened : (t : Tag) → tag_of s st c (st.at + f + 2) ≡ t → HasLength c
-        → turn_of s main st ≡ on_tag t (Go (moved st (st.at + f + 2 + (length body + 2)) st.said.res))
-        (λ (v : ℕ). cond (resolves main v) (Go (moved st (st.at + f + 2 + (length body + 2)) v)) (refused (BadRes (st.at + f + 2 + 10))))
+    pub segment_opened : (t : Option ℕ) → tag_of s st c (st.at + f + 2) ≡ t → HasLength c
+        → turn_of s main st ≡ on_tag t (Continue (moved st (st.at + f + 2 + (length body + 2)) st.said.res))
+        (λ (v : ℕ). cond (resolves main v) (Continue (moved st (st.at + f + 2 + (length body + 2)) v)) (refused (BadRes (st.at + f + 2 + 10))))
     unfolding mark_of segment_of
     segment_opened t q k =
         turn_class f c (octets16 (length body + 2) ++ (body ++ r)) Segment other opened k
         ∙ ap
-        (λ (g : Seg).
+        (λ (g : Result ℕ Fault).
         on_body g (λ (next : ℕ).
-        on_tag (tag_of s st c (st.at + f + 2)) (Go (moved st next st.said.res)) (λ (v : ℕ).
-        cond (resolves main v) (Go (moved st next v)) (refused (BadRes (st.at + f + 2 + 10))))))
+        on_tag (tag_of s st c (st.at + f + 2)) (Continue (moved st next st.said.res)) (λ (v : ℕ).
+        cond (resolves main v) (Continue (moved st next v)) (refused (BadRes (st.at + f + 2 + 10))))))
         (seg_is 2 (omega arith))
         ∙ ap
-        (λ (g : Tag).
-        on_tag g (Go (moved st (st.at + f + 2 + (length body + 2)) st.said.res))
-        (λ (v : ℕ). cond (resolves main v) (Go (moved st (st.at + f + 2 + (length body + 2)) v)) (refused (BadRes (st.at + f + 2 + 10)))))
+        (λ (g : Option ℕ).
+        on_tag g (Continue (moved st (st.at + f + 2 + (length body + 2)) st.said.res))
+        (λ (v : ℕ). cond (resolves main v) (Continue (moved st (st.at + f + 2 + (length body + 2)) v)) (refused (BadRes (st.at + f + 2 + 10)))))
         q
 
     pub turn_plain : HasLength c → eqb st.said.res 0 && tagged c body ≡ false
-        → turn_of s main st ≡ Go (moved st (st.at + f + 2 + (length body + 2)) st.said.res)
-    turn_plain k h = segment_opened Plain (tag_of_lem ∙ ap (λ (b : Bool). cond b (Gives (be16_at s (st.at + f + 2 + 10))) Plain) h) k
+        → turn_of s main st ≡ Continue (moved st (st.at + f + 2 + (length body + 2)) st.said.res)
+    turn_plain k h = segment_opened None (tag_of_lem ∙ ap (λ (b : Bool). cond b (Some (be16_at s (st.at + f + 2 + 10))) None) h) k
 
     pub turn_tag : HasLength c → eqb st.said.res 0 && tagged c body ≡ true → 10 ≤ length body → resolves main (be16_at body 8) ≡ true
-        → turn_of s main st ≡ Go (moved st (st.at + f + 2 + (length body + 2)) (be16_at body 8))
+        → turn_of s main st ≡ Continue (moved st (st.at + f + 2 + (length body + 2)) (be16_at body 8))
     turn_tag k h g v =
         let z : st.at + f + 2 + 2 + 8 ≡ st.at + f + 2 + 10 = omega arith in
-        segment_opened (Gives (be16_at body 8))
-        (tag_of_lem ∙ ap (λ (b : Bool). cond b (Gives (be16_at s (st.at + f + 2 + 10))) Plain) h ∙ ap Gives (number_is 8 (st.at + f + 2 + 10) z (omega arith)))
+        segment_opened (Some (be16_at body 8))
+        (tag_of_lem ∙ ap (λ (b : Bool). cond b (Some (be16_at s (st.at + f + 2 + 10))) None) h ∙ ap Some (number_is 8 (st.at + f + 2 + 10) z (omega arith)))
         k
-        ∙ ap (λ (b : Bool). cond b (Go (moved st (st.at + f + 2 + (length body + 2)) (be16_at body 8))) (refused (BadRes (st.at + f + 2 + 10)))) v
+        ∙ ap (λ (b : Bool). cond b (Continue (moved st (st.at + f + 2 + (length body + 2)) (be16_at body 8))) (refused (BadRes (st.at + f + 2 + 10)))) v
 
     -- ---- the frame
 
@@ -186,7 +183,7 @@ module _ (s : List ℕ) (main : ℕ) (st : Reach) where
 
     pub turn_frame : IsFrame c → st.framed ≡ false → st.said.res ≢ 0 → 8 ≤ length body + 2 → be16_at body 1 ≢ 0 → be16_at body 3 ≢ 0
         → components_ok (get_or body 5 0) ≡ true
-        → turn_of s main st ≡ Go (framed st (st.at + f + 2 + (length body + 2)) (said_by body st.said.res))
+        → turn_of s main st ≡ Continue (framed st (st.at + f + 2 + (length body + 2)) (said_by body st.said.res))
     unfolding mark_of frame_of frame_body_of
     turn_frame k nf d l h w co =
         let a : be16_at s (st.at + f + 2 + 3) ≡ be16_at body 1 = ap (λ (x : Said). x.height) (frame_says l) in
@@ -202,7 +199,7 @@ scan_other z = omega arith
 
 pub turn_scan : (s : List ℕ) (main : ℕ) (st : Reach) (f : ℕ) (header scanned l : List ℕ)
     → drop st.at s ≡ lengthed f 0xDA header ++ (scanned ++ l) → Data scanned → Opens l → st.framed ≡ true
-    → (turn_of s main st ≡ Go (passed st (st.at + f + 2 + (length header + 2) + length scanned)))
+    → (turn_of s main st ≡ Continue (passed st (st.at + f + 2 + (length header + 2) + length scanned)))
     × (drop (st.at + f + 2 + (length header + 2) + length scanned) s ≡ l)
 unfolding mark_of scan_step_of
 turn_scan s main st f header scanned l e d o fr =

@@ -17,18 +17,13 @@ use Rattle.jpeg_rules.specs.declared.Marker.{Marker}
 use Rattle.jpeg_rules.specs.declared.Marker.TheVariants.{Code, Missing, Cut}
 use Rattle.jpeg_rules.specs.declared.Fault.{Fault}
 use Rattle.jpeg_rules.specs.declared.Fault.TheVariants.{Short, BadLength, BadRes, BadLayer}
-use Rattle.jpeg_rules.specs.declared.Found.{Found}
-use Rattle.jpeg_rules.specs.declared.Found.TheVariants.{At, Nothing}
-use Rattle.jpeg_rules.specs.declared.Tag.{Tag}
-use Rattle.jpeg_rules.specs.declared.Tag.TheVariants.{Gives, Plain}
+use Rattle.std.specs.Prelude.{Option, Some, None, Result, Ok, Err}
+use Rattle.jpeg_rules.specs.declared.Said.{Said}
 use Rattle.jpeg_rules.specs.declared.Reach.{Reach}
-use Rattle.jpeg_rules.specs.declared.Walk.{Walk}
-use Rattle.jpeg_rules.specs.declared.Walk.TheVariants.{Ends}
-use Rattle.jpeg_rules.specs.declared.Turn.{Turn}
-use Rattle.jpeg_rules.specs.declared.Turn.TheVariants.{Go, Stop}
+use Rattle.jpeg_rules.specs.Walk.{Turn, seg_of, scan_of, resolves, tag_of, passed, moved, refused, on_body, on_found, on_tag, components_ok, frame_body_of, frame_of, scan_step_of, segment_of, end_of, mark_of, on_marker, turn_of, begun, walk_of}
+use Rattle.std.specs.declared.ops.ControlFlow.TheVariants.{Continue, Break}
 use Rattle.jpeg_rules.specs.Marker.{class_of, marker_of}
 use Rattle.jpeg_rules.specs.Grammar.{g3fax}
-use Rattle.jpeg_rules.specs.Walk.{seg_of, scan_of, resolves, tag_of, passed, moved, refused, on_body, on_found, on_tag, components_ok, frame_body_of, frame_of, scan_step_of, segment_of, end_of, mark_of, on_marker, turn_of, begun, walk_of}
 use Rattle.jpeg_rules.proofs.Runs.{marker_back}
 use Rattle.jpeg_rules.proofs.Scans.{scan_back}
 use Rattle.jpeg_rules.proofs.Walks.{Walks, stops, goes, walks_from}
@@ -39,19 +34,19 @@ place_of (BadLength p) = p
 place_of (BadRes p) = p
 place_of (BadLayer p) = p
 
-pub tag_long : (s : List ℕ) (st : Reach) (c n v : ℕ) → tag_of s st c n ≡ Gives v → 12 ≤ be16_at s n
+pub tag_long : (s : List ℕ) (st : Reach) (c n v : ℕ) → tag_of s st c n ≡ Some v → 12 ≤ be16_at s n
 unfolding tag_of
 tag_long s st c n v =
-    cond_with (λ x. x ≡ Gives v → 12 ≤ be16_at s n) (eqb c 0xE1 && eqb st.said.res 0 && leb 12 (be16_at s n) && stands_at s (n + 2) g3fax)
+    cond_with (λ x. x ≡ Some v → 12 ≤ be16_at s n) (eqb c 0xE1 && eqb st.said.res 0 && leb 12 (be16_at s n) && stands_at s (n + 2) g3fax)
     (λ t e. ((says_and (says_and (says_and (says_eq c 0xE1) (says_eq st.said.res 0)) (says_le 12 (be16_at s n))) (says_true (stands_at s (n + 2) g3fax))).told t).0.1)
     (λ t e. clash cc)
 
 module _ (s : List ℕ) (main : ℕ) where
   -- a turn stays within the list, and so does its refusal
   pub Within : Turn → Type 0
-  Within (Go t) = t.at ≤ length s
-  Within (Stop (Ends e said)) = Unit {0}
-  Within (Stop (Walk.Refused f)) = place_of f ≤ length s
+  Within (Continue t) = t.at ≤ length s
+  Within (Break (Ok (e, said))) = Unit {0}
+  Within (Break (Err f)) = place_of f ≤ length s
 
   module _ (st : Reach) (c n : ℕ) (h : st.at ≤ length s) (b : n ≤ length s) where
     body_within : (least : ℕ) (go : ℕ → Turn) → ((next : ℕ) → n + least ≤ next → next ≤ length s → next ≡ n + be16_at s n → Within (go next)) → Within (on_body (seg_of s n least) go)
@@ -80,23 +75,23 @@ module _ (s : List ℕ) (main : ℕ) where
     unfolding scan_step_of place_of Within
     scan_within =
         cond_with Within st.framed
-        (λ f. body_within 2 (λ (next : ℕ). on_found (scan_of s next) next (λ (p : ℕ). Go (passed st p))) λ next lo hi e. by next hi (scan_of s next) refl)
+        (λ f. body_within 2 (λ (next : ℕ). on_found (scan_of s next) next (λ (p : ℕ). Continue (passed st p))) λ next lo hi e. by next hi (scan_of s next) refl)
         (λ f. h)
       where
-        by : (next : ℕ) → next ≤ length s → (x : Found) → scan_of s next ≡ x → Within (on_found x next (λ (p : ℕ). Go (passed st p)))
-        by next hi (At p) q = let k = (scan_back s next p q).marked in let i = k.inside in let j = k.ends in omega arith
-        by next hi Nothing q = hi
+        by : (next : ℕ) → next ≤ length s → (x : Option ℕ) → scan_of s next ≡ x → Within (on_found x next (λ (p : ℕ). Continue (passed st p)))
+        by next hi (Some p) q = let k = (scan_back s next p q).marked in let i = k.inside in let j = k.ends in omega arith
+        by next hi None q = hi
 
     segment_within : Within (segment_of s main st c n)
     unfolding segment_of place_of Within
     segment_within =
-        body_within 2 (λ (next : ℕ). on_tag (tag_of s st c n) (Go (moved st next st.said.res)) (λ (r : ℕ). cond (resolves main r) (Go (moved st next r)) (refused (BadRes (n + 10)))))
+        body_within 2 (λ (next : ℕ). on_tag (tag_of s st c n) (Continue (moved st next st.said.res)) (λ (r : ℕ). cond (resolves main r) (Continue (moved st next r)) (refused (BadRes (n + 10)))))
         λ next lo hi e. by next hi e (tag_of s st c n) refl
       where
-        by : (next : ℕ) → next ≤ length s → next ≡ n + be16_at s n → (x : Tag) → tag_of s st c n ≡ x
-            → Within (on_tag x (Go (moved st next st.said.res)) (λ (r : ℕ). cond (resolves main r) (Go (moved st next r)) (refused (BadRes (n + 10)))))
-        by next hi z Plain q = hi
-        by next hi z (Gives v) q =
+        by : (next : ℕ) → next ≤ length s → next ≡ n + be16_at s n → (x : Option ℕ) → tag_of s st c n ≡ x
+            → Within (on_tag x (Continue (moved st next st.said.res)) (λ (r : ℕ). cond (resolves main r) (Continue (moved st next r)) (refused (BadRes (n + 10)))))
+        by next hi z None q = hi
+        by next hi z (Some v) q =
             cond_with Within (resolves main v) (λ y. hi) (λ y. let l = tag_long s st c n v q in let u : n + 10 ≤ length s = omega arith in u)
 
     end_within : Within (end_of st n)
@@ -121,16 +116,16 @@ module _ (s : List ℕ) (main : ℕ) where
       by Missing m = h
       by Cut m = h
 
-  walks_within : {st : Reach} {w : Walk} → Walks s main st w → st.at ≤ length s → (f : Fault) → w ≡ Walk.Refused f → place_of f ≤ length s
+  walks_within : {st : Reach} {w : Result (ℕ × Said) Fault} → Walks s main st w → st.at ≤ length s → (f : Fault) → w ≡ Err f → place_of f ≤ length s
   unfolding Within
-  walks_within {st} {w} (stops q) h f z = subst Within (q ∙ ap Stop z) (turn_within st h)
+  walks_within {st} {w} (stops q) h f z = subst Within (q ∙ ap Break z) (turn_within st h)
   walks_within {st} {w} (goes {t = t} q more) h f z = walks_within more (subst Within q (turn_within st h)) f z
 
 -- the refusal of a walk that begins within the list is placed within it
-pub walk_within : (s : List ℕ) (start main : ℕ) → start ≤ length s → (f : Fault) → walk_of s start main ≡ Walk.Refused f → place_of f ≤ length s
+pub walk_within : (s : List ℕ) (start main : ℕ) → start ≤ length s → (f : Fault) → walk_of s start main ≡ Err f → place_of f ≤ length s
 unfolding walk_of place_of
 walk_within s start main h f =
-    cond_with (λ x. x ≡ Walk.Refused f → place_of f ≤ length s) (ltb (length s) (start + 2)) (λ t e. let z : Short start ≡ f = cc in subst (λ (g : Fault). place_of g ≤ length s) z h) λ t.
-    cond_with (λ x. x ≡ Walk.Refused f → place_of f ≤ length s) (eqb (get_or s start 0) 0xFF && eqb (get_or s (start + 1) 0) 0xD8)
+    cond_with (λ x. x ≡ Err f → place_of f ≤ length s) (ltb (length s) (start + 2)) (λ t e. let z : Short start ≡ f = cc in subst (λ (g : Fault). place_of g ≤ length s) z h) λ t.
+    cond_with (λ x. x ≡ Err f → place_of f ≤ length s) (eqb (get_or s start 0) 0xFF && eqb (get_or s (start + 1) 0) 0xD8)
     (λ u e. walks_within s main (walks_from s main (length s) (begun (start + 2)) (omega arith)) (ltb-false (length s) (start + 2) t) f e)
     (λ u e. let z : BadLayer start ≡ f = cc in subst (λ (g : Fault). place_of g ≤ length s) z h)

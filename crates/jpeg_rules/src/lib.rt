@@ -1,6 +1,8 @@
 // The types of the JPEG walk (01, "Where an image layer ends"). The rules stand in specs/, the theorems about them in proofs/.
 #![tactic(auto)]
 
+use std::ops::ControlFlow;
+
 // The first six octets of the body of the APP1 segment that gives a layer's resolution.
 pub const G3FAX: [u8; 6] = [0x47, 0x33, 0x46, 0x41, 0x58, 0x00];
 
@@ -32,27 +34,6 @@ pub enum Fault {
     BadLayer(usize),
 }
 
-// A segment by its length: the place after it, or what is wrong.
-#[derive(Clone, Copy)]
-pub enum Seg {
-    Body(usize),
-    Refused(Fault),
-}
-
-// Where scan data ends: at the next marker, or nowhere.
-#[derive(Clone, Copy)]
-pub enum Found {
-    At(usize),
-    Nothing,
-}
-
-// What a segment says of the resolution.
-#[derive(Clone, Copy)]
-pub enum Tag {
-    Gives(u16),
-    Plain,
-}
-
 // What a JPEG layer says of itself: how many components its frame has, its size and its resolution. The count is no octet and stands first: a struct
 // of eight octets is copied as one number that its fields are then cut out of, and one with a gap in it is copied otherwise; pages of many small
 // segments were read at half and at two thirds of the speed.
@@ -74,15 +55,7 @@ pub struct Reach {
 }
 
 // Where a layer ends, and what it says of itself; or why there is none.
-#[derive(Clone, Copy)]
-pub enum Walk {
-    Ends { next: usize, said: Said },
-    Refused(Fault),
-}
+pub type Walk = Result<(usize, Said), Fault>;
 
 // One marker on, or the walk's answer.
-#[derive(Clone, Copy)]
-pub enum Turn {
-    Go(Reach),
-    Stop(Walk),
-}
+pub type Turn = ControlFlow<Walk, Reach>;

@@ -12,7 +12,7 @@ use lib.Dec.{eqb}
 use borrow.Author.Tests.{eq-eqb, ne_eqb}
 use Rattle.octets.proofs.Laws.{drop_octet}
 use Rattle.laws.proofs.Says.{Says, says_eq, says_lt, says_le, says_and, says_or, says_not, says_else}
-use Rattle.jpeg_rules.specs.declared.Found.TheVariants.{At}
+use Rattle.std.specs.Prelude.{Some}
 use Rattle.jpeg_rules.specs.Grammar.{DataRun}
 use Rattle.jpeg_rules.specs.Walk.{data_run, scan_from, scan_of}
 use Rattle.jpeg_rules.proofs.Leaves.{says_run}
@@ -73,7 +73,7 @@ module _ (s : List ℕ) (i : ℕ) where
     -- one octet, as the search sees it
     stepped : scan_of s i
         ≡ cond (eqb (get_or s (i + j) 0) 0xFF) (scan_from (drop (i + j + 1) s) (r.run + 1) (i + j + 1))
-        (cond (eqb r.run 0 || data_run r.run (get_or s (i + j) 0)) (scan_from (drop (i + j + 1) s) 0 (i + j + 1)) (At (i + j - r.run)))
+        (cond (eqb r.run 0 || data_run r.run (get_or s (i + j) 0)) (scan_from (drop (i + j + 1) s) 0 (i + j + 1)) (Some (i + j - r.run)))
     unfolding scan_from
     stepped = r.same ∙ ap (λ (l : List ℕ). scan_from l r.run (i + j)) (drop_octet s (i + j) h)
 
@@ -88,7 +88,7 @@ module _ (s : List ℕ) (i : ℕ) where
               ∙ ap
               (λ (b : Bool).
               cond b (scan_from (drop (i + j + 1) s) (r.run + 1) (i + j + 1))
-              (cond (eqb r.run 0 || data_run r.run (get_or s (i + j) 0)) (scan_from (drop (i + j + 1) s) 0 (i + j + 1)) (At (i + j - r.run))))
+              (cond (eqb r.run 0 || data_run r.run (get_or s (i + j) 0)) (scan_from (drop (i + j + 1) s) 0 (i + j + 1)) (Some (i + j - r.run))))
               (eq-eqb (get_or s (i + j) 0) 0xFF e)
               ∙ ap (λ (k : ℕ). scan_from (drop k s) (r.run + 1) k) z;
           one = λ l. (omega arith, ap (λ (k : ℕ). get_or s k 0) y ∙ e);
@@ -136,9 +136,9 @@ module _ (s : List ℕ) (i : ℕ) where
         ∙ ap
         (λ (b : Bool).
         cond b (scan_from (drop (i + j + 1) s) (r.run + 1) (i + j + 1))
-        (cond (eqb r.run 0 || data_run r.run (get_or s (i + j) 0)) (scan_from (drop (i + j + 1) s) 0 (i + j + 1)) (At (i + j - r.run))))
+        (cond (eqb r.run 0 || data_run r.run (get_or s (i + j) 0)) (scan_from (drop (i + j + 1) s) 0 (i + j + 1)) (Some (i + j - r.run))))
         (ne_eqb (get_or s (i + j) 0) 0xFF n)
-        ∙ ap (λ (b : Bool). cond b (scan_from (drop (i + j + 1) s) 0 (i + j + 1)) (At (i + j - r.run))) passed
+        ∙ ap (λ (b : Bool). cond b (scan_from (drop (i + j + 1) s) 0 (i + j + 1)) (Some (i + j - r.run))) passed
       where
         passed : eqb r.run 0 || data_run r.run (get_or s (i + j) 0) ≡ true
         passed =

@@ -2,17 +2,17 @@
 -- Assumes nothing.
 use Prim.Native.Nat.{ℕ, ◌+◌, ◌-◌, ◌≤◌, ◌<◌}
 use native.Mathlib.Omega.{arith}
-use mathlib.Core.Path.{◌≡◌, refl, sym, ap, subst, ◌∙◌}
+use mathlib.Core.Path.{◌≡◌, refl, sym, ap, ◌∙◌}
 use mathlib.Core.Bool.{Bool, true, false, ◌&&◌, ◌||◌, not, false≢true}
 use mathlib.Core.Logic.{inl, inr, ◌≢◌, ⊎_elim}
 use mathlib.Core.List.{List}
 use lib.ListN.{length, get_or}
-use lib.Dec.{eqb, leb}
+use lib.Dec.{eqb}
 use borrow.Author.Tests.{ne_eqb, le-leb, lt-leb}
 use borrow.Author.Rules.{rules}
-use Rattle.laws.proofs.Says.{Says, says_eq, says_le, says_true, says_and, says_or, says_not, says_else}
+use Rattle.laws.proofs.Says.{Says, says_eq, says_le, says_and, says_or, says_not, says_else}
 use Rattle.octets.proofs.Runs.{end_ahead, end_over, end_here, end_next}
-use Rattle.jpeg_rules.specs.declared.Found.{Found}
+use Rattle.std.specs.Prelude.{Some, None}
 use Rattle.jpeg_rules.specs.declared.Marker.TheVariants.{Code}
 use Rattle.jpeg_rules.specs.Grammar.{DataRun}
 use Rattle.jpeg_rules.specs.Walk.{data_run, scan_of}
@@ -20,7 +20,6 @@ use Rattle.jpeg_rules.proofs.Leaves.{says_run}
 use Rattle.jpeg_rules.proofs.Runs.{fill_end, run_marked, marker_is}
 use Rattle.jpeg_rules.proofs.Scans.{plain_next, scan_over, run_over, run_next, run_here}
 use Rattle.jpeg_pairs.specs.Pairs.{codes, plain_pair, Suspect}
-use Rattle.jpeg_scan.specs.declared.Next.{Next}
 use Rattle.jpeg_scan.specs.Search.{filled_triple, AllFilled, Clears, Shows}
 use Rattle.jpeg_scan.proofs.Blocks.{block_passed}
 
@@ -35,49 +34,24 @@ module _ (run c : ℕ) where
   unfolding data_run
   data_zero e = or-false (eqb run 1) ∙ ap (data_run run) (sym e)
 
-  module _ (n : c ≡ 0 → ⊥) where
-    pub data_below : c < 0xD0 → false ≡ data_run run c
-    unfolding data_run
-    data_below h = simp (ne_eqb c 0 n, lt-leb 0xD0 c h)
+  pub data_within : 0xD0 ≤ c → c ≤ 0xD7 → true ≡ data_run run c
+  unfolding data_run
+  data_within l h = simp (ne_eqb c 0 (omega arith), le-leb 0xD0 c l, le-leb c 0xD7 h)
 
-    pub data_else : 0xD0 ≤ c → leb c 0xD7 ≡ data_run run c
-    unfolding data_run
-    data_else h = simp (ne_eqb c 0 n, le-leb 0xD0 c h)
+  pub data_below : (c ≡ 0 → ⊥) → c < 0xD0 → false ≡ data_run run c
+  unfolding data_run
+  data_below n h = simp (ne_eqb c 0 n, lt-leb 0xD0 c h)
 
-pub ruleset judging = (rules, data_zero, data_below, data_else)
+  pub data_above : 0xD7 < c → false ≡ data_run run c
+  unfolding data_run
+  data_above h = simp (ne_eqb c 0 (omega arith), le-leb 0xD0 c (omega arith), lt-leb c 0xD7 h)
+
+pub ruleset judging = (rules, data_zero, data_within, data_below, data_above)
 
 -- ---- is_filled
 
 pub filled_made : (a b c : ℕ) {p : Bool} → p ≡ plain_pair a b → p || (eqb b 255 && not (eqb c 0)) ≡ filled_triple a b c
 filled_made a b c q = ap (λ (x : Bool). x || (eqb b 255 && not (eqb c 0))) q
-
--- ---- all_filled
-
-pub record Triples (s : List ℕ) (i : ℕ) (all : Bool) (j : ℕ) : Type 0 where
-  pub few : j ≤ 32
-  pub same : all ≡ true → AllFilled s i j
-
-pub triples_begun : (s : List ℕ) (i : ℕ) → Triples s i true 0
-triples_begun s i = record { few = omega arith; same = λ e k l. absurd (omega arith) }
-
-module _ (s : List ℕ) (i : ℕ) (all : Bool) (j : ℕ) (c : Triples s i all j) where
-  pub triples_on : {b : Bool} → j < 32 → b ≡ filled_triple (get_or s (i + j) 0) (get_or s (i + j + 1) 0) (get_or s (i + j + 2) 0) → Triples s i (all && b) (j + 1)
-  triples_on {b} l q =
-      record {
-        few = omega arith;
-        same = λ e k h.
-            let y = (says_and (says_true all) (says_true b)).told e in
-            ⊎_elim
-            (λ (z : k ≡ j).
-            subst (λ (m : ℕ). filled_triple (get_or s (i + m) 0) (get_or s (i + m + 1) 0) (get_or s (i + m + 2) 0) ≡ true) (sym z) (sym q ∙ y.1))
-            (λ (z : k ≢ j). c.same y.0 k (omega arith))
-            (says_else (says_eq k j));
-      }
-
-  pub triples_all : 32 ≤ j → all ≡ true → AllFilled s i 32
-  triples_all h e k l = let f = c.few in c.same e k (omega arith)
-
-pub ruleset triples = (rules, triples_begun, triples_on, triples_all)
 
 -- ---- clears
 
@@ -107,7 +81,7 @@ pub ruleset passing = (rules, pass_begun, pass_on)
 -- ---- next_marker
 
 -- one octet or none is no marker
-scan_last : (s : List ℕ) (i : ℕ) → length s ≤ i + 1 → scan_of s i ≡ Found.Nothing
+scan_last : (s : List ℕ) (i : ℕ) → length s ≤ i + 1 → scan_of s i ≡ None
 scan_last s i h =
     ⊎_elim
     (λ (e : get_or s i 0 ≡ 0xFF). run_over s i (i + 1) e (end_over 0xFF s (i + 1) h) h)
@@ -118,16 +92,16 @@ pub next_ahead : (s : List ℕ) (i : ℕ) {e : ℕ} → e ≡ fill_end s (i + 2)
 next_ahead s i q = let a = end_ahead 0xFF s (i + 2) in omega arith
 
 module _ (s : List ℕ) (from : ℕ) where
-  pub next_past : length s ≤ from → Shows s Next.Nothing (scan_of s from)
+  pub next_past : length s ≤ from → Shows s None (scan_of s from)
   unfolding Shows
   next_past h = scan_over s from h
 
-  pub next_few : length s - from < 2 → Shows s Next.Nothing (scan_of s from)
+  pub next_few : length s - from < 2 → Shows s None (scan_of s from)
   unfolding Shows
   next_few h = scan_last s from (omega arith)
 
   module _ (i : ℕ) (c : Suspect s from i) where
-    pub next_end : length s - i < 2 → Shows s Next.Nothing (scan_of s from)
+    pub next_end : length s - i < 2 → Shows s None (scan_of s from)
     unfolding Shows
     next_end h = c.same ∙ scan_last s i (omega arith)
 
@@ -137,14 +111,14 @@ module _ (s : List ℕ) (from : ℕ) where
 
       -- a run that is no data, with its code at e
       found : (e : ℕ) → fill_end s (i + 1) ≡ e → e < length s → (DataRun (e - (i + 1)) (get_or s e 0) → ⊥) → (next : ℕ) → e + 1 ≡ next
-          → Shows s (Next.At i (get_or s e 0) next) (scan_of s from)
+          → Shows s (Some (record { place = i; code = get_or s e 0; next = next })) (scan_of s from)
       unfolding Shows
       found e q l n next z = (
         c.same ∙ run_here s i e first q l n,
         marker_is s i (get_or s e 0) (e + 1) (run_marked s i (omega arith) first e (sym q) l) ∙ ap (Code (get_or s e 0)) z,
       )
 
-      pub next_bare : (get_or s (i + 1) 0 ≡ 255 → ⊥) → Shows s (Next.At i (get_or s (i + 1) 0) (i + 2)) (scan_of s from)
+      pub next_bare : (get_or s (i + 1) 0 ≡ 255 → ⊥) → Shows s (Some (record { place = i; code = get_or s (i + 1) 0; next = i + 2 })) (scan_of s from)
       next_bare n =
           found (i + 1) (end_here 0xFF s (i + 1) (omega arith) n) (omega arith) (λ d. no_data (c.second (omega arith)) d) (i + 2) (omega arith)
         where
@@ -159,7 +133,7 @@ module _ (s : List ℕ) (from : ℕ) where
         ahead : i + 2 ≤ e
         ahead = let a = end_ahead 0xFF s (i + 2) in omega arith
 
-        pub next_cut : length s ≤ e → Shows s Next.Nothing (scan_of s from)
+        pub next_cut : length s ≤ e → Shows s None (scan_of s from)
         unfolding Shows
         next_cut l = c.same ∙ run_over s i e first run_end_lem l
 
@@ -167,14 +141,14 @@ module _ (s : List ℕ) (from : ℕ) where
           says_this : Says (data_run (e - i) (get_or s e 0)) (DataRun (e - (i + 1)) (get_or s e 0))
           says_this = let a = ahead in says_run (e - i) (e - (i + 1)) (get_or s e 0) (omega arith)
 
-          pub next_here : b ≡ false → Shows s (Next.At i (get_or s e 0) (e + 1)) (scan_of s from)
+          pub next_here : b ≡ false → Shows s (Some (record { place = i; code = get_or s e 0; next = e + 1 })) (scan_of s from)
           next_here f = found e run_end_lem l (λ d. false≢true (sym (sym t ∙ f) ∙ says_this.shown d)) (e + 1) refl
 
           module _ (y : b ≡ true) {j : ℕ} (k : Clears s (e + 1) j) where
             passed : scan_of s from ≡ scan_of s j
             passed = c.same ∙ run_next s i e first run_end_lem l (says_this.told (sym t ∙ y)) ∙ k.same
 
-            pub next_over : length s - j < 2 → Shows s Next.Nothing (scan_of s from)
+            pub next_over : length s - j < 2 → Shows s None (scan_of s from)
             unfolding Shows
             next_over m = passed ∙ scan_last s j (omega arith)
 

@@ -4,8 +4,7 @@
 --   AllFilled s i n     so are the n octets from i on
 --   Clears s from r     scan data from one place on goes on at another
 --   Shows s r found     the next marker, with its code and the place after it, or that there is none
-use Rattle.std.specs.Prelude.{ℕ, ◌+◌, ◌≤◌, ◌<◌, Bool, true, ◌&&◌, ◌||◌, not, List, ◌≡◌, length, get_or, eqb}
-use Rattle.jpeg_rules.specs.declared.Found.{Found}
+use Rattle.std.specs.Prelude.{ℕ, ◌+◌, ◌≤◌, ◌<◌, Bool, true, ◌&&◌, ◌||◌, not, List, ◌≡◌, length, get_or, eqb, Option, Some, None}
 use Rattle.jpeg_rules.specs.declared.Marker.TheVariants.{Code}
 use Rattle.jpeg_rules.specs.Marker.{marker_of}
 use Rattle.jpeg_rules.specs.Walk.{scan_of}
@@ -23,6 +22,6 @@ pub record Clears (s : List ℕ) (from r : ℕ) : Type 0 where
   pub inside : r ≤ length s
   pub same : scan_of s from ≡ scan_of s r
 
-unfoldable pub Shows : List ℕ → Next → Found → Type 0
-Shows s (Next.At place code next) found = (found ≡ Found.At place) × (marker_of s place ≡ Code code next)
-Shows s Next.Nothing found = found ≡ Found.Nothing
+unfoldable pub Shows : List ℕ → Option Next → Option ℕ → Type 0
+Shows s (Some n) found = (found ≡ Some n.place) × (marker_of s n.place ≡ Code n.code n.next)
+Shows s None found = found ≡ None

@@ -7,22 +7,21 @@ ghost use Rattle.jpeg_scan.specs.Search.{filled_triple, AllFilled, Clears, Shows
 
 // The first FF of its run, its code and the place after that; or there is none.
 #[derive(Clone, Copy)]
-pub enum Next {
-    At { place: usize, code: u8, next: usize },
-    Nothing,
+pub struct Next {
+    pub place: usize,
+    pub code: u8,
+    pub next: usize,
 }
 
 // FF 00, and any run before D0 to D7.
 fn is_data(run: usize, code: u8) -> bool
     ensures { result ≡ data_run run code }
 {
-    if code == 0x00 {
-        return run == 1;
+    match code {
+        0x00 => run == 1,
+        0xD0..=0xD7 => true,
+        _ => false,
     }
-    if code < 0xD0 {
-        return false;
-    }
-    code <= 0xD7
 }
 
 // A pair that is data, or FF FF with no 00 after it.
@@ -36,13 +35,7 @@ fn all_filled(s: &[u8], i: usize) -> bool
     requires { i + 33 < length s.now }
     ensures { result ≡ true → AllFilled s.now i 32 }
 {
-    let mut all = true;
-    let mut j = 0;
-    while j < 32 {
-        all = all & is_filled(s[i + j], s[i + j + 1], s[i + j + 2]);
-        j += 1;
-    }
-    all
+    octets_run::each::<32, _>(|j| is_filled(s[i + j], s[i + j + 1], s[i + j + 2]))
 }
 
 // Data with fill before its restart markers, of which 32 octets are passed; a run that goes on behind them is not.
@@ -62,60 +55,48 @@ fn pass_filled(s: &[u8], from: usize) -> usize
     ensures { Clears s.now from result }
 {
     let mut i = from;
-    let mut k: usize = 0;
-    while k < 8 {
-        if s.len() - i < 34 {
+    for _ in 0..8 {
+        if s.len() - i < 34 || !clears(s, i) {
             return i;
         }
-        if clears(s, i) {
-            i += 32;
-        } else {
-            return i;
-        }
-        k += 1;
+        i += 32;
     }
     i
 }
 
 // Where scan data that begins at `from` ends: from one pair that is more than data to the next.
-pub fn next_marker(s: &[u8], from: usize) -> Next
+pub fn next_marker(s: &[u8], from: usize) -> Option<Next>
     ensures { Shows s.now result (scan_of s.now from) }
 {
     let n = s.len();
-    if n <= from {
-        return Next::Nothing;
-    }
-    if n - from < 2 {
-        return Next::Nothing;
+    if n <= from || n - from < 2 {
+        return None;
     }
     let mut i = jpeg_pairs::suspect(s, from);
-    loop {
-        if n - i < 2 {
-            return Next::Nothing;
-        }
+    while 2 <= n - i {
         if s[i + 1] != 0xFF {
-            return Next::At {
+            return Some(Next {
                 place: i,
                 code: s[i + 1],
                 next: i + 2,
-            };
+            });
         }
         let e = octets_run::run_end(s, 0xFF, i + 2);
         if n <= e {
-            return Next::Nothing;
+            return None;
         }
-        if is_data(e - i, s[e]) {
-            let j = pass_filled(s, e + 1);
-            if n - j < 2 {
-                return Next::Nothing;
-            }
-            i = jpeg_pairs::suspect(s, j);
-        } else {
-            return Next::At {
+        if !is_data(e - i, s[e]) {
+            return Some(Next {
                 place: i,
                 code: s[e],
                 next: e + 1,
-            };
+            });
         }
+        let j = pass_filled(s, e + 1);
+        if n - j < 2 {
+            return None;
+        }
+        i = jpeg_pairs::suspect(s, j);
     }
+    None
 }

@@ -5,25 +5,26 @@ ghost use Rattle.std.specs.Prelude.{◌≡◌, ◌≤◌, length};
 ghost use Rattle.jpeg_rules.specs.Walk.{seg_of, resolves, tag_of, moved, segment_of};
 ghost use Rattle.jpeg_segment.specs.Room.{Room};
 
-use jpeg_rules::{Fault, G3FAX, Reach, Said, Seg, Tag, Turn, Walk};
+use jpeg_rules::{Fault, G3FAX, Reach, Said, Turn};
+use std::ops::ControlFlow;
 
 // The length counts itself (T.81 B.1.1.4). It is compared with the room left, since `n + len` can wrap.
-pub fn seg_at(s: &[u8], n: usize, least: u16) -> Seg
+pub fn seg_at(s: &[u8], n: usize, least: u16) -> Result<usize, Fault>
     requires { n ≤ length s.now }
     ensures { result ≡ seg_of s.now n least }
 {
     if s.len() - n < 2 {
-        return Seg::Refused(Fault::Short(n));
+        return Err(Fault::Short(n));
     }
     let size = octets_get::be16(s, n);
     if size < least {
-        return Seg::Refused(Fault::BadLength(n));
+        return Err(Fault::BadLength(n));
     }
     let len = size as usize;
     if s.len() - n < len {
-        return Seg::Refused(Fault::Short(n + 2));
+        return Err(Fault::Short(n + 2));
     }
-    Seg::Body(n + len)
+    Ok(n + len)
 }
 
 pub fn moved_to(st: Reach, at: usize, res: u16) -> Reach
@@ -31,35 +32,29 @@ pub fn moved_to(st: Reach, at: usize, res: u16) -> Reach
 {
     Reach {
         at,
-        framed: st.framed,
-        scanned: st.scanned,
-        said: Said {
-            width: st.said.width,
-            height: st.said.height,
-            res,
-            components: st.said.components,
-        },
+        said: Said { res, ..st.said },
+        ..st
     }
 }
 
 // 01: only the first tagged segment gives the resolution; one that is too short for it is no tagged one.
-fn tag_of(s: &[u8], st: Reach, code: u8, n: usize, next: usize) -> Tag
+fn tag_of(s: &[u8], st: Reach, code: u8, n: usize, next: usize) -> Option<u16>
     requires { Room s.now n 2 next }
     ensures { result ≡ tag_of s.now st code n }
 {
     if code != 0xE1 {
-        return Tag::Plain;
+        return None;
     }
     if st.said.res != 0 {
-        return Tag::Plain;
+        return None;
     }
     if next - n < 12 {
-        return Tag::Plain;
+        return None;
     }
     if octets_get::stands_at(s, n + 2, &G3FAX) {
-        Tag::Gives(octets_get::be16(s, n + 10))
+        Some(octets_get::be16(s, n + 10))
     } else {
-        Tag::Plain
+        None
     }
 }
 
@@ -73,15 +68,16 @@ pub fn segment_step(s: &[u8], main: u16, st: Reach, code: u8, n: usize) -> Turn
     requires { n ≤ length s.now }
     ensures { result ≡ segment_of s.now main st code n }
 {
+    // a match, since `?` does not go from a Result to a ControlFlow, whose Break has good ends too
     match seg_at(s, n, 2) {
-        Seg::Refused(f) => Turn::Stop(Walk::Refused(f)),
-        Seg::Body(next) => match tag_of(s, st, code, n, next) {
-            Tag::Plain => Turn::Go(moved_to(st, next, st.said.res)),
-            Tag::Gives(r) => {
+        Err(f) => ControlFlow::Break(Err(f)),
+        Ok(next) => match tag_of(s, st, code, n, next) {
+            None => ControlFlow::Continue(moved_to(st, next, st.said.res)),
+            Some(r) => {
                 if resolution_fits(main, r) {
-                    Turn::Go(moved_to(st, next, r))
+                    ControlFlow::Continue(moved_to(st, next, r))
                 } else {
-                    Turn::Stop(Walk::Refused(Fault::BadRes(n + 10)))
+                    ControlFlow::Break(Err(Fault::BadRes(n + 10)))
                 }
             }
         },

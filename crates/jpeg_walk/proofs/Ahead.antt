@@ -12,21 +12,15 @@ use Rattle.octets.specs.Octets.{be16_at}
 use Rattle.jpeg_rules.specs.declared.Class.{Class}
 use Rattle.jpeg_rules.specs.declared.Class.TheVariants.{Alone, Frame, Scan, End, Wrong, Segment}
 use Rattle.jpeg_rules.specs.declared.Fault.TheVariants.{BadRes}
-use Rattle.jpeg_rules.specs.declared.Found.{Found}
-use Rattle.jpeg_rules.specs.declared.Found.TheVariants.{At, Nothing}
+use Rattle.std.specs.Prelude.{Option, Some, None, Result, Ok, Err}
+use Rattle.jpeg_rules.specs.declared.Fault.{Fault}
+use Rattle.jpeg_rules.specs.declared.Said.{Said}
 use Rattle.jpeg_rules.specs.declared.Marker.{Marker}
 use Rattle.jpeg_rules.specs.declared.Marker.TheVariants.{Code, Missing, Cut}
 use Rattle.jpeg_rules.specs.declared.Reach.{Reach}
-use Rattle.jpeg_rules.specs.declared.Seg.{Seg}
-use Rattle.jpeg_rules.specs.declared.Seg.TheVariants.{Body}
-use Rattle.jpeg_rules.specs.declared.Tag.{Tag}
-use Rattle.jpeg_rules.specs.declared.Tag.TheVariants.{Gives, Plain}
-use Rattle.jpeg_rules.specs.declared.Turn.{Turn}
-use Rattle.jpeg_rules.specs.declared.Turn.TheVariants.{Go, Stop}
-use Rattle.jpeg_rules.specs.declared.Walk.{Walk}
-use Rattle.jpeg_rules.specs.declared.Walk.TheVariants.{Ends}
+use Rattle.jpeg_rules.specs.Walk.{Turn, seg_of, scan_of, resolves, tag_of, passed, moved, refused, on_body, on_found, on_tag, on_marker, components_ok, frame_body_of, frame_of, scan_step_of, segment_of, end_of, mark_of, turn_of, on_turn, walk_from, begun, walk_of}
+use Rattle.std.specs.declared.ops.ControlFlow.TheVariants.{Continue, Break}
 use Rattle.jpeg_rules.specs.Marker.{class_of, marker_of}
-use Rattle.jpeg_rules.specs.Walk.{seg_of, scan_of, resolves, tag_of, passed, moved, refused, on_body, on_found, on_tag, on_marker, components_ok, frame_body_of, frame_of, scan_step_of, segment_of, end_of, mark_of, turn_of, on_turn, walk_from, begun, walk_of}
 use Rattle.jpeg_rules.proofs.Runs.{marker_back}
 use Rattle.jpeg_rules.proofs.Scans.{scan_back}
 use Rattle.jpeg_segment.specs.Room.{Room}
@@ -52,16 +46,16 @@ behind s at c n e b = let h = rw (sym e ∙ b) at (marked s at) in h.1
 
 -- ---- scan data
 
-abbrev Past : List ℕ → ℕ → Found → Type 0
-Past s i Nothing = Unit {0}
-Past s i (At p) = (i ≤ p) × (p < length s)
+abbrev Past : List ℕ → ℕ → Option ℕ → Type 0
+Past s i None = Unit {0}
+Past s i (Some p) = (i ≤ p) × (p < length s)
 
 past_scan : (s : List ℕ) (i : ℕ) → Past s i (scan_of s i)
 past_scan s i = by (scan_of s i) refl
   where
-    by : (x : Found) → scan_of s i ≡ x → Past s i x
-    by Nothing e = tt
-    by (At p) e =
+    by : (x : Option ℕ) → scan_of s i ≡ x → Past s i x
+    by None e = tt
+    by (Some p) e =
         let k = scan_back s i p e in
         let a = k.marked.ends in
         let b = k.marked.inside in
@@ -70,19 +64,19 @@ past_scan s i = by (scan_of s i) refl
 -- ---- one marker
 
 abbrev pub Ahead : List ℕ → Reach → Turn → Type 0
-Ahead s st (Go t) = (st.at + 2 ≤ t.at) × (t.at ≤ length s)
-Ahead s st (Stop (Ends e said)) = (st.at + 2 ≤ e) × (e ≤ length s)
-Ahead s st (Stop (Walk.Refused f)) = Unit {0}
+Ahead s st (Continue t) = (st.at + 2 ≤ t.at) × (t.at ≤ length s)
+Ahead s st (Break (Ok (e, said))) = (st.at + 2 ≤ e) × (e ≤ length s)
+Ahead s st (Break (Err f)) = Unit {0}
 
-ahead_body : (s : List ℕ) (st : Reach) (n least : ℕ) (g : Seg) (f : ℕ → Turn)
+ahead_body : (s : List ℕ) (st : Reach) (n least : ℕ) (g : Result ℕ Fault) (f : ℕ → Turn)
     → Roomy s n least g → ((next : ℕ) → Room s n least next → Ahead s st (f next)) → Ahead s st (on_body g f)
-ahead_body s st n least (Body next) f r h = h next r
-ahead_body s st n least (Seg.Refused x) f r h = tt
+ahead_body s st n least (Ok next) f r h = h next r
+ahead_body s st n least (Err x) f r h = tt
 
-ahead_found : (s : List ℕ) (st : Reach) (from : ℕ) (g : Found)
-    → st.at + 2 ≤ from → Past s from g → Ahead s st (on_found g from (λ (p : ℕ). Go (passed st p)))
-ahead_found s st from (At p) l h = omega arith
-ahead_found s st from Nothing l h = tt
+ahead_found : (s : List ℕ) (st : Reach) (from : ℕ) (g : Option ℕ)
+    → st.at + 2 ≤ from → Past s from g → Ahead s st (on_found g from (λ (p : ℕ). Continue (passed st p)))
+ahead_found s st from (Some p) l h = omega arith
+ahead_found s st from None l h = tt
 
 module _ (s : List ℕ) (st : Reach) (n : ℕ) (l : st.at + 2 ≤ n) (m : n ≤ length s) where
   ahead_frame : Ahead s st (frame_of s st n)
@@ -103,10 +97,10 @@ module _ (s : List ℕ) (st : Reach) (n : ℕ) (l : st.at + 2 ≤ n) (m : n ≤ 
       ahead_body s st n 2 (seg_of s n 2) _ (roomy s n 2) λ next r. ahead_found s st next (scan_of s next) (omega (arith, l)) (past_scan s next))
       (λ _. tt)
 
-  ahead_tag : (main next : ℕ) (t : Tag) → Room s n 2 next
-      → Ahead s st (on_tag t (Go (moved st next st.said.res)) (λ (r : ℕ). cond (resolves main r) (Go (moved st next r)) (refused (BadRes (n + 10)))))
-  ahead_tag main next Plain r = omega (arith, l)
-  ahead_tag main next (Gives x) r = cond_with (Ahead s st) (resolves main x) (λ _. omega (arith, l)) (λ _. tt)
+  ahead_tag : (main next : ℕ) (t : Option ℕ) → Room s n 2 next
+      → Ahead s st (on_tag t (Continue (moved st next st.said.res)) (λ (r : ℕ). cond (resolves main r) (Continue (moved st next r)) (refused (BadRes (n + 10)))))
+  ahead_tag main next None r = omega (arith, l)
+  ahead_tag main next (Some x) r = cond_with (Ahead s st) (resolves main x) (λ _. omega (arith, l)) (λ _. tt)
 
   ahead_segment : (main c : ℕ) → Ahead s st (segment_of s main st c n)
   unfolding segment_of
@@ -137,13 +131,13 @@ ahead s main st = ahead_marker s main st (marker_of s st.at) (marked s st.at)
 
 -- ---- the walk
 
-abbrev pub Reaches : List ℕ → ℕ → Walk → Type 0
-Reaches s at (Ends e said) = (at ≤ e) × (e ≤ length s)
-Reaches s at (Walk.Refused f) = Unit {0}
+abbrev pub Reaches : List ℕ → ℕ → Result (ℕ × Said) Fault → Type 0
+Reaches s at (Ok (e, said)) = (at ≤ e) × (e ≤ length s)
+Reaches s at (Err f) = Unit {0}
 
-further : (s : List ℕ) (i j : ℕ) → i ≤ j → (w : Walk) → Reaches s j w → Reaches s i w
-further s i j h (Ends e said) k = omega arith
-further s i j h (Walk.Refused f) k = tt
+further : (s : List ℕ) (i j : ℕ) → i ≤ j → (w : Result (ℕ × Said) Fault) → Reaches s j w → Reaches s i w
+further s i j h (Ok (e, said)) k = omega arith
+further s i j h (Err f) k = tt
 
 reaches : (k : ℕ) (s : List ℕ) (main : ℕ) (st : Reach) → Reaches s st.at (walk_from k s main st)
 unfolding walk_from
@@ -151,9 +145,9 @@ reaches zero s main st = tt
 reaches (suc k) s main st = by (turn_of s main st) (ahead s main st) (λ u. reaches k s main u)
   where
     by : (t : Turn) → Ahead s st t → ((u : Reach) → Reaches s u.at (walk_from k s main u)) → Reaches s st.at (on_turn t (λ (u : Reach). walk_from k s main u))
-    by (Go t) h more = further s st.at t.at (omega arith) (walk_from k s main t) (more t)
-    by (Stop (Ends e said)) h more = omega arith
-    by (Stop (Walk.Refused f)) h more = tt
+    by (Continue t) h more = further s st.at t.at (omega arith) (walk_from k s main t) (more t)
+    by (Break (Ok (e, said))) h more = omega arith
+    by (Break (Err f)) h more = tt
 
 -- a walk that ends does so within the list, and not before its start
 pub walk_inside : (s : List ℕ) (start main : ℕ) → Reaches s start (walk_of s start main)

@@ -6,20 +6,19 @@ ghost use Rattle.jpeg_rules.specs.Marker.{class_of};
 ghost use Rattle.jpeg_marks.specs.Step.{Leads};
 ghost use Rattle.jpeg_rules.specs.Walk.{mark_of, walk_of};
 
-use jpeg_marks::Step;
+use jpeg_marks::{Due, Step};
 use jpeg_rules::{Class, Fault, Marker, Reach, Said, Turn, Walk};
+use std::ops::ControlFlow;
 
 // A turn, and the marker that is due after it. In a scan that marker is known already.
 fn after(s: &[u8], turn: Turn) -> Step
     ensures { (main : ℕ) → Leads s.now main result turn }
 {
-    match turn {
-        Turn::Go(st) => match jpeg_marker::marker_at(s, st.at) {
-            Marker::Code { code, next } => Step::Go { st, code, next },
-            Marker::Missing => Step::Stop(Walk::Refused(Fault::BadLayer(st.at))),
-            Marker::Cut => Step::Stop(Walk::Refused(Fault::Short(st.at))),
-        },
-        Turn::Stop(w) => Step::Stop(w),
+    let st = turn?;
+    match jpeg_marker::marker_at(s, st.at) {
+        Marker::Code { code, next } => ControlFlow::Continue(Due { st, code, next }),
+        Marker::Missing => ControlFlow::Break(Err(Fault::BadLayer(st.at))),
+        Marker::Cut => ControlFlow::Break(Err(Fault::Short(st.at))),
     }
 }
 
@@ -29,11 +28,14 @@ fn mark_step(s: &[u8], main: u16, st: Reach, code: u8, n: usize) -> Step
     ensures { Leads s.now main result (mark_of s.now main st code n (class_of code)) }
 {
     match jpeg_marker::class_of(code) {
-        Class::Alone => after(s, Turn::Go(jpeg_segment::moved_to(st, n, st.said.res))),
+        Class::Alone => after(
+            s,
+            ControlFlow::Continue(jpeg_segment::moved_to(st, n, st.said.res)),
+        ),
         Class::Frame => after(s, jpeg_marks::frame_step(s, st, n)),
         Class::Scan => jpeg_marks::scan_step(s, st, n),
         Class::End => after(s, jpeg_marks::end_step(st, n)),
-        Class::Wrong => Step::Stop(Walk::Refused(Fault::BadLayer(st.at))),
+        Class::Wrong => ControlFlow::Break(Err(Fault::BadLayer(st.at))),
         Class::Segment => after(s, jpeg_segment::segment_step(s, main, st, code, n)),
     }
 }
@@ -42,21 +44,15 @@ fn mark_step(s: &[u8], main: u16, st: Reach, code: u8, n: usize) -> Step
 pub fn walk_layer(s: &[u8], start: usize, main: u16) -> Walk
     ensures { result ≡ walk_of s.now start main }
 {
-    if s.len() <= start {
-        return Walk::Refused(Fault::Short(start));
+    if s.len() <= start || s.len() - start < 2 {
+        return Err(Fault::Short(start));
     }
-    if s.len() - start < 2 {
-        return Walk::Refused(Fault::Short(start));
-    }
-    if s[start] != 0xFF {
-        return Walk::Refused(Fault::BadLayer(start));
-    }
-    if s[start + 1] != 0xD8 {
-        return Walk::Refused(Fault::BadLayer(start));
+    if s[start] != 0xFF || s[start + 1] != 0xD8 {
+        return Err(Fault::BadLayer(start));
     }
     let mut step = after(
         s,
-        Turn::Go(Reach {
+        ControlFlow::Continue(Reach {
             at: start + 2,
             framed: false,
             scanned: false,
@@ -70,10 +66,10 @@ pub fn walk_layer(s: &[u8], start: usize, main: u16) -> Walk
     );
     loop {
         match step {
-            Step::Go { st, code, next } => {
-                step = mark_step(s, main, st, code, next);
+            ControlFlow::Continue(due) => {
+                step = mark_step(s, main, due.st, due.code, due.next);
             }
-            Step::Stop(w) => {
+            ControlFlow::Break(w) => {
                 return w;
             }
         }

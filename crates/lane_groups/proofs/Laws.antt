@@ -1,6 +1,6 @@
 -- One law for each way out of the functions that group lines: its premises are what is known there.
 -- Assumes nothing.
-use Prim.Native.Nat.{ℕ, ◌+◌, ◌-◌, ◌*◌, ◌/◌, ◌%◌, ◌≤◌, ◌<◌}
+use Prim.Native.Nat.{ℕ, ◌+◌, ◌-◌, ◌*◌, ◌/◌, ◌%◌, ◌≤◌, ◌<◌, min}
 use native.Mathlib.Nat.{div-eq_of_lt-le, div-add-mod', mod-lt, mod-one, add-mul, one-mul, mul-zero}
 use native.Mathlib.Omega.{arith}
 use mathlib.Core.Path.{◌≡◌, refl, sym, ap, subst, ◌∙◌}
@@ -83,15 +83,13 @@ module _ (w : Lane) (y : ℕ) where
       ∙ sym (ap (λ (i : ℕ). (scale w.ratio w.top (record { 0 = y })).0 * i) e ∙ mul-zero (scale w.ratio w.top (record { 0 = y })).0))
 
   pub same_sample_lem : (left n : ℕ) → LaneFits w → w.top.0 ≤ y → y < w.bottom.0 → (1 ≤ left) × ((y - w.top.0) % w.ratio + left ≤ w.ratio)
-      → (n ≤ left) × (n ≤ w.bottom.0 - y) × (1 ≤ left → 1 ≤ w.bottom.0 - y → 1 ≤ n) → Same w y n
+      → n ≡ min left (w.bottom.0 - y) → Same w y n
   unfolding scale
   same_sample_lem left n f a b l g =
       let s = f.some in
       let l₀ = l.0 in
       let l₁ = l.1 in
-      let g₀ = g.0 in
-      let g₁ = g.1 in
-      same_places n (g.2 l₀ (omega arith)) (omega arith) (omega arith)
+      same_places n (omega arith) (omega arith) (omega arith)
       (λ t k.
       let z : y + t - w.top.0 ≡ y - w.top.0 + t = omega arith in
       ap (λ (i : ℕ). i * w.step) (ap (λ (i : ℕ). i / w.ratio) z ∙ same_div w.ratio (y - w.top.0) t s (omega arith)))
@@ -104,45 +102,47 @@ module _ (ns : List ℕ) (l y g : ℕ) where
   pub fewer_two : l ≡ 2 → 1 ≤ g → Fewer ns l y g g
   fewer_two e h = record { some = h; most = omega arith; row = λ n. absurd (n e) }
 
-  pub fewer_same : (w : Lane) (m r : ℕ) → w ≡ lane_at ns l → 1 ≤ g → Same w y m → (r ≤ g) × (r ≤ m) × (1 ≤ g → 1 ≤ m → 1 ≤ r) → Fewer ns l y g r
+  pub fewer_same : (w : Lane) (m r : ℕ) → w ≡ lane_at ns l → 1 ≤ g → Same w y m → r ≡ min g m → Fewer ns l y g r
   fewer_same w m r e h s k =
-      let k₁ = k.1 in
-      record { some = k.2 h s.some; most = k.0; row = λ n t q. subst (λ (v : Lane). row_from v (record { 0 = y + t }) ≡ row_from v (record { 0 = y })) e (s.row t (omega arith)) }
+      let o = s.some in
+      record { some = omega arith; most = omega arith; row = λ n t q. subst (λ (v : Lane). row_from v (record { 0 = y + t }) ≡ row_from v (record { 0 = y })) e (s.row t (omega arith)) }
 
 pub lane_fits : (ns : List ℕ) (l : ℕ) (w : Lane) → LaneFits (lane_at ns l) → w ≡ lane_at ns l → LaneFits w
 lane_fits ns l w f e = subst LaneFits (sym e) f
 
 pub ruleset fewering = (rules, fewer_two, fewer_same, lane_fits)
 
--- so many layers are looked at
+-- the layers below l are looked at
 pub record Grouping (ns : List ℕ) (n y most g l : ℕ) : Type 0 where
-  pub upto : l ≤ n
+  pub first : 1 ≤ l
+  pub upto : l ≤ n + 1
   pub some : 1 ≤ g
   pub few : g ≤ most
-  pub row : (i : ℕ) → 1 ≤ i → i ≤ l → i ≢ 2 → (t : ℕ) → t < g → row_from (lane_at ns i) (record { 0 = y + t }) ≡ row_from (lane_at ns i) (record { 0 = y })
+  pub row : (i : ℕ) → 1 ≤ i → i < l → i ≢ 2 → (t : ℕ) → t < g → row_from (lane_at ns i) (record { 0 = y + t }) ≡ row_from (lane_at ns i) (record { 0 = y })
 
 module _ (ns : List ℕ) (n y most : ℕ) where
-  pub grouping_none : 1 ≤ most → Grouping ns n y most most 0
-  grouping_none h = record { upto = omega arith; some = h; few = omega arith; row = λ i a b. absurd (omega arith) }
+  pub grouping_none : 1 ≤ most → Grouping ns n y most most 1
+  grouping_none h = record { first = omega arith; upto = omega arith; some = h; few = omega arith; row = λ i a b. absurd (omega arith) }
 
   module _ (g l : ℕ) (c : Grouping ns n y most g l) where
-    pub grouping_more : (r : ℕ) → l < n → Fewer ns (l + 1) y g r → Grouping ns n y most r (l + 1)
+    pub grouping_more : (r : ℕ) → l ≤ n → Fewer ns l y g r → Grouping ns n y most r (l + 1)
     grouping_more r h f =
         let m = f.most in
         let k = c.few in
         record {
+          first = omega arith;
           upto = omega arith;
           some = f.some;
           few = omega arith;
           row = λ i a b d t q. ⊎_elim
-              (λ (z : i < l + 1). c.row i a (omega arith) d t (omega arith))
-              (λ (z : i < l + 1 → ⊥).
-              let e : i ≡ l + 1 = omega arith in
+              (λ (z : i < l). c.row i a z d t (omega arith))
+              (λ (z : i < l → ⊥).
+              let e : i ≡ l = omega arith in
               subst (λ (j : ℕ). row_from (lane_at ns j) (record { 0 = y + t }) ≡ row_from (lane_at ns j) (record { 0 = y })) (sym e) (f.row (λ o. d (e ∙ o)) t q))
-              (says_else (says_lt i (l + 1)));
+              (says_else (says_lt i l));
         }
 
-    pub grouping_end : n ≤ l → Grouped ns n y most g
+    pub grouping_end : n < l → Grouped ns n y most g
     grouping_end h = record { some = c.some; few = c.few; row = λ i a b. c.row i a (let u = c.upto in omega arith) }
 
     -- one line has its own rows
@@ -155,13 +155,32 @@ module _ (ns : List ℕ) (n y most : ℕ) where
     pub grouping_some : 1 ≤ g
     grouping_some = c.some
 
-pub lanes_there : (ns : List ℕ) (n l : ℕ) → LanesFit ns n → l < n → (l + 1) * lane_size ≤ length ns
+    pub grouping_first : 1 ≤ l
+    grouping_first = c.first
+
+    -- with the last layer
+    pub grouping_last : (r : ℕ) → n ≤ l → l ≤ n → Fewer ns l y g r → Grouped ns n y most r
+    grouping_last r h k f =
+        let m = f.most in
+        let u = c.few in
+        record {
+          some = f.some;
+          few = omega arith;
+          row = λ i a b d t q. ⊎_elim
+              (λ (z : i < l). c.row i a z d t (omega arith))
+              (λ (z : i < l → ⊥).
+              let e : i ≡ l = omega arith in
+              subst (λ (j : ℕ). row_from (lane_at ns j) (record { 0 = y + t }) ≡ row_from (lane_at ns j) (record { 0 = y })) (sym e) (f.row (λ o. d (e ∙ o)) t q))
+              (says_else (says_lt i l));
+        }
+
+pub lanes_there : (ns : List ℕ) (n l : ℕ) → LanesFit ns n → l ≤ n → l * lane_size ≤ length ns
 lanes_there ns n l g h = let t = g.there in omega arith
 
-pub lanes_fit : (ns : List ℕ) (n l : ℕ) → LanesFit ns n → l < n → LaneFits (lane_at ns (l + 1))
-lanes_fit ns n l g h = g.each (l + 1) (omega arith) (omega arith)
+pub lanes_fit : (ns : List ℕ) (n l : ℕ) → LanesFit ns n → 1 ≤ l → l ≤ n → LaneFits (lane_at ns l)
+lanes_fit ns n l g o h = g.each l o h
 
-pub ruleset grouping = (rules, grouping_none, grouping_more, grouping_end, grouping_one, grouping_some, lanes_there, lanes_fit)
+pub ruleset grouping = (rules, grouping_none, grouping_more, grouping_end, grouping_one, grouping_some, grouping_first, grouping_last, lanes_there, lanes_fit)
 
 -- ---- layer 2
 

@@ -7,12 +7,6 @@ ghost use Rattle.lane_groups.specs.Groups.{Same, Fewer, Grouped, Steady};
 
 use line_lanes::Lane;
 
-pub fn least(a: usize, b: usize) -> usize
-    ensures { (result ≤ a) × (result ≤ b) × (1 ≤ a → 1 ≤ b → 1 ≤ result) }
-{
-    if a < b { a } else { b }
-}
-
 // How many lines from y on are left of a row of samples.
 fn lines_left(ratio: usize, down: usize) -> usize
     requires { 0 < ratio }
@@ -41,7 +35,7 @@ fn lines_of(w: Lane, y: usize) -> usize
     if w.step == 0 {
         return w.bottom.0 - y;
     }
-    least(lines_left(w.ratio, y - w.top.0), w.bottom.0 - y)
+    lines_left(w.ratio, y - w.top.0).min(w.bottom.0 - y)
 }
 
 // Of g lines from y on, those in which layer l has one row; layer 2 may have another in each.
@@ -53,7 +47,7 @@ fn fewer(lanes: &[usize], l: usize, y: usize, g: usize) -> usize
     if l == 2 {
         return g;
     }
-    least(g, lines_of(line_lanes::lane_at(lanes, l), y))
+    g.min(lines_of(line_lanes::lane_at(lanes, l), y))
 }
 
 // How many lines from y on, at most so many, have the rows of line y but for that of layer 2.
@@ -62,12 +56,10 @@ pub fn group_of(lanes: &[usize], n: usize, y: usize, most: usize) -> usize
     ensures { Grouped lanes.now n y most result }
 {
     let mut g = most;
-    let mut l = 0;
-    while l < n {
+    for l in 1..=n {
         if g <= 1 {
             return 1;
         }
-        l += 1;
         g = fewer(lanes, l, y, g);
     }
     g

@@ -1,2 +1,3 @@
 pub mod Says
 pub mod Cases
+pub mod Asked

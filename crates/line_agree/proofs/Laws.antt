@@ -1,32 +1,24 @@
--- One law for each way out of what two samples agree on: its premises are what is known there.
+-- What two samples agree on is the lower one where the two are equal, and else nothing.
 -- Assumes nothing.
-use mathlib.Core.Path.{◌≡◌, refl}
-use mathlib.Core.Bool.{Bool, true, false, ◌&&◌}
+use mathlib.Core.Path.{◌≡◌, refl, ap, ◌∙◌}
+use mathlib.Core.Bool.{Bool, true, false, cond, ◌&&◌}
 use lib.Dec.{eqb}
-use borrow.Author.Rules.{rules}
+use Rattle.std.specs.Option.{option_eq}
+use Rattle.std.specs.Prelude.{Option, Some, None}
 use Rattle.sheet_rules.specs.declared.Colour.{Colour}
-use Rattle.pixel_rules.specs.declared.Sample.{Sample}
-use Rattle.pixel_rules.specs.declared.Sample.TheVariants.{Known, Unknown}
+use Rattle.sheet_rules.specs.contracts.ColourPartialEq.TheImpl.{ghosts}
 use Rattle.pixel_rules.specs.Decide.{same_colour, agree}
 
-pub same_test : (c e : Colour) → eqb c.c0 e.c0 && eqb c.c1 e.c1 && eqb c.c2 e.c2 ≡ same_colour c e
-unfolding same_colour
-same_test c e = refl
+grouped : (a b c : Bool) → a && (b && c) ≡ a && b && c
+grouped true b c = refl
+grouped false b c = refl
 
-pub agree_same : (low up : Sample) (c e : Colour) (b : Bool) → low ≡ Known c → up ≡ Known e → b ≡ same_colour c e → b ≡ true → Known c ≡ agree low up
-unfolding agree
-agree_same low up c e b p q h t = rw (p, q, ← h, t)
-
-pub agree_other : (low up : Sample) (c e : Colour) (b : Bool) → low ≡ Known c → up ≡ Known e → b ≡ same_colour c e → b ≡ false → Unknown ≡ agree low up
-unfolding agree
-agree_other low up c e b p q h t = rw (p, q, ← h, t)
-
-pub agree_up : (low up : Sample) (c : Colour) → low ≡ Known c → up ≡ Unknown → Unknown ≡ agree low up
-unfolding agree
-agree_up low up c p q = rw (p, q)
-
-pub agree_low : (low up : Sample) → low ≡ Unknown → Unknown ≡ agree low up
-unfolding agree
-agree_low low up p = rw p
-
-pub ruleset agreeing = (rules, same_test, agree_same, agree_other, agree_up, agree_low)
+pub agree_tested : (low up : Option Colour) (b : Bool) → b ≡ option_eq ghosts.eq low up → cond b low None ≡ agree low up
+unfolding agree same_colour
+agree_tested low up b h = ap (λ (x : Bool). cond x low None) h ∙ by low up
+  where
+    by : (low up : Option Colour) → cond (option_eq ghosts.eq low up) low None ≡ agree low up
+    by (Some c) (Some e) = ap (λ (x : Bool). cond x (Some c) None) (grouped (eqb c.c0 e.c0) (eqb c.c1 e.c1) (eqb c.c2 e.c2))
+    by (Some c) None = refl
+    by None (Some e) = refl
+    by None None = refl

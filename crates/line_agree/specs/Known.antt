@@ -1,8 +1,7 @@
 -- Whether a sample is known.
-use Rattle.std.specs.Prelude.{Bool, true, false}
-use Rattle.pixel_rules.specs.declared.Sample.{Sample}
-use Rattle.pixel_rules.specs.declared.Sample.TheVariants.{Known, Unknown}
+use Rattle.std.specs.Prelude.{Bool, true, false, Option, Some, None}
+use Rattle.sheet_rules.specs.declared.Colour.{Colour}
 
-abbrev pub is_known : Sample → Bool
-is_known (Known c) = true
-is_known Unknown = false
+abbrev pub is_known : Option Colour → Bool
+is_known (Some c) = true
+is_known None = false

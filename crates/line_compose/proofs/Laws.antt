@@ -13,15 +13,15 @@ use Rattle.laws.proofs.Cases.{clash}
 use Rattle.octets.specs.Octets.{put_at}
 use Rattle.line_fetch.specs.Rows.{row_size, rows_size}
 use Rattle.sheet_rules.specs.StripeTable.{layer_record}
-use Rattle.answers.specs.declared.Answer.{Answer}
-use Rattle.answers.specs.declared.Answer.TheVariants.{Done, NoRoom}
+use Rattle.answers.specs.Answers.{Answer}
+use Rattle.answers.specs.declared.Refusal.TheVariants.{NoRoom}
 use Rattle.sheet_rules.specs.declared.Record.{Record}
 use Rattle.sheet_rules.specs.declared.Extent.{Extent}
-use Rattle.sheet_rules.specs.declared.FoundStripe.TheVariants.{Has}
+use Rattle.std.specs.Prelude.{Option, Some, Result, Ok, Err}
+use Rattle.answers.specs.declared.Refusal.{Refusal}
 use Rattle.sheet_rules.specs.Record.{record_size, record_at}
 use Rattle.pixel_rules.specs.declared.MainPos.{MainPos}
 use Rattle.sheet_rules.specs.declared.Colour.{Colour}
-use Rattle.pixel_rules.specs.declared.Sample.{Sample}
 use Rattle.pixel_rules.specs.Planes.{PlaneList, list_of}
 use Rattle.pixel_rules.specs.Samples.{Scene, width_of}
 use Rattle.pixel_rules.specs.Decide.{decide}
@@ -36,8 +36,6 @@ use Rattle.line_rows.specs.Rows.{rows_of, Standing}
 use Rattle.line_rows.proofs.Fit.{rows_fit, pixel_is}
 use Rattle.paint_floor.specs.Floors.{PlainRows}
 use Rattle.paint_line.proofs.Plain.{rows_plain, pairs_few}
-use Rattle.line_verdict.specs.declared.Ruled.{Ruled}
-use Rattle.line_verdict.specs.declared.Ruled.TheVariants.{Shows, Refused}
 use Rattle.line_verdict.specs.Ruled.{list_from, ruled_of}
 use Rattle.sheet_table.proofs.Found.{found_whole}
 use Rattle.line_compose.specs.Composing.{scene_from, Showable, Composed}
@@ -56,7 +54,7 @@ module _ (s : List ℕ) (extent : Extent) (t : Listing) (d : List ℕ) (y : ℕ)
 
   whole : extent.first + extent.layers ≤ length s / record_size
   whole =
-      (found_whole s g.stripe (Has extent) extent (record { records = stage.records; stripes = stage.stripes; good = stage.good }) (sym stage.found) refl).records
+      (found_whole s g.stripe (Some extent) extent (record { counts = record { records = stage.records; stripes = stage.stripes }; good = stage.good }) (sym stage.found) refl).records
 
   pub shown_place : extent.first + 1 < length s / record_size
   shown_place = let w = whole in let c = stage_layers stage in omega arith
@@ -86,7 +84,7 @@ module _ (s : List ℕ) (extent : Extent) (t : Listing) (d : List ℕ) (y : ℕ)
     unfolding line_pixels
     shown_pixels u =
         ap (λ (r : List ℕ). pixels u (λ (x : MainPos). decide (row_stack s d r x) (extent.layers / 2)) (width_of here)) e
-        ∙ ap (λ (f : MainPos → Sample). pixels u f (width_of here)) (λ i x. pixel_is here list g.stripe y (record { 0 = y }) stage whole base room x i)
+        ∙ ap (λ (f : MainPos → Option Colour). pixels u f (width_of here)) (λ i x. pixel_is here list g.stripe y (record { 0 = y }) stage whole base room x i)
 
   pub shown_fits : (rows : List ℕ) → rows ≡ put_at (replicate rows_size 0) 0 (rows_of s extent (entries_of t) (record { 0 = y }) extent.layers) → RowsFit s d rows (extent.layers / 2)
   shown_fits rows e = rows_shown (replicate rows_size 0) rows shown_rows e
@@ -109,19 +107,19 @@ module _ (s : List ℕ) (extent : Extent) (t : Listing) (d : List ℕ) (y : ℕ)
     wide_is : width ≡ width_of here
     wide_is = shown_wide second width es ew
 
-    pub shown_no_room : length out < width * 4 → Composed here y u out NoRoom out
+    pub shown_no_room : length out < width * 4 → Composed here y u out (Err NoRoom) out
     unfolding line_answer line_holds
     shown_no_room h =
         let z = lt-ltb (length out) (width_of here * 4) (subst (λ (n : ℕ). length out < n * 4) wide_is h) in
         record { answers = rw z refl; holds = rw z refl }
 
     pub shown_done : (rows e : List ℕ) → width * 4 ≤ length out → rows ≡ put_at (replicate rows_size 0) 0 (rows_of s extent (entries_of t) (record { 0 = y }) extent.layers)
-        → e ≡ put_at out 0 (pixels u (λ (x : MainPos). decide (row_stack s d rows x) (extent.layers / 2)) width) → Composed here y u out (Done (width * 4)) e
+        → e ≡ put_at out 0 (pixels u (λ (x : MainPos). decide (row_stack s d rows x) (extent.layers / 2)) width) → Composed here y u out (Ok (width * 4)) e
     unfolding line_answer line_holds
     shown_done rows e h er ee =
         let z = le-ltb (length out) (width_of here * 4) (subst (λ (n : ℕ). n * 4 ≤ length out) wide_is h) in
         record {
-          answers = rw z (ap (λ (n : ℕ). Done (n * 4)) wide_is);
+          answers = rw z (ap (λ (n : ℕ). Ok (n * 4)) wide_is);
           holds = rw z
               (ee ∙ ap (λ (n : ℕ). put_at out 0 (pixels u (λ (x : MainPos). decide (row_stack s d rows x) (extent.layers / 2)) n)) wide_is
               ∙ ap (put_at out 0) (shown_pixels (replicate rows_size 0) rows shown_rows er u));
@@ -131,36 +129,36 @@ pub ruleset showing = (rules, shown_place, shown_standing, shown_rows, shown_fit
 
 -- ---- after the verdict
 
-module _ (s : List ℕ) (t : Listing) (part : Bool) (d : List ℕ) (k y : ℕ) (r : Ruled) (e : r ≡ ruled_of (ruling_of s (list_from t part) d k y)) where
-  pub ruled_refused : (a : Answer) → r ≡ Refused a → ruling_of s (list_from t part) d k y ≡ refused a
+module _ (s : List ℕ) (t : Listing) (part : Bool) (d : List ℕ) (k y : ℕ) (r : Result Extent Refusal) (e : r ≡ ruled_of (ruling_of s (list_from t part) d k y)) where
+  pub ruled_refused : (a : Refusal) → r ≡ Err a → ruling_of s (list_from t part) d k y ≡ refused a
   unfolding ruled_of
   ruled_refused a z = by (ruling_of s (list_from t part) d k y) refl (sym z ∙ e)
     where
-      by : (x : Ruling) → ruling_of s (list_from t part) d k y ≡ x → Refused a ≡ ruled_of x → ruling_of s (list_from t part) d k y ≡ refused a
+      by : (x : Ruling) → ruling_of s (list_from t part) d k y ≡ x → Err a ≡ ruled_of x → ruling_of s (list_from t part) d k y ≡ refused a
       by (shows v) q w = clash cc
       by (refused b) q w = let c : a ≡ b = cc in q ∙ ap refused (sym c)
 
-  pub ruled_shown : (extent : Extent) → r ≡ Shows extent → ruling_of s (list_from t part) d k y ≡ shows (scene_from s extent t d)
+  pub ruled_shown : (extent : Extent) → r ≡ Ok extent → ruling_of s (list_from t part) d k y ≡ shows (scene_from s extent t d)
   unfolding ruled_of
   ruled_shown extent z = by (ruling_of s (list_from t part) d k y) refl (sym z ∙ e)
     where
-      by : (x : Ruling) → ruling_of s (list_from t part) d k y ≡ x → Shows extent ≡ ruled_of x → ruling_of s (list_from t part) d k y ≡ shows (scene_from s extent t d)
+      by : (x : Ruling) → ruling_of s (list_from t part) d k y ≡ x → Ok extent ≡ ruled_of x → ruling_of s (list_from t part) d k y ≡ shows (scene_from s extent t d)
       by (shows v) q w =
           let c : v.extent ≡ extent = cc in
           let g = shows_stage s (list_from t part) d k y v q in
           q ∙ ap shows (λ i. record { sheet = g.sheet i; extent = c i; planes = g.planes i; samples = g.samples i })
       by (refused b) q w = clash cc
 
-  pub line_refused : (u : Colour) (a : Answer) (out : List ℕ) → r ≡ Refused a → Lines s (list_from t part) d k y u out a out
+  pub line_refused : (u : Colour) (a : Refusal) (out : List ℕ) (x : Answer) → r ≡ Err a → x ≡ Err a → Lines s (list_from t part) d k y u out x out
   unfolding line_of line_into line_answer line_holds
-  line_refused u a out z =
+  line_refused u a out x z w =
       let q = ruled_refused a z in
-      record { answers = sym (ap (line_answer (length out)) q); holds = sym (ap (line_holds u out y) q) }
+      record { answers = w ∙ sym (ap (line_answer (length out)) q); holds = sym (ap (line_holds u out y) q) }
 
-  pub line_shown : (extent : Extent) → r ≡ Shows extent → Showable (scene_from s extent t d) y
+  pub line_shown : (extent : Extent) → r ≡ Ok extent → Showable (scene_from s extent t d) y
   line_shown extent z = record { stripe = k; part = part; ruling = ruled_shown extent z }
 
-  pub line_composed : (extent : Extent) (u : Colour) (out : List ℕ) (a : Answer) (f : List ℕ) → r ≡ Shows extent → Composed (scene_from s extent t d) y u out a f → Lines s (list_from t part) d k y u out a f
+  pub line_composed : (extent : Extent) (u : Colour) (out : List ℕ) (a : Answer) (f : List ℕ) → r ≡ Ok extent → Composed (scene_from s extent t d) y u out a f → Lines s (list_from t part) d k y u out a f
   unfolding line_of line_into
   line_composed extent u out a f z c =
       let q = ruled_shown extent z in
@@ -168,7 +166,7 @@ module _ (s : List ℕ) (t : Listing) (part : Bool) (d : List ℕ) (k y : ℕ) (
 
 -- ---- a list in octets
 
--- the numbers hold its first sixteen entries
+-- the list by value holds its first sixteen entries
 pub listed_first : (planes : List ℕ) (t : Listing) (part : Bool) → t ≡ listing_of planes → part ≡ not (eqb (length planes % 5) 0)
     → list_from t part ≡ record { entries = take 16 (list_of planes).entries; part = (list_of planes).part }
 unfolding listing_of

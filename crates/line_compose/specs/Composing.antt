@@ -1,10 +1,10 @@
 -- A line that is to be shown: what is known of it, and what becomes of it.
 --
---   scene_from    the scene of a stripe, a plane list as parallel numbers, and the samples
+--   scene_from    the scene of a stripe, a plane list by value, and the samples
 --   Showable v y    the ruling on some stripe's line y shows the scene
 --   Composed     the answer and the buffer after that ruling, u being the unseen colour
 use Rattle.std.specs.Prelude.{ℕ, ◌≡◌, Bool, List, length}
-use Rattle.answers.specs.declared.Answer.{Answer}
+use Rattle.answers.specs.Answers.{Answer}
 use Rattle.sheet_rules.specs.declared.Colour.{Colour}
 use Rattle.sheet_rules.specs.declared.Extent.{Extent}
 use Rattle.pixel_rules.specs.Samples.{Scene}

@@ -6,10 +6,9 @@ ghost use Rattle.picture_rules.specs.Line.{Lines};
 ghost use Rattle.line_verdict.specs.Ruled.{list_from};
 ghost use Rattle.line_compose.specs.Composing.{scene_from, Showable, Composed};
 
-use answers::Answer;
+use answers::{Answer, Refusal};
 use line_fetch::ROWS_SIZE;
 use line_planes::{Listing, PLANE_SIZE};
-use line_verdict::Ruled;
 use pixel_rules::MainPos;
 use sheet_rules::{Colour, Extent};
 
@@ -29,7 +28,7 @@ pub fn show_line(
     let second = sheet_record::record_at(sheet, extent.first as usize + 1);
     let width = octets_get::wide16(second.width);
     if out.len() < width * 4 {
-        return Answer::NoRoom;
+        return Err(Refusal::NoRoom);
     }
     let mut rows: [usize; ROWS_SIZE] = [0; ROWS_SIZE];
     line_rows::put_rows(&mut rows, sheet, extent, list, MainPos(y as usize));
@@ -42,10 +41,10 @@ pub fn show_line(
         width,
         unseen,
     );
-    Answer::Done(width as u64 * 4)
+    Ok(width as u64 * 4)
 }
 
-// A line of stripe and line number, the plane list being parallel numbers.
+// A line of stripe and line number, the plane list held by value.
 pub fn compose_line(
     sheet: &[u8],
     list: Listing,
@@ -58,10 +57,8 @@ pub fn compose_line(
 ) -> Answer
     ensures { Lines sheet.now (list_from list part) samples.now stripe y unseen out.old result out.new }
 {
-    match line_verdict::judge_line(sheet, list, part, samples, stripe, y) {
-        Ruled::Refused(a) => a,
-        Ruled::Shows(extent) => show_line(sheet, extent, list, samples, y, unseen, out),
-    }
+    let extent = line_verdict::judge_line(sheet, list, part, samples, stripe, y)?;
+    show_line(sheet, extent, list, samples, y, unseen, out)
 }
 
 // The same for a plane list in octets, as C lends it.

@@ -14,7 +14,7 @@ use borrow.Author.Rules.{rules}
 use Rattle.pixel_rules.specs.declared.MainPos.{MainPos}
 use Rattle.pixel_rules.specs.declared.SamplePos.{SamplePos}
 use Rattle.sheet_rules.specs.declared.Colour.{Colour}
-use Rattle.pixel_rules.specs.declared.Sample.TheVariants.{Known, Unknown}
+use Rattle.std.specs.Prelude.{Some, None}
 use Rattle.pixel_rules.specs.declared.Mask.{Mask}
 use Rattle.pixel_rules.specs.declared.Mask.TheVariants.{Hidden}
 use Rattle.pixel_rules.specs.Place.{scale}
@@ -76,20 +76,20 @@ module _ (d : List ℕ) (r : Row) (x : MainPos) where
   mask_there p g a b n e = rw e (g.there x a b n)
 
 module _ (s d : List ℕ) (r : Row) (x : MainPos) where
-  pub image_before : (c : Colour) → x.0 < r.from.0 → c ≡ colour_at s r.other → Known c ≡ row_image s d r x
+  pub image_before : (c : Colour) → x.0 < r.from.0 → c ≡ colour_at s r.other → Some c ≡ row_image s d r x
   unfolding row_image
   image_before c h e = simp (lt-leb r.from.0 x.0 h, e)
 
-  pub image_after : (c : Colour) → r.to.0 ≤ x.0 → c ≡ colour_at s r.other → Known c ≡ row_image s d r x
+  pub image_after : (c : Colour) → r.to.0 ≤ x.0 → c ≡ colour_at s r.other → Some c ≡ row_image s d r x
   unfolding row_image
   image_after c h e = simp (le-ltb x.0 r.to.0 h, and_no (leb r.from.0 x.0), e)
 
-  pub image_unread : r.from.0 ≤ x.0 → x.0 < r.to.0 → r.read ≡ 0 → Unknown ≡ row_image s d r x
+  pub image_unread : r.from.0 ≤ x.0 → x.0 < r.to.0 → r.read ≡ 0 → None ≡ row_image s d r x
   unfolding row_image
   image_unread a b e = simp (le-leb r.from.0 x.0 a, lt-ltb x.0 r.to.0 b, eq-eqb r.read 0 e)
 
   pub image_read_lem : (c : Colour) (p : SamplePos) → r.from.0 ≤ x.0 → x.0 < r.to.0 → r.read ≢ 0 → p ≡ scale r.ratio r.from x
-      → c ≡ colour_in r.read d (r.at + p.0 * r.read) → Known c ≡ row_image s d r x
+      → c ≡ colour_in r.read d (r.at + p.0 * r.read) → Some c ≡ row_image s d r x
   unfolding row_image
   image_read_lem c p a b n e f = simp (le-leb r.from.0 x.0 a, lt-ltb x.0 r.to.0 b, ne_eqb r.read 0 n, f, e)
 

@@ -7,10 +7,9 @@
 --   row_mask          a mask's sample in its row; row_image: that of an image layer, whose base colour stands in the sheet
 --   Turns            the row's two numbers for the scaling step belong together
 --   MaskFits         the samples that the row of a mask names are in the buffer; ImageFits: the same of an image layer, and its base colour in the sheet
-use Rattle.std.specs.Prelude.{ℕ, ◌+◌, ◌-◌, ◌*◌, ◌≤◌, ◌<◌, ◌≡◌, ◌≢◌, Bool, ◌&&◌, cond, List, [], ◌∷◌, length, get_or, eqb, leb, ltb}
+use Rattle.std.specs.Prelude.{ℕ, ◌+◌, ◌-◌, ◌*◌, ◌≤◌, ◌<◌, ◌≡◌, ◌≢◌, Bool, ◌&&◌, cond, List, [], ◌∷◌, length, get_or, eqb, leb, ltb, Option, Some, None}
 use Rattle.pixel_rules.specs.declared.MainPos.{MainPos}
-use Rattle.pixel_rules.specs.declared.Sample.{Sample}
-use Rattle.pixel_rules.specs.declared.Sample.TheVariants.{Known, Unknown}
+use Rattle.sheet_rules.specs.declared.Colour.{Colour}
 use Rattle.pixel_rules.specs.declared.Mask.{Mask}
 use Rattle.pixel_rules.specs.declared.Mask.TheVariants.{Hidden}
 use Rattle.pixel_rules.specs.Place.{scale}
@@ -50,12 +49,12 @@ row_mask d r x =
     (cond (eqb r.read 0) Hidden (bit_of (get_or d (r.at + (scale r.ratio r.from x).0) 0)))
     (bit_of r.other)
 
-unfoldable pub row_image : List ℕ → List ℕ → Row → MainPos → Sample
+unfoldable pub row_image : List ℕ → List ℕ → Row → MainPos → Option Colour
 unfolding colour_in
 row_image s d r x =
     cond (across r x)
-    (cond (eqb r.read 0) Unknown (Known (colour_in r.read d (r.at + (scale r.ratio r.from x).0 * r.read))))
-    (Known (colour_at s r.other))
+    (cond (eqb r.read 0) None (Some (colour_in r.read d (r.at + (scale r.ratio r.from x).0 * r.read))))
+    (Some (colour_at s r.other))
 
 -- its factor divides by its ratio
 pub record Turns (r : Row) : Type 0 where

@@ -65,14 +65,14 @@ pub fn image_at(s: &[u8], d: &[u8], r: Row, x: MainPos) -> Sample
     ensures { result ≡ row_image s.now d.now r x }
 {
     if x.0 < r.from.0 {
-        return Sample::Known(line_sample::colour_at(s, r.other));
+        return Some(line_sample::colour_at(s, r.other));
     }
     if r.to.0 <= x.0 {
-        return Sample::Known(line_sample::colour_at(s, r.other));
+        return Some(line_sample::colour_at(s, r.other));
     }
     if r.read == 0 {
-        return Sample::Unknown;
+        return None;
     }
     let p = line_sample::scale_pos(r.ratio, r.factor, r.from, x);
-    Sample::Known(line_sample::image_colour(d, r.at, r.read, p))
+    Some(line_sample::image_colour(d, r.at, r.read, p))
 }

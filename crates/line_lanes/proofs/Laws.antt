@@ -1,6 +1,6 @@
 -- One law for each way out of the functions of lanes: its premises are what is known there.
 -- Assumes nothing.
-use Prim.Native.Nat.{ℕ, suc, ◌+◌, ◌-◌, ◌*◌, ◌/◌, ◌≤◌, ◌<◌}
+use Prim.Native.Nat.{ℕ, zero, suc, ◌+◌, ◌-◌, ◌*◌, ◌/◌, ◌≤◌, ◌<◌}
 use native.Mathlib.Nat.{eq-or-lt_of_le, mul-le-mul, mul-le-mul_right}
 use native.Mathlib.Omega.{arith}
 use mathlib.Core.Path.{◌≡◌, refl, sym, ap, ap₂, subst, ◌∙◌}
@@ -23,8 +23,7 @@ use Rattle.sheet_rules.specs.Judge.{coded}
 use Rattle.pixel_rules.specs.declared.MainPos.{MainPos}
 use Rattle.pixel_rules.specs.declared.SamplePos.{SamplePos}
 use Rattle.pixel_rules.specs.declared.Plane.{Plane}
-use Rattle.pixel_rules.specs.declared.Start.{Start}
-use Rattle.pixel_rules.specs.declared.Start.TheVariants.{From, Unread}
+use Rattle.std.specs.Prelude.{Option, Some, None}
 use Rattle.pixel_rules.specs.Place.{left_of, top_of, area_end, scale}
 use Rattle.pixel_rules.specs.Planes.{plane_start}
 use Rattle.pixel_rules.specs.Samples.{depth}
@@ -61,26 +60,26 @@ pub ruleset bottoms = (rules, bottom_none, bottom_some, bottom_near)
 
 -- ---- a lane from a record
 
-module _ (r : Record) (p : Start) where
-  pub read_none : p ≡ Unread → 0 ≡ read_of r p
+module _ (r : Record) (p : Option ℕ) where
+  pub read_none : p ≡ None → 0 ≡ read_of r p
   unfolding read_of
   read_none e = rw e refl
 
-  pub read_some : (a n : ℕ) → p ≡ From a → n ≡ depth r → n ≡ read_of r p
+  pub read_some : (a n : ℕ) → p ≡ Some a → n ≡ depth r → n ≡ read_of r p
   unfolding read_of
   read_some a n e f = rw e f
 
-pub first_none : (p : Start) → p ≡ Unread → 0 ≡ first_of p
+pub first_none : (p : Option ℕ) → p ≡ None → 0 ≡ first_of p
 unfolding first_of
 first_none p e = rw e refl
 
-pub first_some : (p : Start) (a : ℕ) → p ≡ From a → a ≡ first_of p
+pub first_some : (p : Option ℕ) (a : ℕ) → p ≡ Some a → a ≡ first_of p
 unfolding first_of
 first_some p a e = rw e refl
 
 pub ruleset starting = (rules, read_none, read_some, first_none, first_some)
 
-pub lane_made : (r : Record) (k other : ℕ) (p : Start) (from to top bottom : MainPos) (width each m start step : ℕ) → from ≡ left_of r → width ≡ r.width → each ≡ read_of r p → to ≡ area_end from width k → m ≡ factor_of k
+pub lane_made : (r : Record) (k other : ℕ) (p : Option ℕ) (from to top bottom : MainPos) (width each m start step : ℕ) → from ≡ left_of r → width ≡ r.width → each ≡ read_of r p → to ≡ area_end from width k → m ≡ factor_of k
     → start ≡ first_of p → top ≡ top_of r → bottom ≡ bottom_of r k → step ≡ width * each
     → record { from = from; to = to; factor = m; read = each; start = start; other = other; ratio = k; top = top; bottom = bottom; step = step } ≡ lane_by r k p other
 unfolding lane_by
@@ -98,7 +97,7 @@ lane_fits w y a b f t n s p =
 
 -- ---- the lane of a layer of a stripe
 
-pub layer_lane_made : (s : List ℕ) (extent : Extent) (m : ℕ) (c : Bool) (l : ℕ) (ps : List Plane) (r : Record) (k : ℕ) (p : Start) (n : ℕ) (w : Lane) → Layer s extent m c l → r ≡ record_at s (extent.first + (l - 1)) → k ≡ m / r.res
+pub layer_lane_made : (s : List ℕ) (extent : Extent) (m : ℕ) (c : Bool) (l : ℕ) (ps : List Plane) (r : Record) (k : ℕ) (p : Option ℕ) (n : ℕ) (w : Lane) → Layer s extent m c l → r ≡ record_at s (extent.first + (l - 1)) → k ≡ m / r.res
     → p ≡ plane_start ps l → n ≡ other_of c r (extent.first + (l - 1)) l → w ≡ lane_by r k p n → w ≡ lane_of s extent ps l
 unfolding lane_of layer_record
 layer_lane_made s extent m c l ps r k p n w g er ek ep en ew = ew ∙ rw (ek, ep, en, er, g.main, g.third) refl
@@ -125,35 +124,63 @@ stores_lane d l w g h = all d ((l - 1) * lane_size) (omega arith)
         let m : b + 9 ≡ suc (suc (suc (suc (suc (suc (suc (suc (suc b)))))))) = omega arith in
         rw (a, c, e, f, g, i, j, k, m) (sets_put d b (lane_numbers w) h)
 
-pub record Laying (d s : List ℕ) (extent : Extent) (t : Listing) (m : ℕ) (c : Bool) (n : ℕ) (out : List ℕ) (i : ℕ) : Type 0 where
-  pub within : i ≤ n
+pub record Laying (d s : List ℕ) (extent : Extent) (t : Listing) (m : ℕ) (c : Bool) (n : ℕ) (out : List ℕ) (l : ℕ) : Type 0 where
+  pub some : 1 ≤ l
+  pub within : l ≤ n + 1
   pub all : n ≡ extent.layers
   pub room : n * lane_size ≤ length d
   pub long : length out ≡ length d
   pub main : m ≡ main_res s extent
   pub third : c ≡ coded (layer_record s extent 3)
-  pub fits : (l : ℕ) → 1 ≤ l → l ≤ i → LaneFits (lane_of s extent (entries_of t) l)
-  pub laid : out ≡ put_at d 0 (lanes_of s extent (entries_of t) i)
+  pub fits : (i : ℕ) → 1 ≤ i → i < l → LaneFits (lane_of s extent (entries_of t) i)
+  pub laid : out ≡ put_at d 0 (lanes_of s extent (entries_of t) (l - 1))
 
 module _ (d s : List ℕ) (extent : Extent) (t : Listing) (m : ℕ) (c : Bool) (n : ℕ) where
   pub laying_none : (second third : Record) → extent.layers * lane_size ≤ length d → n ≡ extent.layers → second ≡ record_at s (extent.first + 1) → third ≡ record_at s (extent.first + 2)
-      → m ≡ second.res → c ≡ not (eqb third.len 0) → Laying d s extent t m c n d 0
+      → m ≡ second.res → c ≡ not (eqb third.len 0) → Laying d s extent t m c n d 1
   unfolding joined entries_from layer_record
   laying_none second third h e es et em ec =
       record {
+        some = omega arith;
         within = omega arith;
         all = e;
         room = omega arith;
         long = refl;
         main = em ∙ ap (λ (r : Record). r.res) es;
         third = ec ∙ ap (λ (r : Record). not (eqb r.len 0)) et;
-        fits = λ l a b. absurd (omega arith);
+        fits = λ i a b. absurd (omega arith);
         laid = sym (put_nothing d 0);
       }
 
-  module _ (out : List ℕ) (i : ℕ) (g : Laying d s extent t m c n out i) where
-    pub laying_layer : Standing s extent → i < n → Layer s extent m c (i + 1)
+  laying_next : (out new : List ℕ) (i : ℕ) (w : Lane) → Laying d s extent t m c n out (i + 1) → i < n → w ≡ lane_of s extent (entries_of t) (i + 1) → LaneFits w
+      → new ≡ put_at out ((i + 1 - 1) * lane_size) (lane_numbers w) → Laying d s extent t m c n new (i + 1 + 1)
+  laying_next out new i w g h ew f e =
+      let r = g.room in
+      let k = g.long in
+      let q : length (lane_numbers w) ≡ lane_size = refl in
+      let iz : i + 1 - 1 ≡ i = omega arith in
+      let nz : i + 1 ≡ i + 1 + 1 - 1 = omega arith in
+      record {
+        some = omega arith;
+        within = omega arith;
+        all = g.all;
+        room = g.room;
+        long = ap length e ∙ put_length out ((i + 1 - 1) * lane_size) (lane_numbers w) (omega arith) ∙ g.long;
+        main = g.main;
+        third = g.third;
+        fits = λ l a b. ⊎_elim
+            (λ (z : l ≡ i + 1). subst LaneFits (ew ∙ ap (lane_of s extent (entries_of t)) (sym z)) f)
+            (λ (z : l < i + 1). g.fits l a z)
+            (eq-or-lt_of_le (let u : l ≤ i + 1 = omega arith in u));
+        laid =
+            put_one_more lane_entry (lane_of s extent (entries_of t)) d out new i w (g.laid ∙ ap (λ (k : ℕ). put_at d 0 (lanes_of s extent (entries_of t) k)) iz) ew e
+            ∙ ap (λ (k : ℕ). put_at d 0 (lanes_of s extent (entries_of t) k)) nz;
+      }
+
+  module _ (out : List ℕ) (l : ℕ) (g : Laying d s extent t m c n out l) where
+    pub laying_layer : Standing s extent → l ≤ n → Layer s extent m c l
     laying_layer z h =
+        let o = g.some in
         let a = g.all in
         let w = z.whole in
         let f = z.fifteen in
@@ -161,43 +188,23 @@ module _ (d s : List ℕ) (extent : Extent) (t : Listing) (m : ℕ) (c : Bool) (
           least = omega arith;
           most = omega arith;
           place = omega arith;
-          res = z.res (i + 1) (omega arith) (omega arith);
-          turns = z.turns (i + 1) (omega arith) (omega arith);
+          res = z.res l (omega arith) (omega arith);
+          turns = z.turns l (omega arith) (omega arith);
           main = g.main;
           third = g.third;
         }
 
-    pub laying_room : i < n → (i + 1) * lane_size ≤ length out
-    laying_room h = let r = g.room in let l = g.long in omega arith
+    pub laying_room : l ≤ n → (1 ≤ l) × (l * lane_size ≤ length out)
+    laying_room h = let o = g.some in let r = g.room in let k = g.long in (omega arith, omega arith)
 
-    pub laying_more : (new : List ℕ) (w : Lane) → i < n → w ≡ lane_of s extent (entries_of t) (i + 1) → LaneFits w
-        → new ≡ put_at out ((i + 1 - 1) * lane_size) (lane_numbers w) → Laying d s extent t m c n new (i + 1)
-    laying_more new w h ew f e =
-        let r = g.room in
-        let k = g.long in
-        let q : length (lane_numbers w) ≡ lane_size = refl in
-        record {
-          within = omega arith;
-          all = g.all;
-          room = g.room;
-          long = ap length e ∙ put_length out ((i + 1 - 1) * lane_size) (lane_numbers w) (omega arith) ∙ g.long;
-          main = g.main;
-          third = g.third;
-          fits = λ l a b. ⊎_elim
-              (λ (z : l ≡ i + 1). subst LaneFits (ew ∙ ap (lane_of s extent (entries_of t)) (sym z)) f)
-              (λ (z : l < i + 1). g.fits l a (omega arith))
-              (eq-or-lt_of_le b);
-          laid = put_one_more lane_entry (lane_of s extent (entries_of t)) d out new i w g.laid ew e;
-        }
-
-    pub laying_end : n ≤ i → out ≡ put_at d 0 (lanes_of s extent (entries_of t) extent.layers)
+    pub laying_end : n < l → out ≡ put_at d 0 (lanes_of s extent (entries_of t) extent.layers)
     laying_end h =
         let w = g.within in
         let a = g.all in
-        let z : i ≡ extent.layers = omega arith in
+        let z : l - 1 ≡ extent.layers = omega arith in
         g.laid ∙ ap (λ (k : ℕ). put_at d 0 (lanes_of s extent (entries_of t) k)) z
 
-    pub laying_fits : n ≤ i → LanesFit out extent.layers
+    pub laying_fits : n < l → LanesFit out extent.layers
     laying_fits h =
         let w = g.within in
         let a = g.all in
@@ -205,8 +212,25 @@ module _ (d s : List ℕ) (extent : Extent) (t : Listing) (m : ℕ) (c : Bool) (
         let k = g.long in
         record {
           there = omega arith;
-          each = λ l p q. subst LaneFits (sym (lane_among s extent (entries_of t) d extent.layers l p q) ∙ ap (λ (ns : List ℕ). lane_at ns l) (sym (laying_end h))) (g.fits l p (omega arith));
+          each = λ i p q. subst LaneFits (sym (lane_among s extent (entries_of t) d extent.layers i p q) ∙ ap (λ (ns : List ℕ). lane_at ns i) (sym (laying_end h))) (g.fits i p (omega arith));
         }
+
+  pub laying_more : (out new : List ℕ) (l : ℕ) (w : Lane) → Laying d s extent t m c n out l → l ≤ n → w ≡ lane_of s extent (entries_of t) l → LaneFits w
+      → new ≡ put_at out ((l - 1) * lane_size) (lane_numbers w) → Laying d s extent t m c n new (l + 1)
+  laying_more out new zero w g h ew f e = absurd (let o = g.some in omega arith)
+  laying_more out new (suc i) w g h ew f e =
+      let z : suc i ≡ i + 1 = omega arith in
+      subst (λ (k : ℕ). Laying d s extent t m c n new (k + 1)) (sym z)
+      (laying_next out new i w
+      (subst (λ (k : ℕ). Laying d s extent t m c n out k) z g) (omega arith)
+      (ew ∙ ap (λ (k : ℕ). lane_of s extent (entries_of t) k) z) f
+      (e ∙ ap (λ (k : ℕ). put_at out ((k - 1) * lane_size) (lane_numbers w)) z))
+
+  -- with the last layer's lane
+  pub laying_last : (out new : List ℕ) (l : ℕ) (w : Lane) → Laying d s extent t m c n out l → n ≤ l → l ≤ n → w ≡ lane_of s extent (entries_of t) l → LaneFits w
+      → new ≡ put_at out ((l - 1) * lane_size) (lane_numbers w) → (new ≡ put_at d 0 (lanes_of s extent (entries_of t) extent.layers)) × LanesFit new extent.layers
+  laying_last out new l w g h k ew f e =
+      let o = laying_more out new l w g k ew f e in (laying_end new (l + 1) o (omega arith), laying_fits new (l + 1) o (omega arith))
 
 pub ruleset laying = (rules, stores_lane, laying_none, laying_layer, laying_room, laying_more, laying_end, laying_fits)
 
@@ -270,44 +294,67 @@ module _ (w : Lane) (y : MainPos) where
 
 -- ---- the rows of all layers in a line
 
-pub record Rowed (d ns : List ℕ) (y : MainPos) (n : ℕ) (out : List ℕ) (i : ℕ) : Type 0 where
-  pub within : i ≤ n
+pub record Rowed (d ns : List ℕ) (y : MainPos) (n : ℕ) (out : List ℕ) (l : ℕ) : Type 0 where
+  pub some : 1 ≤ l
+  pub within : l ≤ n + 1
   pub room : n * row_size ≤ length d
   pub long : length out ≡ length d
-  pub rowed : out ≡ put_at d 0 (rows_from ns y i)
+  pub rowed : out ≡ put_at d 0 (rows_from ns y (l - 1))
 
 module _ (d ns : List ℕ) (y : MainPos) (n : ℕ) where
-  pub rowed_none : n * row_size ≤ length d → Rowed d ns y n d 0
+  pub rowed_none : n * row_size ≤ length d → Rowed d ns y n d 1
   unfolding joined entries_from
-  rowed_none h = record { within = omega arith; room = h; long = refl; rowed = sym (put_nothing d 0) }
+  rowed_none h = record { some = omega arith; within = omega arith; room = h; long = refl; rowed = sym (put_nothing d 0) }
 
-  module _ (out : List ℕ) (i : ℕ) (g : Rowed d ns y n out i) where
-    pub rowed_room : i < n → (i + 1) * row_size ≤ length out
-    rowed_room h = let r = g.room in let l = g.long in omega arith
+  rowed_next : (out new : List ℕ) (i : ℕ) (w : Lane) (r : Row) → Rowed d ns y n out (i + 1) → i < n → w ≡ lane_at ns (i + 1) → r ≡ row_from w y
+      → new ≡ put_at out ((i + 1 - 1) * row_size) (numbers_of r) → Rowed d ns y n new (i + 1 + 1)
+  rowed_next out new i w r g h ew er e =
+      let a = g.room in
+      let k = g.long in
+      let q : length (numbers_of r) ≡ row_size = refl in
+      let iz : i + 1 - 1 ≡ i = omega arith in
+      let nz : i + 1 ≡ i + 1 + 1 - 1 = omega arith in
+      record {
+        some = omega arith;
+        within = omega arith;
+        room = g.room;
+        long = ap length e ∙ put_length out ((i + 1 - 1) * row_size) (numbers_of r) (omega arith) ∙ g.long;
+        rowed =
+            put_one_more row_entry (λ (l : ℕ). row_from (lane_at ns l) y) d out new i r
+            (g.rowed ∙ ap (λ (k : ℕ). put_at d 0 (rows_from ns y k)) iz) (er ∙ ap (λ (x : Lane). row_from x y) ew) e
+            ∙ ap (λ (k : ℕ). put_at d 0 (rows_from ns y k)) nz;
+      }
 
-    pub rowed_more : (new : List ℕ) (w : Lane) (r : Row) → i < n → w ≡ lane_at ns (i + 1) → r ≡ row_from w y
-        → new ≡ put_at out ((i + 1 - 1) * row_size) (numbers_of r) → Rowed d ns y n new (i + 1)
-    rowed_more new w r h ew er e =
-        let a = g.room in
-        let k = g.long in
-        let q : length (numbers_of r) ≡ row_size = refl in
-        record {
-          within = omega arith;
-          room = g.room;
-          long = ap length e ∙ put_length out ((i + 1 - 1) * row_size) (numbers_of r) (omega arith) ∙ g.long;
-          rowed = put_one_more row_entry (λ (l : ℕ). row_from (lane_at ns l) y) d out new i r g.rowed (er ∙ ap (λ (x : Lane). row_from x y) ew) e;
-        }
+  module _ (out : List ℕ) (l : ℕ) (g : Rowed d ns y n out l) where
+    pub rowed_room : l ≤ n → (1 ≤ l) × (l * row_size ≤ length out)
+    rowed_room h = let o = g.some in let r = g.room in let k = g.long in (omega arith, omega arith)
 
-    pub rowed_end : n ≤ i → out ≡ put_at d 0 (rows_from ns y n)
+    pub rowed_there : LanesFit ns n → l ≤ n → (1 ≤ l) × (l * lane_size ≤ length ns)
+    rowed_there f h = let o = g.some in let t = f.there in (omega arith, omega arith)
+
+    pub rowed_fits : (w : Lane) → LanesFit ns n → l ≤ n → w ≡ lane_at ns l → LaneFits w
+    rowed_fits w f h e = subst LaneFits (sym e) (f.each l g.some h)
+
+    pub rowed_end : n < l → out ≡ put_at d 0 (rows_from ns y n)
     rowed_end h =
         let w = g.within in
-        let z : i ≡ n = omega arith in
+        let z : l - 1 ≡ n = omega arith in
         g.rowed ∙ ap (λ (k : ℕ). put_at d 0 (rows_from ns y k)) z
 
-pub lane_of_fit : (ns : List ℕ) (n i : ℕ) (w : Lane) → LanesFit ns n → i < n → w ≡ lane_at ns (i + 1) → LaneFits w
-lane_of_fit ns n i w g h e = subst LaneFits (sym e) (g.each (i + 1) (omega arith) (omega arith))
+  pub rowed_more : (out new : List ℕ) (l : ℕ) (w : Lane) (r : Row) → Rowed d ns y n out l → l ≤ n → w ≡ lane_at ns l → r ≡ row_from w y
+      → new ≡ put_at out ((l - 1) * row_size) (numbers_of r) → Rowed d ns y n new (l + 1)
+  rowed_more out new zero w r g h ew er e = absurd (let o = g.some in omega arith)
+  rowed_more out new (suc i) w r g h ew er e =
+      let z : suc i ≡ i + 1 = omega arith in
+      subst (λ (k : ℕ). Rowed d ns y n new (k + 1)) (sym z)
+      (rowed_next out new i w r
+      (subst (λ (k : ℕ). Rowed d ns y n out k) z g) (omega arith)
+      (ew ∙ ap (λ (k : ℕ). lane_at ns k) z) er
+      (e ∙ ap (λ (k : ℕ). put_at out ((k - 1) * row_size) (numbers_of r)) z))
 
-pub lanes_there : (ns : List ℕ) (n i : ℕ) → LanesFit ns n → i < n → (i + 1) * lane_size ≤ length ns
-lanes_there ns n i g h = let t = g.there in omega arith
+  -- with the last layer's row
+  pub rowed_last : (out new : List ℕ) (l : ℕ) (w : Lane) (r : Row) → Rowed d ns y n out l → n ≤ l → l ≤ n → w ≡ lane_at ns l → r ≡ row_from w y
+      → new ≡ put_at out ((l - 1) * row_size) (numbers_of r) → new ≡ put_at d 0 (rows_from ns y n)
+  rowed_last out new l w r g h k ew er e = rowed_end new (l + 1) (rowed_more out new l w r g k ew er e) (omega arith)
 
-pub ruleset rowing = (rules, rowed_none, rowed_room, rowed_more, rowed_end, lane_of_fit, lanes_there)
+pub ruleset rowing = (rules, rowed_none, rowed_room, rowed_there, rowed_fits, rowed_more, rowed_end)

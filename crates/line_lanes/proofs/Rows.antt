@@ -19,8 +19,7 @@ use Rattle.sheet_rules.specs.declared.Extent.{Extent}
 use Rattle.sheet_rules.specs.Judge.{coded}
 use Rattle.pixel_rules.specs.declared.MainPos.{MainPos}
 use Rattle.pixel_rules.specs.declared.Plane.{Plane}
-use Rattle.pixel_rules.specs.declared.Start.{Start}
-use Rattle.pixel_rules.specs.declared.Start.TheVariants.{From, Unread}
+use Rattle.std.specs.Prelude.{Option, Some, None}
 use Rattle.pixel_rules.specs.Place.{ratio, left_of, top_of, area_end, scale, covers}
 use Rattle.pixel_rules.specs.Planes.{plane_start}
 use Rattle.pixel_rules.specs.Samples.{depth}
@@ -48,12 +47,12 @@ crosses_is r q y = go (coded r)
     go true = refl
     go false = none_above r.y y.0
 
-pub row_by_lane : (r : Record) (q : ℕ) (y : MainPos) (p : Start) (other : ℕ) → row_from (lane_by r q p other) y ≡ row_by r q y p other
+pub row_by_lane : (r : Record) (q : ℕ) (y : MainPos) (p : Option ℕ) (other : ℕ) → row_from (lane_by r q p other) y ≡ row_by r q y p other
 unfolding row_from lane_by row_by
-row_by_lane r q y Unread other =
+row_by_lane r q y None other =
     ap₂ (λ (b : Bool) (n : ℕ). cond b (record { from = left_of r; to = area_end (left_of r) r.width q; factor = factor_of q; read = 0; at = n; other = other; ratio = q }) (row_out other))
     (crosses_is r q y) (zero-add ((scale q (top_of r) y).0 * (r.width * 0)) ∙ ap (λ (k : ℕ). (scale q (top_of r) y).0 * k) (mul-zero r.width) ∙ mul-zero (scale q (top_of r) y).0)
-row_by_lane r q y (From a) other =
+row_by_lane r q y (Some a) other =
     ap₂ (λ (b : Bool) (n : ℕ). cond b (record { from = left_of r; to = area_end (left_of r) r.width q; factor = factor_of q; read = depth r; at = a + n; other = other; ratio = q }) (row_out other))
     (crosses_is r q y) (sym (mul_assoc (scale q (top_of r) y).0 r.width (depth r)))
 

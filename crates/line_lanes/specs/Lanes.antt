@@ -13,7 +13,7 @@
 --   row_from w y          the row in line y of the layer that has the lane w
 --   rows_from ns y n      the numbers of the rows of layers 1 to n in line y, from the lanes' numbers
 --   LaneFits             a lane's numbers are small enough to work out a row; LanesFit: n lanes are there, and each is so
-use Rattle.std.specs.Prelude.{ℕ, ◌+◌, ◌-◌, ◌*◌, ◌≤◌, ◌<◌, ◌≡◌, Bool, ◌&&◌, cond, List, [], ◌∷◌, length, get_or, leb, ltb}
+use Rattle.std.specs.Prelude.{ℕ, ◌+◌, ◌-◌, ◌*◌, ◌≤◌, ◌<◌, ◌≡◌, Bool, ◌&&◌, cond, List, [], ◌∷◌, length, get_or, leb, ltb, Option, Some, None}
 use Rattle.octets.specs.Entries.{entries_from, joined}
 use Rattle.sheet_rules.specs.StripeTable.{layer_record, main_res}
 use Rattle.sheet_rules.specs.declared.Record.{Record}
@@ -21,8 +21,6 @@ use Rattle.sheet_rules.specs.declared.Extent.{Extent}
 use Rattle.sheet_rules.specs.Judge.{coded}
 use Rattle.pixel_rules.specs.declared.MainPos.{MainPos}
 use Rattle.pixel_rules.specs.declared.Plane.{Plane}
-use Rattle.pixel_rules.specs.declared.Start.{Start}
-use Rattle.pixel_rules.specs.declared.Start.TheVariants.{From, Unread}
 use Rattle.pixel_rules.specs.Place.{ratio, left_of, top_of, area_end, scale}
 use Rattle.pixel_rules.specs.Planes.{plane_start}
 use Rattle.pixel_rules.specs.Samples.{depth}
@@ -61,16 +59,16 @@ lane_numbers w = w.from.0 ∷ w.to.0 ∷ w.factor ∷ w.read ∷ w.start ∷ w.o
 unfoldable pub bottom_of : Record → ℕ → MainPos
 bottom_of r q = cond (coded r) (area_end (top_of r) r.height q) (record { 0 = 0 })
 
-unfoldable pub read_of : Record → Start → ℕ
-read_of r Unread = 0
-read_of r (From a) = depth r
+unfoldable pub read_of : Record → Option ℕ → ℕ
+read_of r None = 0
+read_of r (Some a) = depth r
 
-unfoldable pub first_of : Start → ℕ
-first_of Unread = 0
-first_of (From a) = a
+unfoldable pub first_of : Option ℕ → ℕ
+first_of None = 0
+first_of (Some a) = a
 
 -- a layer that was not read steps by 0 octets: its rows start at 0
-unfoldable pub lane_by : Record → ℕ → Start → ℕ → Lane
+unfoldable pub lane_by : Record → ℕ → Option ℕ → ℕ → Lane
 unfolding bottom_of read_of first_of
 lane_by r q p other =
     record {

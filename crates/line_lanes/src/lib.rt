@@ -10,7 +10,7 @@ ghost use Rattle.line_lanes.specs.Lanes.{lane_size, lane_at, lane_numbers, botto
 
 use line_fetch::Row;
 use line_planes::Listing;
-use pixel_rules::{MainPos, Start};
+use pixel_rules::MainPos;
 use sheet_rules::{Extent, Record};
 
 // How many numbers a lane has among the lanes of a band.
@@ -48,26 +48,26 @@ pub fn bottom_of(r: Record, ratio: usize) -> MainPos
 }
 
 // The octets a sample of a layer that was read; 0 if it was not.
-pub fn read_of(r: Record, p: Start) -> usize
+pub fn read_of(r: Record, p: Option<u32>) -> usize
     ensures { (result ≡ read_of r p) × (result ≤ 3) }
 {
     match p {
-        Start::Unread => 0,
-        Start::From(_) => line_sample::depth_of(r),
+        None => 0,
+        Some(_) => line_sample::depth_of(r),
     }
 }
 
 // Where the samples of a layer start; 0 if it was not read.
-pub fn first_of(p: Start) -> usize
+pub fn first_of(p: Option<u32>) -> usize
     ensures { (result ≡ first_of p) × (result < 4294967296) }
 {
     match p {
-        Start::Unread => 0,
-        Start::From(a) => a as usize,
+        None => 0,
+        Some(a) => a as usize,
     }
 }
 
-pub fn lane_by(r: Record, ratio: usize, p: Start, other: usize) -> Lane
+pub fn lane_by(r: Record, ratio: usize, p: Option<u32>, other: usize) -> Lane
     requires { (0 < ratio) × (ratio < 65536) }
     ensures { (result ≡ lane_by r ratio p other) × LaneFits result }
 {
@@ -135,9 +135,7 @@ pub fn put_lanes(lanes: &mut [usize], sheet: &[u8], extent: Extent, list: Listin
     let third = sheet_record::record_at(sheet, first + 2);
     let main = second.res;
     let coded3 = third.len != 0;
-    let mut l: usize = 0;
-    while l < n {
-        l += 1;
+    for l in 1..=n {
         let w = layer_lane(sheet, extent, list, main, coded3, l);
         put_lane(lanes, l, w);
     }
@@ -201,9 +199,7 @@ pub fn lane_rows(rows: &mut [usize], lanes: &[usize], n: usize, y: MainPos)
     requires { LanesFit lanes.now n × (n * row_size ≤ length rows.old) }
     ensures { rows.new ≡ put_at rows.old 0 (rows_from lanes.now y n) }
 {
-    let mut l: usize = 0;
-    while l < n {
-        l += 1;
+    for l in 1..=n {
         let r = row_from(lane_at(lanes, l), y);
         line_rows::put_row(rows, l, r);
     }

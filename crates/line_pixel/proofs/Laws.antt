@@ -8,7 +8,8 @@ use mathlib.Core.List.{List}
 use lib.ListN.{length}
 use borrow.Author.Rules.{rules}
 use Rattle.pixel_rules.specs.declared.MainPos.{MainPos}
-use Rattle.pixel_rules.specs.declared.Sample.{Sample}
+use Rattle.std.specs.Prelude.{Option}
+use Rattle.sheet_rules.specs.declared.Colour.{Colour}
 use Rattle.pixel_rules.specs.declared.Mask.{Mask}
 use Rattle.pixel_rules.specs.declared.Mask.TheVariants.{Zero, One, Hidden}
 use Rattle.pixel_rules.specs.Down.{passing, candidates, MayShow}
@@ -73,7 +74,7 @@ module _ (s d ns : List ℕ) (pairs : ℕ) where
   fits_shown mask zero r g h e = rw e g.image
   fits_shown mask (suc j) r g h e = rw e (g.pair (suc j) (omega arith) h.most).image
 
-pub image_made : (s d ns : List ℕ) (j : ℕ) (x : MainPos) (r : Row) (p : Sample) → r ≡ row_at ns (j * 2 + 1) → p ≡ row_image s d r x
+pub image_made : (s d ns : List ℕ) (j : ℕ) (x : MainPos) (r : Row) (p : Option Colour) → r ≡ row_at ns (j * 2 + 1) → p ≡ row_image s d r x
     → p ≡ row_image s d (row_at ns (j * 2 + 1)) x
 image_made s d ns j x r p e f = rw (f, e)
 

@@ -8,8 +8,8 @@ use mathlib.Core.List.{List}
 use borrow.Author.Rules.{rules}
 use Rattle.laws.proofs.Cases.{cond_both, clash}
 use Rattle.pixel_rules.specs.declared.MainPos.{MainPos}
-use Rattle.pixel_rules.specs.declared.Sample.{Sample}
-use Rattle.pixel_rules.specs.declared.Sample.TheVariants.{Known, Unknown}
+use Rattle.std.specs.Prelude.{Option, Some, None}
+use Rattle.sheet_rules.specs.declared.Colour.{Colour}
 use Rattle.pixel_rules.specs.Decide.{agree, Stack, decide}
 use Rattle.pixel_rules.specs.Down.{Way, Among, candidates, all_agree, down, MayShow}
 use Rattle.pixel_rules.proofs.Rule.{agree_assoc}
@@ -22,10 +22,10 @@ use Rattle.line_pixel.specs.Lead.{way_from}
 use Rattle.line_pixel.proofs.Ways.{below_among, may_show, unsure_some}
 
 -- what a pixel shows where the candidates down to c agree on `cur`
-unfoldable pub under : Stack → Candidate → Sample → Sample
+unfoldable pub under : Stack → Candidate → Option Colour → Option Colour
 under st c cur = cond c.sure cur (agree cur (decide st (c.pair - 1)))
 
-pub record Shows (st : Stack) (n : ℕ) (c : Candidate) (cur : Sample) : Type 0 where
+pub record Shows (st : Stack) (n : ℕ) (c : Candidate) (cur : Option Colour) : Type 0 where
   pub some : c.sure ≡ false → 1 ≤ c.pair
   pub among : (j : ℕ) → Among j (way_from st.mask c) → Among j (candidates st.mask n)
   pub all : decide st n ≡ under st c cur
@@ -43,34 +43,34 @@ unsure true b e = clash cc
 unsure false b e = refl
 
 -- a candidate that is sure, or one that leaves nothing known, is the last that counts
-ended : (a b : Bool) (cur low : Sample) → b ≡ is_known cur → not a && b ≡ false → cond a cur (agree cur low) ≡ cur
+ended : (a b : Bool) (cur low : Option Colour) → b ≡ is_known cur → not a && b ≡ false → cond a cur (agree cur low) ≡ cur
 unfolding agree
 ended true b cur low k t = refl
-ended false b (Known c) low k t = clash cc
-ended false b Unknown low k t = refl
+ended false b (Some c) low k t = clash cc
+ended false b None low k t = refl
 
 module _ (st : Stack) where
   along : (c : Candidate) → all_agree st.image (way_from st.mask c) ≡ under st c (st.image c.pair)
   unfolding way_from under all_agree down
   along c =
-      cond_both (λ (w : Way) (p : Sample). all_agree st.image w ≡ p) c.sure (λ e. refl) (λ e. ap (agree (st.image c.pair)) (down_is_decide st (c.pair - 1)))
+      cond_both (λ (w : Way) (p : Option Colour). all_agree st.image w ≡ p) c.sure (λ e. refl) (λ e. ap (agree (st.image c.pair)) (down_is_decide st (c.pair - 1)))
 
   led : (n : ℕ) (c : Candidate) → candidates st.mask n ≡ way_from st.mask c → decide st n ≡ under st c (st.image c.pair)
   unfolding down
   led n c l = sym (down_is_decide st n) ∙ ap (all_agree st.image) l ∙ along c
 
-  further : (c : Candidate) (cur up : Sample) → agree cur (under st c up) ≡ under st c (agree cur up)
+  further : (c : Candidate) (cur up : Option Colour) → agree cur (under st c up) ≡ under st c (agree cur up)
   unfolding under
   further c cur up =
-      cond_both (λ (p q : Sample). agree cur p ≡ q) c.sure (λ e. refl) (λ e. sym (agree_assoc cur up (decide st (c.pair - 1))))
+      cond_both (λ (p q : Option Colour). agree cur p ≡ q) c.sure (λ e. refl) (λ e. sym (agree_assoc cur up (decide st (c.pair - 1))))
 
-  going_on : (n : ℕ) (c e : Candidate) (cur : Sample) → Shows st n c cur → c.sure ≡ false → candidates st.mask (c.pair - 1) ≡ way_from st.mask e → decide st n ≡ under st e (agree cur (st.image e.pair))
+  going_on : (n : ℕ) (c e : Candidate) (cur : Option Colour) → Shows st n c cur → c.sure ≡ false → candidates st.mask (c.pair - 1) ≡ way_from st.mask e → decide st n ≡ under st e (agree cur (st.image e.pair))
   unfolding under
   going_on n c e cur h f l =
       let u : under st c cur ≡ agree cur (decide st (c.pair - 1)) = rw f in
       h.all ∙ u ∙ ap (agree cur) (led (c.pair - 1) e l) ∙ further e cur (st.image e.pair)
 
-  still_among : (n : ℕ) (c e : Candidate) (cur : Sample) → Shows st n c cur → c.sure ≡ false → candidates st.mask (c.pair - 1) ≡ way_from st.mask e
+  still_among : (n : ℕ) (c e : Candidate) (cur : Option Colour) → Shows st n c cur → c.sure ≡ false → candidates st.mask (c.pair - 1) ≡ way_from st.mask e
       → (j : ℕ) → Among j (way_from st.mask e) → Among j (candidates st.mask n)
   still_among n c e cur h f l j a = h.among j (below_among st.mask c j f (subst (Among j) (sym l) a))
 
@@ -80,11 +80,11 @@ first_shows d ns x pairs c l = may_show (row_masks d ns x) pairs c (λ j a. subs
 -- ---- where the loop begins, goes on and ends
 
 module _ (s d ns : List ℕ) (x : MainPos) where
-  pub next_shows : (pairs : ℕ) (c e : Candidate) (cur : Sample) (b : Bool) → Shows (row_stack s d ns x) pairs c cur → not c.sure && b ≡ true
+  pub next_shows : (pairs : ℕ) (c e : Candidate) (cur : Option Colour) (b : Bool) → Shows (row_stack s d ns x) pairs c cur → not c.sure && b ≡ true
       → candidates (row_masks d ns x) (c.pair - 1) ≡ way_from (row_masks d ns x) e → MayShow (row_masks d ns x) pairs e.pair
   next_shows pairs c e cur b h t l = may_show (row_masks d ns x) pairs e (still_among (row_stack s d ns x) pairs c e cur h (unsure c.sure b t) l)
 
-  pub show_begins : (pairs : ℕ) (c : Candidate) (cur : Sample) → candidates (row_masks d ns x) pairs ≡ way_from (row_masks d ns x) c
+  pub show_begins : (pairs : ℕ) (c : Candidate) (cur : Option Colour) → candidates (row_masks d ns x) pairs ≡ way_from (row_masks d ns x) c
       → cur ≡ row_image s d (row_at ns (c.pair * 2 + 1)) x → Shows (row_stack s d ns x) pairs c cur
   show_begins pairs c cur l e =
       record {
@@ -93,7 +93,7 @@ module _ (s d ns : List ℕ) (x : MainPos) where
         all = rw e (led (row_stack s d ns x) pairs c l);
       }
 
-  pub show_more : (pairs : ℕ) (c e : Candidate) (cur up new : Sample) (b : Bool) → Shows (row_stack s d ns x) pairs c cur → not c.sure && b ≡ true
+  pub show_more : (pairs : ℕ) (c e : Candidate) (cur up new : Option Colour) (b : Bool) → Shows (row_stack s d ns x) pairs c cur → not c.sure && b ≡ true
       → candidates (row_masks d ns x) (c.pair - 1) ≡ way_from (row_masks d ns x) e → up ≡ row_image s d (row_at ns (e.pair * 2 + 1)) x → new ≡ agree cur up
       → Shows (row_stack s d ns x) pairs e new
   show_more pairs c e cur up new b h t l eu en =
@@ -104,17 +104,17 @@ module _ (s d ns : List ℕ) (x : MainPos) where
         all = rw (en, eu) (going_on (row_stack s d ns x) pairs c e cur h f l);
       }
 
-  pub show_some : (pairs : ℕ) (c : Candidate) (cur : Sample) (b : Bool) → Shows (row_stack s d ns x) pairs c cur → not c.sure && b ≡ true → 1 ≤ c.pair
+  pub show_some : (pairs : ℕ) (c : Candidate) (cur : Option Colour) (b : Bool) → Shows (row_stack s d ns x) pairs c cur → not c.sure && b ≡ true → 1 ≤ c.pair
   show_some pairs c cur b h t = h.some (unsure c.sure b t)
 
-  pub show_less : (pairs : ℕ) (c e : Candidate) (cur : Sample) (b : Bool) → Shows (row_stack s d ns x) pairs c cur → not c.sure && b ≡ true
+  pub show_less : (pairs : ℕ) (c e : Candidate) (cur : Option Colour) (b : Bool) → Shows (row_stack s d ns x) pairs c cur → not c.sure && b ≡ true
       → candidates (row_masks d ns x) (c.pair - 1) ≡ way_from (row_masks d ns x) e → e.pair < c.pair
   show_less pairs c e cur b h t l =
       let p = show_some pairs c cur b h t in
       let q = (first_shows d ns x (c.pair - 1) e l).most in
       omega arith
 
-  pub show_ends : (pairs : ℕ) (c : Candidate) (cur : Sample) (b : Bool) → Shows (row_stack s d ns x) pairs c cur → b ≡ is_known cur → not c.sure && b ≡ false
+  pub show_ends : (pairs : ℕ) (c : Candidate) (cur : Option Colour) (b : Bool) → Shows (row_stack s d ns x) pairs c cur → b ≡ is_known cur → not c.sure && b ≡ false
       → cur ≡ decide (row_stack s d ns x) pairs
   unfolding under
   show_ends pairs c cur b h k t = sym (h.all ∙ ended c.sure b cur (decide (row_stack s d ns x) (c.pair - 1)) k t)
@@ -123,7 +123,7 @@ module _ (s d ns : List ℕ) (x : MainPos) where
   pub fits_all : (pairs : ℕ) → RowsFit s d ns pairs → MasksFit d ns pairs
   fits_all pairs g = fits_masks s d ns pairs pairs g (omega arith)
 
-  pub fits_below : (pairs : ℕ) (c : Candidate) (cur : Sample) → RowsFit s d ns pairs → Shows (row_stack s d ns x) pairs c cur → MasksFit d ns (c.pair - 1)
+  pub fits_below : (pairs : ℕ) (c : Candidate) (cur : Option Colour) → RowsFit s d ns pairs → Shows (row_stack s d ns x) pairs c cur → MasksFit d ns (c.pair - 1)
   fits_below pairs c cur g h = let m = (may_show (row_masks d ns x) pairs c h.among).most in fits_masks s d ns pairs (c.pair - 1) g (omega arith)
 
 pub ruleset showing = (rules, first_shows, show_begins, show_less, show_some, show_ends, fits_all, fits_below)

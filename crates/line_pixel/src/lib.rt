@@ -22,8 +22,7 @@ pub fn candidate_from(d: &[u8], rows: &[usize], from: usize, x: MainPos) -> Cand
     requires { MasksFit d.now rows.now from × (x.0 < 65536) }
     ensures { candidates (row_masks d.now rows.now x) from ≡ way_from (row_masks d.now rows.now x) result }
 {
-    let mut j = from;
-    while 0 < j {
+    for j in (1..=from).rev() {
         let m = line_fetch::mask_at(d, line_fetch::row_at(rows, j * 2), x);
         match m {
             Mask::Zero => {}
@@ -40,7 +39,6 @@ pub fn candidate_from(d: &[u8], rows: &[usize], from: usize, x: MainPos) -> Cand
                 };
             }
         }
-        j -= 1;
     }
     Candidate {
         pair: 0,

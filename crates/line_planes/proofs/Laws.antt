@@ -14,7 +14,7 @@ use Rattle.octets.specs.Entries.{entries_from}
 use Rattle.octets.proofs.Entries.{entries_next, entries_none}
 use Rattle.pixel_rules.specs.declared.Plane.{Plane}
 use Rattle.pixel_rules.specs.Planes.{plane_size, plane_at, plane_start}
-use Rattle.pixel_rules.specs.declared.Start.TheVariants.{From, Unread}
+use Rattle.std.specs.Prelude.{Some, None}
 use Rattle.line_planes.specs.declared.Listing.{Listing}
 use Rattle.line_planes.specs.Listing.{no_planes, with_plane, gathered, listing_of, entry_of, entries_of}
 
@@ -26,7 +26,7 @@ plane_read s i b e = rw e
 
 module _ (t : Listing) (p : Plane) where
   pub plane_kept : t.count < 16
-      → record { count = t.count + 1; layers = set t.layers t.count p.layer; starts = set t.starts t.count p.start } ≡ with_plane t p
+      → record { count = t.count + 1; planes = set t.planes t.count p } ≡ with_plane t p
   unfolding with_plane
   plane_kept h = simp (lt-ltb t.count 16 h)
 
@@ -89,17 +89,17 @@ module _ (t : Listing) (l n : ℕ) where
       record {
         within = omega arith;
         all = g.all;
-        left = g.left ∙ ap (λ ps. plane_start ps l) (entries_next (entry_of t) n i h) ∙ ap (λ b. cond b (From (entry_of t i).start) (plane_start (entries_from (entry_of t) (n - (i + 1)) (i + 1)) l)) (ne_eqb (entry_of t i).layer l (λ q. d (ap (λ (x : Plane). x.layer) e ∙ q)));
+        left = g.left ∙ ap (λ ps. plane_start ps l) (entries_next (entry_of t) n i h) ∙ ap (λ b. cond b (Some (entry_of t i).start) (plane_start (entries_from (entry_of t) (n - (i + 1)) (i + 1)) l)) (ne_eqb (entry_of t i).layer l (λ q. d (ap (λ (x : Plane). x.layer) e ∙ q)));
       }
 
-  pub seek_found : (p : Plane) (i : ℕ) → Seeking t l n i → i < n → p ≡ entry_of t i → p.layer ≡ l → From p.start ≡ plane_start (entries_of t) l
+  pub seek_found : (p : Plane) (i : ℕ) → Seeking t l n i → i < n → p ≡ entry_of t i → p.layer ≡ l → Some p.start ≡ plane_start (entries_of t) l
   unfolding plane_start
   seek_found p i g h e q =
       sym
-      (g.left ∙ ap (λ ps. plane_start ps l) (entries_next (entry_of t) n i h) ∙ ap (λ b. cond b (From (entry_of t i).start) (plane_start (entries_from (entry_of t) (n - (i + 1)) (i + 1)) l)) (eq-eqb (entry_of t i).layer l (ap (λ (x : Plane). x.layer) (sym e) ∙ q))
-      ∙ ap (λ (x : Plane). From x.start) (sym e))
+      (g.left ∙ ap (λ ps. plane_start ps l) (entries_next (entry_of t) n i h) ∙ ap (λ b. cond b (Some (entry_of t i).start) (plane_start (entries_from (entry_of t) (n - (i + 1)) (i + 1)) l)) (eq-eqb (entry_of t i).layer l (ap (λ (x : Plane). x.layer) (sym e) ∙ q))
+      ∙ ap (λ (x : Plane). Some x.start) (sym e))
 
-  pub seek_end : (i : ℕ) → Seeking t l n i → n ≤ i → Unread ≡ plane_start (entries_of t) l
+  pub seek_end : (i : ℕ) → Seeking t l n i → n ≤ i → None ≡ plane_start (entries_of t) l
   unfolding plane_start
   seek_end i g h = sym (g.left ∙ ap (λ ps. plane_start ps l) (entries_none (entry_of t) n i h))
 

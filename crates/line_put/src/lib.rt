@@ -28,13 +28,13 @@ pub fn put_pixel(out: &mut [u8], at: usize, p: Sample, unseen: Colour)
     ensures { out.new ≡ put_at out.old at (four_of unseen p) }
 {
     match p {
-        Sample::Known(c) => {
+        Some(c) => {
             out[at] = c.c0;
             out[at + 1] = c.c1;
             out[at + 2] = c.c2;
             out[at + 3] = 1;
         }
-        Sample::Unknown => {
+        None => {
             out[at] = unseen.c0;
             out[at + 1] = unseen.c1;
             out[at + 2] = unseen.c2;
@@ -56,10 +56,8 @@ pub fn put_pixels(
     requires { RowsFit s.now d.now rows.now pairs × (width * 4 ≤ length out.old) × (width ≤ 65536) }
     ensures { out.new ≡ put_at out.old 0 (pixels unseen (λ (x : MainPos). decide (row_stack s.now d.now rows.now x) pairs) width) }
 {
-    let mut x: usize = 0;
-    while x < width {
+    for x in 0..width {
         let p = line_pixel::pixel(s, d, rows, pairs, MainPos(x));
         put_pixel(out, x * 4, p, unseen);
-        x += 1;
     }
 }

@@ -17,8 +17,7 @@ use Rattle.sheet_rules.specs.declared.Record.{Record}
 use Rattle.sheet_rules.specs.Record.{record_size}
 use Rattle.sheet_rules.specs.Judge.{coded}
 use Rattle.pixel_rules.specs.declared.MainPos.{MainPos}
-use Rattle.pixel_rules.specs.declared.Start.{Start}
-use Rattle.pixel_rules.specs.declared.Start.TheVariants.{From, Unread}
+use Rattle.std.specs.Prelude.{Option, Some, None}
 use Rattle.pixel_rules.specs.Place.{ratio, left_of, top_of, scale, covers, inside}
 use Rattle.pixel_rules.specs.Planes.{PlaneList, plane_start}
 use Rattle.pixel_rules.specs.Samples.{Scene, record_of, main_of, index_of, mask_at, image_at, depth, pairs_of}
@@ -35,16 +34,16 @@ use Rattle.line_rows.proofs.Same.{row_among, mask_same, image_same, other_image}
 
 -- ---- one row: what it names is there, if the samples of a start are
 
-module _ (r : Record) (k : ℕ) (y : MainPos) (p : Start) (other : ℕ) (some : 0 < k) (small : k < 65536) where
+module _ (r : Record) (k : ℕ) (y : MainPos) (p : Option ℕ) (other : ℕ) (some : 0 < k) (small : k < 65536) where
   -- the samples of the layer in this line are in the buffer
   abbrev There : List ℕ → Type 0
-  There d = (a : ℕ) → p ≡ From a → (x : MainPos) → covers (left_of r) r.width k x ≡ true → covers (top_of r) r.height k y ≡ true
+  There d = (a : ℕ) → p ≡ Some a → (x : MainPos) → covers (left_of r) r.width k x ≡ true → covers (top_of r) r.height k y ≡ true
       → a + ((scale k (top_of r) y).0 * r.width + (scale k (left_of r) x).0) * depth r + depth r ≤ length d
 
-  turns_in : (q : Start) → Turns (row_in r k y q other)
+  turns_in : (q : Option ℕ) → Turns (row_in r k y q other)
   unfolding row_in
-  turns_in Unread = record { some = some; small = small; factor = refl }
-  turns_in (From i) = record { some = some; small = small; factor = refl }
+  turns_in None = record { some = some; small = small; factor = refl }
+  turns_in (Some i) = record { some = some; small = small; factor = refl }
 
   turns_out : Turns (row_out other)
   turns_out = record { some = lit< tt; small = lit< tt; factor = refl }
@@ -55,16 +54,16 @@ module _ (r : Record) (k : ℕ) (y : MainPos) (p : Start) (other : ℕ) (some : 
   over : (x : MainPos) → r.x ≤ x.0 → x.0 < r.x + r.width * k → covers (left_of r) r.width k x ≡ true
   over x a b = (says_covers (left_of r) r.width k x).shown (a, b)
 
-  each_there : (d : List ℕ) → There d → covers (top_of r) r.height k y ≡ true → (a : ℕ) → p ≡ From a → (x : MainPos) → covers (left_of r) r.width k x ≡ true
+  each_there : (d : List ℕ) → There d → covers (top_of r) r.height k y ≡ true → (a : ℕ) → p ≡ Some a → (x : MainPos) → covers (left_of r) r.width k x ≡ true
       → a + (scale k (top_of r) y).0 * r.width * depth r + (scale k (left_of r) x).0 * depth r + depth r ≤ length d
   each_there d f t a z x o = let h = f a z x o t in let q = add-mul ((scale k (top_of r) y).0 * r.width) (scale k (left_of r) x).0 (depth r) in omega arith
 
-  mask_in_lem : (d : List ℕ) → depth r ≡ 1 → There d → covers (top_of r) r.height k y ≡ true → (q : Start) → p ≡ q → MaskFits d (row_in r k y q other)
+  mask_in_lem : (d : List ℕ) → depth r ≡ 1 → There d → covers (top_of r) r.height k y ≡ true → (q : Option ℕ) → p ≡ q → MaskFits d (row_in r k y q other)
   unfolding row_in
-  mask_in_lem d e f t Unread z = record { turns = turns_in Unread; there = λ x a b n. absurd (n refl) }
-  mask_in_lem d e f t (From i) z =
+  mask_in_lem d e f t None z = record { turns = turns_in None; there = λ x a b n. absurd (n refl) }
+  mask_in_lem d e f t (Some i) z =
       record {
-        turns = turns_in (From i);
+        turns = turns_in (Some i);
         there = λ x a b n.
             let h = each_there d f t i z x (over x a b) in
             let g : (scale k (left_of r) x).0 * depth r ≡ (scale k (left_of r) x).0 * 1 = ap (λ (m : ℕ). (scale k (left_of r) x).0 * m) e in
@@ -77,10 +76,10 @@ module _ (r : Record) (k : ℕ) (y : MainPos) (p : Start) (other : ℕ) (some : 
       cond_with (MaskFits d) (coded r && covers (top_of r) r.height k y) (λ t. mask_in_lem d e f (crossed t) p refl)
       (λ t. record { turns = turns_out; there = λ x a b n. absurd (n refl) })
 
-  image_in : (s d : List ℕ) → other + 3 ≤ length s → There d → covers (top_of r) r.height k y ≡ true → (q : Start) → p ≡ q → ImageFits s d (row_in r k y q other)
+  image_in : (s d : List ℕ) → other + 3 ≤ length s → There d → covers (top_of r) r.height k y ≡ true → (q : Option ℕ) → p ≡ q → ImageFits s d (row_in r k y q other)
   unfolding row_in
-  image_in s d o f t Unread z = record { turns = turns_in Unread; there = λ x a b n. absurd (n refl); base = o }
-  image_in s d o f t (From i) z = record { turns = turns_in (From i); there = λ x a b n. each_there d f t i z x (over x a b); base = o }
+  image_in s d o f t None z = record { turns = turns_in None; there = λ x a b n. absurd (n refl); base = o }
+  image_in s d o f t (Some i) z = record { turns = turns_in (Some i); there = λ x a b n. each_there d f t i z x (over x a b); base = o }
 
   pub image_fits : (s d : List ℕ) → other + 3 ≤ length s → There d → ImageFits s d (row_by r k y p other)
   unfolding row_by

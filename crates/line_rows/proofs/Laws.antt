@@ -1,6 +1,6 @@
 -- One law for each way out of the functions that make a row: its premises are what is known there.
 -- Assumes nothing.
-use Prim.Native.Nat.{ℕ, suc, ◌+◌, ◌-◌, ◌*◌, ◌/◌, ◌%◌, ◌≤◌, ◌<◌}
+use Prim.Native.Nat.{ℕ, zero, suc, ◌+◌, ◌-◌, ◌*◌, ◌/◌, ◌%◌, ◌≤◌, ◌<◌}
 use native.Mathlib.Nat.{add-zero}
 use native.Mathlib.Omega.{arith}
 use mathlib.Core.Path.{◌≡◌, refl, sym, ap, ap₂, subst, ◌∙◌}
@@ -23,8 +23,7 @@ use Rattle.sheet_rules.specs.Record.{record_at, record_size}
 use Rattle.sheet_rules.specs.Judge.{coded}
 use Rattle.pixel_rules.specs.declared.MainPos.{MainPos}
 use Rattle.pixel_rules.specs.declared.SamplePos.{SamplePos}
-use Rattle.pixel_rules.specs.declared.Start.{Start}
-use Rattle.pixel_rules.specs.declared.Start.TheVariants.{From, Unread}
+use Rattle.std.specs.Prelude.{Option, Some, None}
 use Rattle.pixel_rules.specs.declared.Plane.{Plane}
 use Rattle.pixel_rules.specs.Planes.{plane_start}
 use Rattle.pixel_rules.specs.Place.{left_of, top_of, area_end, scale, covers}
@@ -59,12 +58,12 @@ start_made a width each down w n ew en = ap (λ (i : ℕ). a + i) (en ∙ ap (λ
 -- ---- a layer that the line crosses
 
 module _ (r : Record) (k : ℕ) (y : MainPos) where
-  pub in_unread : (other : ℕ) (p : Start) (from to : MainPos) (w m : ℕ) → p ≡ Unread → from ≡ left_of r → w ≡ r.width → to ≡ area_end from w k → m ≡ factor_of k
+  pub in_unread : (other : ℕ) (p : Option ℕ) (from to : MainPos) (w m : ℕ) → p ≡ None → from ≡ left_of r → w ≡ r.width → to ≡ area_end from w k → m ≡ factor_of k
       → record { from = from; to = to; factor = m; read = 0; at = 0; other = other; ratio = k } ≡ row_in r k y p other
   unfolding row_in
   in_unread other p from to w m e f g h em = rw (e, h, f, g, em)
 
-  pub in_read : (other : ℕ) (p : Start) (a w m each at : ℕ) (from to o : MainPos) (q : SamplePos) → p ≡ From a → from ≡ left_of r → w ≡ r.width → to ≡ area_end from w k → m ≡ factor_of k
+  pub in_read : (other : ℕ) (p : Option ℕ) (a w m each at : ℕ) (from to o : MainPos) (q : SamplePos) → p ≡ Some a → from ≡ left_of r → w ≡ r.width → to ≡ area_end from w k → m ≡ factor_of k
       → (each ≡ depth r) × (each ≤ 3) → o ≡ top_of r → q ≡ scale k o y → at ≡ a + q.0 * r.width * each
       → record { from = from; to = to; factor = m; read = each; at = at; other = other; ratio = k } ≡ row_in r k y p other
   unfolding row_in
@@ -94,7 +93,7 @@ module _ (r : Record) (k : ℕ) (y : MainPos) where
 pub out_made : (other m : ℕ) → m ≡ factor_of 1 → record { from = record { 0 = 0 }; to = record { 0 = 0 }; factor = m; read = 0; at = 0; other = other; ratio = 1 } ≡ row_out other
 out_made other m e = rw e
 
-module _ (r : Record) (k : ℕ) (y : MainPos) (p : Start) (other : ℕ) where
+module _ (r : Record) (k : ℕ) (y : MainPos) (p : Option ℕ) (other : ℕ) where
   pub by_uncoded : (w : Row) → r.len ≡ 0 → w ≡ row_out other → w ≡ row_by r k y p other
   unfolding row_by
   by_uncoded w e f = f ∙ simp (eq-eqb r.len 0 e)
@@ -139,7 +138,7 @@ module _ (c : Bool) (r : Record) (i l : ℕ) where
 -- ---- the row of a layer of a stripe
 
 module _ (s : List ℕ) (extent : Extent) (m : ℕ) (c : Bool) (y : MainPos) (l : ℕ) where
-  pub layer_made : (ps : List Plane) (r : Record) (k : ℕ) (p : Start) (n : ℕ) (w : Row) → Layer s extent m c l → r ≡ record_at s (extent.first + (l - 1)) → k ≡ m / r.res
+  pub layer_made : (ps : List Plane) (r : Record) (k : ℕ) (p : Option ℕ) (n : ℕ) (w : Row) → Layer s extent m c l → r ≡ record_at s (extent.first + (l - 1)) → k ≡ m / r.res
       → p ≡ plane_start ps l → n ≡ other_of c r (extent.first + (l - 1)) l → w ≡ row_by r k y p n → w ≡ row_of s extent ps y l
   unfolding row_of layer_record
   layer_made ps r k p n w g er ek ep en ew = ew ∙ rw (ek, ep, en, er, g.main, g.third) refl
@@ -197,21 +196,23 @@ rows_more s extent ps y n =
     ∙ joined_append numbers_of (entries_from (row_of s extent ps y) n 1) (row_of s extent ps y (1 + n) ∷ [])
     ∙ ap (λ (l : ℕ). rows_of s extent ps y n ++ numbers_of (row_of s extent ps y l)) z
 
-pub record Filling (d s : List ℕ) (extent : Extent) (t : Listing) (y : MainPos) (m : ℕ) (c : Bool) (n : ℕ) (out : List ℕ) (i : ℕ) : Type 0 where
-  pub within : i ≤ n
+pub record Filling (d s : List ℕ) (extent : Extent) (t : Listing) (y : MainPos) (m : ℕ) (c : Bool) (n : ℕ) (out : List ℕ) (l : ℕ) : Type 0 where
+  pub some : 1 ≤ l
+  pub within : l ≤ n + 1
   pub all : n ≡ extent.layers
   pub room : n * row_size ≤ length d
   pub long : length out ≡ length d
   pub main : m ≡ main_res s extent
   pub third : c ≡ coded (layer_record s extent 3)
-  pub filled : out ≡ put_at d 0 (rows_of s extent (entries_of t) y i)
+  pub filled : out ≡ put_at d 0 (rows_of s extent (entries_of t) y (l - 1))
 
 module _ (d s : List ℕ) (extent : Extent) (t : Listing) (y : MainPos) (m : ℕ) (c : Bool) (n : ℕ) where
   pub filling_none : (second third : Record) → extent.layers * row_size ≤ length d → n ≡ extent.layers → second ≡ record_at s (extent.first + 1) → third ≡ record_at s (extent.first + 2)
-      → m ≡ second.res → c ≡ not (eqb third.len 0) → Filling d s extent t y m c n d 0
+      → m ≡ second.res → c ≡ not (eqb third.len 0) → Filling d s extent t y m c n d 1
   unfolding joined entries_from layer_record
   filling_none second third h e es et em ec =
       record {
+        some = omega arith;
         within = omega arith;
         all = e;
         room = omega arith;
@@ -221,8 +222,9 @@ module _ (d s : List ℕ) (extent : Extent) (t : Listing) (y : MainPos) (m : ℕ
         filled = sym (put_nothing d 0);
       }
 
-  pub filling_layer : (out : List ℕ) (i : ℕ) → Filling d s extent t y m c n out i → Standing s extent → i < n → Layer s extent m c (i + 1)
-  filling_layer out i g z h =
+  pub filling_layer : (out : List ℕ) (l : ℕ) → Filling d s extent t y m c n out l → Standing s extent → l ≤ n → Layer s extent m c l
+  filling_layer out l g z h =
+      let o = g.some in
       let a = g.all in
       let w = z.whole in
       let f = z.fifteen in
@@ -230,24 +232,27 @@ module _ (d s : List ℕ) (extent : Extent) (t : Listing) (y : MainPos) (m : ℕ
         least = omega arith;
         most = omega arith;
         place = omega arith;
-        res = z.res (i + 1) (omega arith) (omega arith);
-        turns = z.turns (i + 1) (omega arith) (omega arith);
+        res = z.res l (omega arith) (omega arith);
+        turns = z.turns l (omega arith) (omega arith);
         main = g.main;
         third = g.third;
       }
 
-  pub filling_room : (out : List ℕ) (i : ℕ) → Filling d s extent t y m c n out i → i < n → (i + 1) * row_size ≤ length out
-  filling_room out i g h = let r = g.room in let l = g.long in omega arith
+  pub filling_room : (out : List ℕ) (l : ℕ) → Filling d s extent t y m c n out l → l ≤ n → (1 ≤ l) × (l * row_size ≤ length out)
+  filling_room out l g h = let o = g.some in let r = g.room in let k = g.long in (omega arith, omega arith)
 
-  pub filling_more : (out new : List ℕ) (i : ℕ) (w : Row) → Filling d s extent t y m c n out i → i < n → w ≡ row_of s extent (entries_of t) y (i + 1)
-      → new ≡ put_at out ((i + 1 - 1) * row_size) (numbers_of w) → Filling d s extent t y m c n new (i + 1)
-  filling_more out new i w g h ew e =
+  filling_next : (out new : List ℕ) (i : ℕ) (w : Row) → Filling d s extent t y m c n out (i + 1) → i < n → w ≡ row_of s extent (entries_of t) y (i + 1)
+      → new ≡ put_at out ((i + 1 - 1) * row_size) (numbers_of w) → Filling d s extent t y m c n new (i + 1 + 1)
+  filling_next out new i w g h ew e =
       let l = length_rows_lem s extent (entries_of t) y i in
       let r = g.room in
       let k = g.long in
       let q : length (numbers_of w) ≡ row_size = refl in
+      let iz : i + 1 - 1 ≡ i = omega arith in
+      let nz : i + 1 ≡ i + 1 + 1 - 1 = omega arith in
       let lz : (i + 1 - 1) * row_size ≡ 0 + length (rows_of s extent (entries_of t) y i) = omega arith in
       record {
+        some = omega arith;
         within = omega arith;
         all = g.all;
         room = g.room;
@@ -255,22 +260,39 @@ module _ (d s : List ℕ) (extent : Extent) (t : Listing) (y : MainPos) (m : ℕ
         main = g.main;
         third = g.third;
         filled =
-            e ∙ ap₂ (λ (o : List ℕ) (a : ℕ). put_at o a (numbers_of w)) g.filled lz
+            e ∙ ap₂ (λ (o : List ℕ) (a : ℕ). put_at o a (numbers_of w)) (g.filled ∙ ap (λ (k : ℕ). put_at d 0 (rows_of s extent (entries_of t) y k)) iz) lz
             ∙ put_put d 0 (rows_of s extent (entries_of t) y i) (numbers_of w) (omega arith)
             ∙ ap (λ (x : Row). put_at d 0 (rows_of s extent (entries_of t) y i ++ numbers_of x)) ew
-            ∙ ap (put_at d 0) (sym (rows_more s extent (entries_of t) y i));
+            ∙ ap (put_at d 0) (sym (rows_more s extent (entries_of t) y i))
+            ∙ ap (λ (k : ℕ). put_at d 0 (rows_of s extent (entries_of t) y k)) nz;
       }
 
-  pub filling_end : (out : List ℕ) (i : ℕ) → Filling d s extent t y m c n out i → n ≤ i → out ≡ put_at d 0 (rows_of s extent (entries_of t) y extent.layers)
-  filling_end out i g h =
+  pub filling_more : (out new : List ℕ) (l : ℕ) (w : Row) → Filling d s extent t y m c n out l → l ≤ n → w ≡ row_of s extent (entries_of t) y l
+      → new ≡ put_at out ((l - 1) * row_size) (numbers_of w) → Filling d s extent t y m c n new (l + 1)
+  filling_more out new zero w g h ew e = absurd (let o = g.some in omega arith)
+  filling_more out new (suc i) w g h ew e =
+      let z : suc i ≡ i + 1 = omega arith in
+      subst (λ (k : ℕ). Filling d s extent t y m c n new (k + 1)) (sym z)
+      (filling_next out new i w
+      (subst (λ (k : ℕ). Filling d s extent t y m c n out k) z g) (omega arith)
+      (ew ∙ ap (λ (k : ℕ). row_of s extent (entries_of t) y k) z)
+      (e ∙ ap (λ (k : ℕ). put_at out ((k - 1) * row_size) (numbers_of w)) z))
+
+  pub filling_end : (out : List ℕ) (l : ℕ) → Filling d s extent t y m c n out l → n < l → out ≡ put_at d 0 (rows_of s extent (entries_of t) y extent.layers)
+  filling_end out l g h =
       let w = g.within in
       let a = g.all in
-      let z : i ≡ extent.layers = omega arith in
+      let z : l - 1 ≡ extent.layers = omega arith in
       g.filled ∙ ap (λ (k : ℕ). put_at d 0 (rows_of s extent (entries_of t) y k)) z
+
+  -- with the last layer's row
+  pub filling_last : (out new : List ℕ) (l : ℕ) (w : Row) → Filling d s extent t y m c n out l → n ≤ l → l ≤ n → w ≡ row_of s extent (entries_of t) y l
+      → new ≡ put_at out ((l - 1) * row_size) (numbers_of w) → new ≡ put_at d 0 (rows_of s extent (entries_of t) y extent.layers)
+  filling_last out new l w g h k ew e = filling_end new (l + 1) (filling_more out new l w g k ew e) (omega arith)
 
 pub ruleset layering = (rules, layer_made, layer_res, layer_turns)
 
-pub ruleset filling = (rules, stores_row, filling_none, filling_layer, filling_room, filling_more, filling_end)
+pub ruleset filling = (rules, stores_row, filling_none, filling_layer, filling_room, filling_more, filling_end, filling_last)
 
 pub ruleset areas = (rules, place_made, end_small, covers_made, product_small, start_made)
 

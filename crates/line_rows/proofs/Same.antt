@@ -20,11 +20,9 @@ use Rattle.sheet_rules.specs.Record.{record_at, record_size}
 use Rattle.sheet_rules.specs.Judge.{coded}
 use Rattle.pixel_rules.specs.declared.MainPos.{MainPos}
 use Rattle.pixel_rules.specs.declared.Plane.{Plane}
-use Rattle.pixel_rules.specs.declared.Sample.TheVariants.{Known, Unknown}
+use Rattle.std.specs.Prelude.{Option, Some, None}
 use Rattle.pixel_rules.specs.declared.Mask.{Mask}
 use Rattle.pixel_rules.specs.declared.Mask.TheVariants.{Zero, One, Hidden}
-use Rattle.pixel_rules.specs.declared.Start.{Start}
-use Rattle.pixel_rules.specs.declared.Start.TheVariants.{From, Unread}
 use Rattle.pixel_rules.specs.Place.{ratio, left_of, top_of, scale, covers, inside}
 use Rattle.pixel_rules.specs.Planes.{plane_start}
 use Rattle.pixel_rules.specs.Samples.{Scene, record_of, main_of, index_of, bit_of, base_of, virtual, colour_in, mask_read, image_read, mask_at, image_at, depth}
@@ -68,9 +66,9 @@ row_mask_out : (d : List ℕ) (other : ℕ) (x : MainPos) → across (row_out ot
 unfolding row_mask
 row_mask_out d other x e = ap (λ (b : Bool). cond b (cond (eqb 0 0) Hidden (bit_of (get_or d (0 + (scale 1 (record { 0 = 0 }) x).0) 0))) (bit_of other)) e
 
-row_image_out : (s d : List ℕ) (other : ℕ) (x : MainPos) → across (row_out other) x ≡ false → row_image s d (row_out other) x ≡ Known (colour_at s other)
+row_image_out : (s d : List ℕ) (other : ℕ) (x : MainPos) → across (row_out other) x ≡ false → row_image s d (row_out other) x ≡ Some (colour_at s other)
 unfolding row_image
-row_image_out s d other x e = ap (λ (b : Bool). cond b (cond (eqb 0 0) Unknown (Known (colour_in 0 d (0 + (scale 1 (record { 0 = 0 }) x).0 * 0)))) (Known (colour_at s other))) e
+row_image_out s d other x e = ap (λ (b : Bool). cond b (cond (eqb 0 0) None (Some (colour_in 0 d (0 + (scale 1 (record { 0 = 0 }) x).0 * 0)))) (Some (colour_at s other))) e
 
 module _ (d : List ℕ) (r : Record) (k : ℕ) (x y : MainPos) (other : ℕ) where
   abbrev area : Bool
@@ -80,27 +78,27 @@ module _ (d : List ℕ) (r : Record) (k : ℕ) (x y : MainPos) (other : ℕ) whe
   passed : across (row_out other) x ≡ false
   passed = ap (λ (b : Bool). leb 0 x.0 && b) (le-ltb x.0 0 (omega arith)) ∙ and-false (leb 0 x.0)
 
-  mask_in_lem : (p : Start) → depth r ≡ 1 → row_mask d (row_in r k y p other) x
+  mask_in_lem : (p : Option ℕ) → depth r ≡ 1 → row_mask d (row_in r k y p other) x
       ≡ cond (covers (left_of r) r.width k x) (mask_read d p ((scale k (top_of r) y).0 * r.width + (scale k (left_of r) x).0)) (bit_of other)
   unfolding row_mask row_in covers mask_read
-  mask_in_lem Unread e = refl
-  mask_in_lem (From a) e =
+  mask_in_lem None e = refl
+  mask_in_lem (Some a) e =
       let z : a + (scale k (top_of r) y).0 * r.width * 1 + (scale k (left_of r) x).0 ≡ a + ((scale k (top_of r) y).0 * r.width + (scale k (left_of r) x).0) = omega arith in
       rw (e, z) refl
 
-  image_in : (s : List ℕ) (p : Start) → row_image s d (row_in r k y p other) x
-      ≡ cond (covers (left_of r) r.width k x) (image_read d (depth r) p ((scale k (top_of r) y).0 * r.width + (scale k (left_of r) x).0)) (Known (colour_at s other))
+  image_in : (s : List ℕ) (p : Option ℕ) → row_image s d (row_in r k y p other) x
+      ≡ cond (covers (left_of r) r.width k x) (image_read d (depth r) p ((scale k (top_of r) y).0 * r.width + (scale k (left_of r) x).0)) (Some (colour_at s other))
   unfolding row_image row_in covers image_read
-  image_in s Unread = refl
-  image_in s (From a) =
+  image_in s None = refl
+  image_in s (Some a) =
       let n : ℕ = depth r in
       let z : a + (scale k (top_of r) y).0 * r.width * n + (scale k (left_of r) x).0 * n ≡ a + ((scale k (top_of r) y).0 * r.width + (scale k (left_of r) x).0) * n =
       add_assoc a _ _ ∙ ap (λ (m : ℕ). a + m) (sym (add-mul ((scale k (top_of r) y).0 * r.width) (scale k (left_of r) x).0 n)) in
       let some = depth_some r in
       let e : eqb (depth r) 0 ≡ false = ne_eqb (depth r) 0 (λ q. omega arith) in
-      ap₂ (λ (b : Bool) (m : ℕ). cond (covers (left_of r) r.width k x) (cond b Unknown (Known (colour_in n d m))) (Known (colour_at s other))) e z
+      ap₂ (λ (b : Bool) (m : ℕ). cond (covers (left_of r) r.width k x) (cond b None (Some (colour_in n d m))) (Some (colour_at s other))) e z
 
-  pub mask_by : (p : Start) → depth r ≡ 1 → row_mask d (row_by r k y p other) x
+  pub mask_by : (p : Option ℕ) → depth r ≡ 1 → row_mask d (row_by r k y p other) x
       ≡ cond (coded r) (cond area (mask_read d p ((scale k (top_of r) y).0 * r.width + (scale k (left_of r) x).0)) (bit_of other)) (bit_of other)
   unfolding row_by
   mask_by p e = go (coded r) (covers (top_of r) r.height k y) (covers (left_of r) r.width k x) refl
@@ -116,21 +114,21 @@ module _ (d : List ℕ) (r : Record) (k : ℕ) (x y : MainPos) (other : ℕ) whe
       go true false true z = out
       go true true c z = mask_in_lem p e ∙ ap (λ (t : Bool). cond t (mask_read d p ((scale k (top_of r) y).0 * r.width + (scale k (left_of r) x).0)) (bit_of other)) z ∙ ap (λ (t : Bool). cond t (mask_read d p ((scale k (top_of r) y).0 * r.width + (scale k (left_of r) x).0)) (bit_of other)) (sym (and-true c))
 
-  pub image_by : (s : List ℕ) (p : Start) → row_image s d (row_by r k y p other) x
-      ≡ cond (coded r && area) (image_read d (depth r) p ((scale k (top_of r) y).0 * r.width + (scale k (left_of r) x).0)) (Known (colour_at s other))
+  pub image_by : (s : List ℕ) (p : Option ℕ) → row_image s d (row_by r k y p other) x
+      ≡ cond (coded r && area) (image_read d (depth r) p ((scale k (top_of r) y).0 * r.width + (scale k (left_of r) x).0)) (Some (colour_at s other))
   unfolding row_by
   image_by s p = go (coded r) (covers (top_of r) r.height k y) (covers (left_of r) r.width k x) refl
     where
-      out : row_image s d (row_out other) x ≡ Known (colour_at s other)
+      out : row_image s d (row_out other) x ≡ Some (colour_at s other)
       out = row_image_out s d other x passed
 
       go : (a b c : Bool) → covers (left_of r) r.width k x ≡ c
           → row_image s d (cond (a && b) (row_in r k y p other) (row_out other)) x
-          ≡ cond (a && (c && b)) (image_read d (depth r) p ((scale k (top_of r) y).0 * r.width + (scale k (left_of r) x).0)) (Known (colour_at s other))
+          ≡ cond (a && (c && b)) (image_read d (depth r) p ((scale k (top_of r) y).0 * r.width + (scale k (left_of r) x).0)) (Some (colour_at s other))
       go false b c z = out
       go true false false z = out
       go true false true z = out
-      go true true c z = image_in s p ∙ ap (λ (t : Bool). cond t (image_read d (depth r) p ((scale k (top_of r) y).0 * r.width + (scale k (left_of r) x).0)) (Known (colour_at s other))) (z ∙ sym (and-true c))
+      go true true c z = image_in s p ∙ ap (λ (t : Bool). cond t (image_read d (depth r) p ((scale k (top_of r) y).0 * r.width + (scale k (left_of r) x).0)) (Some (colour_at s other))) (z ∙ sym (and-true c))
 
 -- ---- what a layer gives outside its area
 
@@ -184,5 +182,5 @@ module _ (v : Scene) (x y : MainPos) (l : ℕ) where
       let i : ℕ = v.extent.first + (l - 1) in
       let r = record_of v l in
       image_by v.samples (record_of v l) (ratio (main_of v) (record_of v l)) x y (other_of (coded (record_of v 3)) (record_of v l) i l) v.sheet (plane_start v.planes l)
-      ∙ ap (λ c. cond (coded r && inside (main_of v) r x y) (image_read v.samples (depth r) (plane_start v.planes l) (index_of (main_of v) r x y)) (Known c))
+      ∙ ap (λ c. cond (coded r && inside (main_of v) r x y) (image_read v.samples (depth r) (plane_start v.planes l) (index_of (main_of v) r x y)) (Some c))
       (ap (colour_at v.sheet) (other_image (coded (record_of v 3)) r i l e) ∙ base_there v.sheet i)

@@ -8,7 +8,7 @@
 --   Covered              the line crosses the layer's area, of samples of q main pixels each
 --   Layer                the same of one layer
 --   Standing             what of an accepted sheet the rows need
-use Rattle.std.specs.Prelude.{ℕ, ◌+◌, ◌-◌, ◌*◌, ◌/◌, ◌%◌, ◌≤◌, ◌<◌, ◌≡◌, Bool, true, ◌&&◌, not, cond, List, length, eqb}
+use Rattle.std.specs.Prelude.{ℕ, ◌+◌, ◌-◌, ◌*◌, ◌/◌, ◌%◌, ◌≤◌, ◌<◌, ◌≡◌, Bool, true, ◌&&◌, not, cond, List, length, eqb, Option, Some, None}
 use Rattle.octets.specs.Entries.{entries_from, joined}
 use Rattle.sheet_rules.specs.StripeTable.{layer_record, main_res}
 use Rattle.sheet_rules.specs.declared.Record.{Record}
@@ -17,8 +17,6 @@ use Rattle.sheet_rules.specs.Record.{record_size}
 use Rattle.sheet_rules.specs.Judge.{coded}
 use Rattle.pixel_rules.specs.declared.MainPos.{MainPos}
 use Rattle.pixel_rules.specs.declared.Plane.{Plane}
-use Rattle.pixel_rules.specs.declared.Start.{Start}
-use Rattle.pixel_rules.specs.declared.Start.TheVariants.{From, Unread}
 use Rattle.pixel_rules.specs.Place.{ratio, left_of, top_of, area_end, scale, covers}
 use Rattle.pixel_rules.specs.Planes.{plane_start}
 use Rattle.pixel_rules.specs.Samples.{depth}
@@ -29,10 +27,10 @@ use Rattle.line_fetch.specs.Rows.{numbers_of}
 abbrev pub row_out : ℕ → Row
 row_out other = record { from = record { 0 = 0 }; to = record { 0 = 0 }; factor = factor_of 1; read = 0; at = 0; other = other; ratio = 1 }
 
-unfoldable pub row_in : Record → ℕ → MainPos → Start → ℕ → Row
-row_in r q y Unread other =
+unfoldable pub row_in : Record → ℕ → MainPos → Option ℕ → ℕ → Row
+row_in r q y None other =
     record { from = left_of r; to = area_end (left_of r) r.width q; factor = factor_of q; read = 0; at = 0; other = other; ratio = q }
-row_in r q y (From a) other =
+row_in r q y (Some a) other =
     record {
       from = left_of r;
       to = area_end (left_of r) r.width q;
@@ -43,7 +41,7 @@ row_in r q y (From a) other =
       ratio = q;
     }
 
-unfoldable pub row_by : Record → ℕ → MainPos → Start → ℕ → Row
+unfoldable pub row_by : Record → ℕ → MainPos → Option ℕ → ℕ → Row
 unfolding row_in
 row_by r q y p other = cond (coded r && covers (top_of r) r.height q y) (row_in r q y p other) (row_out other)
 

@@ -10,7 +10,7 @@ ghost use Rattle.line_rows.specs.Rows.{row_in, row_out, row_by, other_of, row_of
 
 use line_fetch::{ROW_SIZE, Row};
 use line_planes::Listing;
-use pixel_rules::{MainPos, SamplePos, Start};
+use pixel_rules::{MainPos, SamplePos};
 use sheet_rules::{Extent, RECORD_SIZE, Record};
 
 // A layer's offset along a line, as a place.
@@ -54,7 +54,7 @@ pub fn row_start(a: u32, width: u16, each: usize, down: SamplePos) -> usize
 }
 
 // A layer that the line crosses.
-pub fn row_in(r: Record, ratio: usize, y: MainPos, p: Start, other: usize) -> Row
+pub fn row_in(r: Record, ratio: usize, y: MainPos, p: Option<u32>, other: usize) -> Row
     requires { Covered r ratio y }
     ensures { result ≡ row_in r ratio y p other }
 {
@@ -62,7 +62,7 @@ pub fn row_in(r: Record, ratio: usize, y: MainPos, p: Start, other: usize) -> Ro
     let to = area_end(from, octets_get::wide16(r.width), ratio);
     let factor = line_sample::factor_of(ratio);
     match p {
-        Start::Unread => Row {
+        None => Row {
             from: from,
             to: to,
             factor: factor,
@@ -71,7 +71,7 @@ pub fn row_in(r: Record, ratio: usize, y: MainPos, p: Start, other: usize) -> Ro
             other: other,
             ratio: ratio,
         },
-        Start::From(a) => {
+        Some(a) => {
             let each = line_sample::depth_of(r);
             let down = line_sample::scale_pos(ratio, factor, top_of(r), y);
             Row {
@@ -102,7 +102,7 @@ pub fn row_out(other: usize) -> Row
     }
 }
 
-pub fn row_by(r: Record, ratio: usize, y: MainPos, p: Start, other: usize) -> Row
+pub fn row_by(r: Record, ratio: usize, y: MainPos, p: Option<u32>, other: usize) -> Row
     requires { (0 < ratio) × (ratio < 65536) }
     ensures { result ≡ row_by r ratio y p other }
 {
@@ -186,9 +186,7 @@ pub fn put_rows(rows: &mut [usize], sheet: &[u8], extent: Extent, list: Listing,
     let third = sheet_record::record_at(sheet, first + 2);
     let main = second.res;
     let coded3 = third.len != 0;
-    let mut l: usize = 0;
-    while l < n {
-        l += 1;
+    for l in 1..=n {
         let w = layer_row(sheet, extent, list, main, coded3, y, l);
         put_row(rows, l, w);
     }

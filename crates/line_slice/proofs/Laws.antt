@@ -4,8 +4,7 @@ use lib.ListN.{drop_of_length-le}
 use borrow.Author.Tests.{eq-eqb, ne_eqb}
 use mathlib.Core.Bool.{Bool, cond}
 use Rattle.pixel_rules.specs.declared.Plane.{Plane}
-use Rattle.pixel_rules.specs.declared.Start.{Start}
-use Rattle.pixel_rules.specs.declared.Start.TheVariants.{From, Unread}
+use Rattle.std.specs.Prelude.{Some, None}
 use Rattle.pixel_rules.specs.Planes.{plane_start}
 use Rattle.line_planes.specs.declared.Listing.{Listing}
 use Rattle.line_planes.specs.Listing.{no_planes, with_plane, gathered}
@@ -26,22 +25,21 @@ module _ (ps : List Plane) (i : ℕ) where
 
   -- the start of a layer
   module _ (l : ℕ) (e : plane_start ps l ≡ plane_start (drop i ps) l) where
-    pub start_here : (d : Plane) (x : Start) → i < length ps → (get_or ps i d).layer ≡ l → x ≡ From (get_or ps i d).start → x ≡ plane_start ps l
+    pub start_here : (d : Plane) → i < length ps → (get_or ps i d).layer ≡ l → Some (get_or ps i d).start ≡ plane_start ps l
     unfolding plane_start
-    start_here d x h q w =
+    start_here d h q =
         sym
         (e
         ∙ ap (λ (y : List Plane). plane_start y l) (opens d h)
-        ∙ ap (λ (b : Bool). cond b (From (get_or ps i d).start) (plane_start (drop (i + 1) ps) l)) (eq-eqb (get_or ps i d).layer l q)
-        ∙ sym w)
+        ∙ ap (λ (b : Bool). cond b (Some (get_or ps i d).start) (plane_start (drop (i + 1) ps) l)) (eq-eqb (get_or ps i d).layer l q))
 
     pub start_next : (d : Plane) → i < length ps → (get_or ps i d).layer ≢ l → plane_start ps l ≡ plane_start (drop (i + 1) ps) l
     unfolding plane_start
     start_next d h q =
         e
         ∙ ap (λ (y : List Plane). plane_start y l) (opens d h)
-        ∙ ap (λ (b : Bool). cond b (From (get_or ps i d).start) (plane_start (drop (i + 1) ps) l)) (ne_eqb (get_or ps i d).layer l q)
+        ∙ ap (λ (b : Bool). cond b (Some (get_or ps i d).start) (plane_start (drop (i + 1) ps) l)) (ne_eqb (get_or ps i d).layer l q)
 
-    pub start_none : (x : Start) → length ps ≤ i → x ≡ Unread → x ≡ plane_start ps l
+    pub start_none : length ps ≤ i → None ≡ plane_start ps l
     unfolding plane_start
-    start_none x h w = w ∙ sym (e ∙ ap (λ (y : List Plane). plane_start y l) (drop_of_length-le ps h))
+    start_none h = sym (e ∙ ap (λ (y : List Plane). plane_start y l) (drop_of_length-le ps h))

@@ -16,7 +16,7 @@ use Rattle.pixel_rules.specs.declared.Plane.{Plane}
 use Rattle.pixel_rules.specs.Planes.{plane_at, PlaneList, list_of, whole_list, plane_start, plane_size}
 use Rattle.line_planes.specs.declared.Listing.{Listing}
 use Rattle.line_planes.specs.Listing.{no_planes, gathered, listing_of}
-use Rattle.pixel_rules.specs.declared.Start.{Start}
+use Rattle.std.specs.Prelude.{Option}
 use Rattle.line_slice.specs.Entries.{entry_octets, plane_octets, Fitting}
 
 -- ---- the octets of the entries, read back
@@ -72,5 +72,5 @@ start_same ps l = ap (λ (t : PlaneList). plane_start t.entries l) (sym (list_sa
 pub gather_firm : (ps : List Plane) (a b : Listing) → a ≡ gathered no_planes ps → b ≡ gathered no_planes ps → a ≡ b
 gather_firm ps a b e f = e ∙ sym f
 
-pub start_firm : (ps : List Plane) (l : ℕ) (a b : Start) → a ≡ plane_start ps l → b ≡ plane_start ps l → a ≡ b
+pub start_firm : (ps : List Plane) (l : ℕ) (a b : Option ℕ) → a ≡ plane_start ps l → b ≡ plane_start ps l → a ≡ b
 start_firm ps l a b e f = e ∙ sym f

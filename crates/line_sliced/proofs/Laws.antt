@@ -5,7 +5,7 @@ use mathlib.Core.Path.{◌≡◌, ap, subst, ◌∙◌}
 use mathlib.Core.Bool.{false}
 use mathlib.Core.List.{List}
 use lib.ListN.{take}
-use Rattle.answers.specs.declared.Answer.{Answer}
+use Rattle.answers.specs.Answers.{Answer}
 use Rattle.sheet_rules.specs.declared.Colour.{Colour}
 use Rattle.pixel_rules.specs.declared.Plane.{Plane}
 use Rattle.pixel_rules.specs.Planes.{PlaneList, list_of, whole_list}
@@ -19,7 +19,7 @@ use Rattle.line_slice.specs.Entries.{plane_octets}
 use Rattle.line_slice.proofs.Same.{list_same}
 use Rattle.line_verdict.specs.Ruled.{list_from}
 
--- the first sixteen entries, gathered as parallel numbers, make the line of all
+-- the first sixteen entries, gathered by value, make the line of all
 pub planes_lined : (s : List ℕ) (ps : List Plane) (d : List ℕ) (k y : ℕ) (u : Colour) (t : Listing) (out : List ℕ) (a : Answer) (e : List ℕ) → t ≡ gathered no_planes ps
     → Lines s (list_from t false) d k y u out a e → Lines s (whole_list ps) d k y u out a e
 planes_lined s ps d k y u t out a e et h =

@@ -12,26 +12,22 @@ use borrow.Author.Tests.{eq-eqb, ne_eqb, lt-ltb, le-ltb, le-leb, lt-leb}
 use borrow.Author.Rules.{rules}
 use Rattle.octets.specs.Entries.{entries_from}
 use Rattle.octets.proofs.Entries.{entries_next}
-use Rattle.answers.specs.declared.Answer.TheVariants.{BadSheet, BadPlane, BadLine}
+use Rattle.answers.specs.declared.Refusal.TheVariants.{BadSheet, BadPlane, BadLine}
 use Rattle.sheet_rules.specs.declared.Record.{Record}
 use Rattle.sheet_rules.specs.declared.Extent.{Extent}
-use Rattle.sheet_rules.specs.declared.FoundStripe.{FoundStripe}
-use Rattle.sheet_rules.specs.declared.FoundStripe.TheVariants.{Has, NoStripe}
-use Rattle.sheet_rules.specs.declared.Verdict.{Verdict}
-use Rattle.sheet_rules.specs.Record.{record_size, record_at, records}
-use Rattle.sheet_rules.specs.Judge.{coded, judge_of, answer_of}
+use Rattle.std.specs.Prelude.{Option, Some, None, Result, Ok, Err, ⊤}
+use Rattle.answers.specs.declared.Refusal.{Refusal}
+use Rattle.sheet_rules.specs.declared.Counts.{Counts}
+use Rattle.sheet_rules.specs.Record.{record_size, record_at}
+use Rattle.sheet_rules.specs.Judge.{coded, judge_of}
 use Rattle.sheet_rules.specs.StripeTable.{find_stripe, layer_record}
 use Rattle.pixel_rules.specs.declared.Plane.{Plane}
-use Rattle.picture_rules.specs.declared.ListVerdict.{ListVerdict}
-use Rattle.picture_rules.specs.declared.ListVerdict.TheVariants.{Fine}
 use Rattle.pixel_rules.specs.Planes.{PlaneList}
 use Rattle.pixel_rules.specs.Samples.{depth, plane_span}
 use Rattle.picture_rules.specs.Line.{plane_ok, planes_judged, plane_ruling, scene_ruling, stripe_ruling, sheet_ruling, ruling_of}
 use Rattle.line_planes.specs.declared.Listing.{Listing}
 use Rattle.line_sample.proofs.Laws.{product_small}
 use Rattle.line_planes.specs.Listing.{entry_of, entries_of}
-use Rattle.line_verdict.specs.declared.Ruled.{Ruled}
-use Rattle.line_verdict.specs.declared.Ruled.TheVariants.{Shows}
 use Rattle.line_verdict.specs.Ruled.{bare_scene, line_ruling, ruled_of}
 use Rattle.sheet_table.specs.Steps.{Whole, JudgedGood}
 use Rattle.sheet_table.proofs.Found.{sheet_good, found_whole, fault_small}
@@ -82,7 +78,7 @@ module _ (s : List ℕ) (extent : Extent) (d : List ℕ) (t : Listing) (part : B
   judging_none e = record { within = omega arith; few = omega arith; left = let z : min t.count 16 - 0 ≡ min t.count 16 = omega arith in rw (e, z) refl }
 
   module _ (p : Plane) (b : Bool) (last i : ℕ) (g : Judging s extent d t part n last i) (h : i < n) (e : p ≡ entry_of t i) (k : b ≡ plane_ok (bare_scene s extent d) last p) where
-    opened : planes_judged (bare_scene s extent d) part 0 0 (entries_of t) ≡ cond b (planes_judged (bare_scene s extent d) part p.layer (i + 1) (entries_from (entry_of t) (n - (i + 1)) (i + 1))) (ListVerdict.Refused i)
+    opened : planes_judged (bare_scene s extent d) part 0 0 (entries_of t) ≡ cond b (planes_judged (bare_scene s extent d) part p.layer (i + 1) (entries_from (entry_of t) (n - (i + 1)) (i + 1))) (Err i)
     unfolding planes_judged
     opened =
         g.left ∙ ap (planes_judged (bare_scene s extent d) part last i) (entries_next (entry_of t) n i h)
@@ -91,14 +87,14 @@ module _ (s : List ℕ) (extent : Extent) (d : List ℕ) (t : Listing) (part : B
     pub judging_more : b ≡ true → Judging s extent d t part n p.layer (i + 1)
     judging_more z = record { within = omega arith; few = g.few; left = opened ∙ rw z refl }
 
-    pub judging_fault : b ≡ false → ListVerdict.Refused i ≡ planes_judged (bare_scene s extent d) part 0 0 (entries_of t)
+    pub judging_fault : b ≡ false → Err i ≡ planes_judged (bare_scene s extent d) part 0 0 (entries_of t)
     judging_fault z = sym (opened ∙ rw z refl)
 
-  pub judging_part : (last i : ℕ) → Judging s extent d t part n last i → n ≤ i → part ≡ true → ListVerdict.Refused n ≡ planes_judged (bare_scene s extent d) part 0 0 (entries_of t)
+  pub judging_part : (last i : ℕ) → Judging s extent d t part n last i → n ≤ i → part ≡ true → Err n ≡ planes_judged (bare_scene s extent d) part 0 0 (entries_of t)
   unfolding planes_judged entries_from
   judging_part last i g h z = let a = g.within in let q : i ≡ n = omega arith in let e : n - n ≡ 0 = omega arith in sym (g.left ∙ rw (q, e, z) refl)
 
-  pub judging_fine : (last i : ℕ) → Judging s extent d t part n last i → n ≤ i → part ≡ false → Fine ≡ planes_judged (bare_scene s extent d) part 0 0 (entries_of t)
+  pub judging_fine : (last i : ℕ) → Judging s extent d t part n last i → n ≤ i → part ≡ false → Ok tt ≡ planes_judged (bare_scene s extent d) part 0 0 (entries_of t)
   unfolding planes_judged entries_from
   judging_fine last i g h z = let a = g.within in let q : i ≡ n = omega arith in let e : n - n ≡ 0 = omega arith in sym (g.left ∙ rw (q, e, z) refl)
 
@@ -111,24 +107,24 @@ module _ (s : List ℕ) (pl : PlaneList) (d : List ℕ) (y : ℕ) where
   unfolding planes_judged plane_ok layer_record
   bare extent part last i [] qs = refl
   bare extent part last i (p ∷ ps) qs =
-      ap (λ j. cond (plane_ok (bare_scene s extent d) last p) j (ListVerdict.Refused i)) (bare extent part p.layer (i + 1) ps qs)
+      ap (λ j. cond (plane_ok (bare_scene s extent d) last p) j (Err i)) (bare extent part p.layer (i + 1) ps qs)
 
-  pub line_past : (extent : Extent) → extent.height ≤ y → Ruled.Refused BadLine ≡ ruled_of (line_ruling s pl d y extent)
+  pub line_past : (extent : Extent) → extent.height ≤ y → Err BadLine ≡ ruled_of (line_ruling s pl d y extent)
   unfolding ruled_of stripe_ruling
   line_past extent h = simp (le-ltb y extent.height h)
 
   module _ (extent : Extent) (h : y < extent.height) where
-    on_line : (j : ListVerdict) → j ≡ planes_judged (bare_scene s extent d) pl.part 0 0 pl.entries
+    on_line : (j : Result ⊤ ℕ) → j ≡ planes_judged (bare_scene s extent d) pl.part 0 0 pl.entries
         → plane_ruling (record { sheet = s; extent = extent; planes = pl.entries; samples = d }) j ≡ line_ruling s pl d y extent
     unfolding stripe_ruling scene_ruling
     on_line j e = rw (lt-ltb y extent.height h) (ap (plane_ruling (record { sheet = s; extent = extent; planes = pl.entries; samples = d })) (e ∙ sym (bare extent pl.part 0 0 pl.entries pl.entries)))
 
-    pub line_fine : (j : ListVerdict) → j ≡ planes_judged (bare_scene s extent d) pl.part 0 0 pl.entries → j ≡ Fine → Shows extent ≡ ruled_of (line_ruling s pl d y extent)
+    pub line_fine : (j : Result ⊤ ℕ) → j ≡ planes_judged (bare_scene s extent d) pl.part 0 0 pl.entries → j ≡ Ok tt → Ok extent ≡ ruled_of (line_ruling s pl d y extent)
     unfolding ruled_of
     line_fine j e z = ap ruled_of (rw z at (on_line j e))
 
-    pub line_fault : (j : ListVerdict) (i : ℕ) → j ≡ planes_judged (bare_scene s extent d) pl.part 0 0 pl.entries → j ≡ ListVerdict.Refused i
-        → Ruled.Refused (BadPlane i) ≡ ruled_of (line_ruling s pl d y extent)
+    pub line_fault : (j : Result ⊤ ℕ) (i : ℕ) → j ≡ planes_judged (bare_scene s extent d) pl.part 0 0 pl.entries → j ≡ Err i
+        → Err (BadPlane i) ≡ ruled_of (line_ruling s pl d y extent)
     unfolding ruled_of
     line_fault j i e z = ap ruled_of (rw z at (on_line j e))
 
@@ -137,16 +133,16 @@ module _ (s : List ℕ) (pl : PlaneList) (d : List ℕ) (k y : ℕ) where
   unfolding ruling_of sheet_ruling
   good_ruling g = rw g.good refl
 
-  pub stripe_none : (f : FoundStripe) → JudgedGood s → f ≡ find_stripe s k → f ≡ NoStripe → Ruled.Refused BadLine ≡ ruled_of (ruling_of s pl d k y)
+  pub stripe_none : (f : Option Extent) → JudgedGood s → f ≡ find_stripe s k → f ≡ None → Err BadLine ≡ ruled_of (ruling_of s pl d k y)
   unfolding ruled_of stripe_ruling
   stripe_none f g e z = sym (ap ruled_of (good_ruling g ∙ ap (stripe_ruling s pl d y) (sym e ∙ z)))
 
-  pub stripe_has : (f : FoundStripe) (extent : Extent) (r : Ruled) → JudgedGood s → f ≡ find_stripe s k → f ≡ Has extent → r ≡ ruled_of (line_ruling s pl d y extent)
+  pub stripe_has : (f : Option Extent) (extent : Extent) (r : Result Extent Refusal) → JudgedGood s → f ≡ find_stripe s k → f ≡ Some extent → r ≡ ruled_of (line_ruling s pl d y extent)
       → r ≡ ruled_of (ruling_of s pl d k y)
   stripe_has f extent r g e z q = q ∙ ap ruled_of (sym (good_ruling g ∙ ap (stripe_ruling s pl d y) (sym e ∙ z)))
 
-  pub sheet_bad : (v : Verdict) (i : ℕ) → v ≡ judge_of s → v ≡ Verdict.Refused i → Ruled.Refused (BadSheet i) ≡ ruled_of (ruling_of s pl d k y)
-  unfolding ruled_of ruling_of sheet_ruling answer_of
+  pub sheet_bad : (v : Result Counts ℕ) (i : ℕ) → v ≡ judge_of s → v ≡ Err i → Err (BadSheet i) ≡ ruled_of (ruling_of s pl d k y)
+  unfolding ruled_of ruling_of sheet_ruling
   sheet_bad v i e z = rw (← e, z) refl
 
 pub ruleset ruling = (rules, line_past, line_fine, line_fault, stripe_none, stripe_has, sheet_good, sheet_bad, found_whole, fault_small)

@@ -9,18 +9,10 @@ ghost use Rattle.line_planes.specs.Listing.{entries_of};
 ghost use Rattle.line_verdict.specs.Ruled.{bare_scene, list_from, line_ruling, ruled_of};
 ghost use Rattle.sheet_table.specs.Steps.{Whole, JudgedGood};
 
-use answers::Answer;
+use answers::Refusal;
 use line_planes::Listing;
-use picture_rules::ListVerdict;
 use pixel_rules::Plane;
-use sheet_rules::{Extent, FoundStripe, Record, Verdict};
-
-// What a line is judged to be: the stripe to be composed, or the refusal.
-#[derive(Clone, Copy)]
-pub enum Ruled {
-    Shows(Extent),
-    Refused(Answer),
-}
+use sheet_rules::{Extent, Record};
 
 // The octets of all samples of a layer.
 pub fn plane_span(r: Record) -> usize
@@ -63,27 +55,20 @@ pub fn judge_planes(
     samples: &[u8],
     list: Listing,
     part: bool,
-) -> ListVerdict
+) -> Result<(), u32>
     requires { Whole sheet.now extent }
     ensures { result ≡ planes_judged (bare_scene sheet.now extent samples.now) part 0 0 (entries_of list) }
 {
     let n = line_planes::entry_count(list);
     let mut last: u8 = 0;
-    let mut i: usize = 0;
-    while i < n {
+    for i in 0..n {
         let p = line_planes::entry_at(list, i);
-        if plane_ok(sheet, extent, samples, last, p) {
-            last = p.layer;
-            i += 1;
-        } else {
-            return ListVerdict::Refused(i as u32);
+        if !plane_ok(sheet, extent, samples, last, p) {
+            return Err(i as u32);
         }
+        last = p.layer;
     }
-    if part {
-        ListVerdict::Refused(n as u32)
-    } else {
-        ListVerdict::Fine
-    }
+    if part { Err(n as u32) } else { Ok(()) }
 }
 
 // A stripe of the sheet: the line before the plane list.
@@ -94,17 +79,15 @@ pub fn rule_line(
     part: bool,
     samples: &[u8],
     line: u32,
-) -> Ruled
+) -> Result<Extent, Refusal>
     requires { Whole sheet.now extent }
     ensures { result ≡ ruled_of (line_ruling sheet.now (list_from list part) samples.now line extent) }
 {
     if extent.height <= line {
-        return Ruled::Refused(Answer::BadLine);
+        return Err(Refusal::BadLine);
     }
-    match judge_planes(sheet, extent, samples, list, part) {
-        ListVerdict::Fine => Ruled::Shows(extent),
-        ListVerdict::Refused(i) => Ruled::Refused(Answer::BadPlane(i)),
-    }
+    judge_planes(sheet, extent, samples, list, part).map_err(Refusal::BadPlane)?;
+    Ok(extent)
 }
 
 // A sheet that the judge takes: the stripe before the line.
@@ -115,14 +98,15 @@ pub fn rule_stripe(
     samples: &[u8],
     stripe: u32,
     line: u32,
-) -> Ruled
+) -> Result<Extent, Refusal>
     requires { JudgedGood sheet.now }
     ensures { result ≡ ruled_of (ruling_of sheet.now (list_from list part) samples.now stripe line) }
 {
-    match sheet_table::find_stripe(sheet, stripe as usize) {
-        FoundStripe::NoStripe => Ruled::Refused(Answer::BadLine),
-        FoundStripe::Has(extent) => rule_line(sheet, extent, list, part, samples, line),
-    }
+    // as `.ok_or(Refusal::BadLine)?` the proof of what rule_line asks did not close
+    let Some(extent) = sheet_table::find_stripe(sheet, stripe as usize) else {
+        return Err(Refusal::BadLine);
+    };
+    rule_line(sheet, extent, list, part, samples, line)
 }
 
 pub fn judge_line(
@@ -132,14 +116,12 @@ pub fn judge_line(
     samples: &[u8],
     stripe: u32,
     line: u32,
-) -> Ruled
+) -> Result<Extent, Refusal>
     ensures { result ≡ ruled_of (ruling_of sheet.now (list_from list part) samples.now stripe line) }
 {
-    match sheet_judge::judge(sheet) {
-        Verdict::Refused { record } => Ruled::Refused(Answer::BadSheet(record as u32)),
-        Verdict::Good {
-            records: _,
-            stripes: _,
-        } => rule_stripe(sheet, list, part, samples, stripe, line),
+    // not by map_err: its closure would ask that the record's number fits, which is known here alone
+    if let Err(record) = sheet_judge::judge(sheet) {
+        return Err(Refusal::BadSheet(record as u32));
     }
+    rule_stripe(sheet, list, part, samples, stripe, line)
 }

@@ -7,6 +7,7 @@
 ghost use Rattle.std.specs.Prelude.{◌≤◌, length};
 
 use answers::Answer;
+use answers_report::Report;
 use sheet_rules::{DECISIVE_SIZE, RECORD_SIZE, Record};
 use std::io;
 use std::io::{Input, Print, Read};
@@ -37,7 +38,7 @@ fn read_full(rt: &impl Input, buffer: &mut [u8]) -> usize
 
 fn list(rt: &impl Print, sheet: &[u8]) -> io::Result<()> {
     let judged: Answer = sheet_judge::sheet_answer(sheet);
-    let answer = answers_report::reported(judged);
+    let answer = Report::from(judged);
     if answer.number == 0 {
         list_records(rt, sheet)
     } else {

@@ -14,8 +14,8 @@ use Rattle.laws.proofs.Says.{says_eq, says_not}
 use Rattle.sheet_rules.specs.declared.Colour.{Colour}
 use Rattle.sheet_rules.specs.declared.Record.{Record}
 use Rattle.sheet_rules.specs.declared.State.{State}
-use Rattle.sheet_rules.specs.declared.Step.{Step}
-use Rattle.sheet_rules.specs.declared.Step.TheVariants.{Next, Stop}
+use Rattle.std.specs.Prelude.{Option, Some, None}
+use Rattle.mode1_rules.specs.declared.LayerData.{LayerData}
 use Rattle.sheet_rules.specs.Judge.{coded as is_coded, choice_ok, after, after1, after2, after3, step_of, on_step, run}
 use Rattle.sheet_rules.specs.Sentences.{Coded, Uncoded as UncodedRecord, CoderOf, Listed}
 use Rattle.sheet_rules.proofs.New.{CodedFacts, UncodedFacts, ResFacts, GreyFacts, New, says_choice}
@@ -31,7 +31,6 @@ use Rattle.segment_rules.specs.Rules.{longest_page}
 use Rattle.start_rules.specs.declared.Head.{Head}
 use Rattle.start_rules.specs.Grammar.{GoodHead, MaskCoder}
 use Rattle.body_rules.proofs.Accepted.{Between, Ready, Ran}
-use Rattle.mode1_rules.specs.declared.LayerData.{LayerData}
 use Rattle.mode1_rules.specs.Kinds.{stripe_body, has_back, has_mask, has_fore, image_record, mask_record}
 use Rattle.mode1_rules.specs.Grammar.{TypeOf, Image, there, absent, Stripe}
 use Rattle.mode1_rules.proofs.Parts.{back_in, mask_in, fore_in, stripe_length}
@@ -52,7 +51,7 @@ record ImageFacts (main k l : ℕ) (b : Bool) (r : Record) : Type 0 where
 layer_size : {main : ℕ} {said : Said} (l : List ℕ) → Layer main l said → length l ≢ 0
 layer_size l y z = let a = ap length y.octets in omega arith
 
-image_facts : (hd : Head) (k l at : ℕ) (base : Colour) (x y : ℕ) (b : Bool) (o : List ℕ) (c : LayerData) → (l % 2 ≡ 1) → Listed hd.main → at + length o ≤ longest_page
+image_facts : (hd : Head) (k l at : ℕ) (base : Colour) (x y : ℕ) (b : Bool) (o : List ℕ) (c : Option LayerData) → (l % 2 ≡ 1) → Listed hd.main → at + length o ≤ longest_page
     → Image hd.main at b o c → ImageFacts hd.main k l b (image_record hd k l base x y c)
 unfolding image_record
 image_facts hd k l at base x y b o c odd g small (there {said = said} z) =
@@ -259,15 +258,15 @@ module _ (hd : Head) (g : GoodHead hd) (k left at : ℕ) (l : List ℕ) (height 
   st3 : State
   st3 = after3 st2 (fore_in z)
 
-  ran : run st ((back_in z) ∷ (mask_in z) ∷ (fore_in z) ∷ []) ≡ Next st3
+  ran : run st ((back_in z) ∷ (mask_in z) ∷ (fore_in z) ∷ []) ≡ Some st3
   unfolding run on_step st3
   ran =
-      let e1 : step_of st (back_in z) ≡ Next st1 = step_next st (back_in z) new1 ∙ ap Next first_is in
-      let e2 : step_of st1 (mask_in z) ≡ Next st2 = step_next st1 (mask_in z) new2 ∙ ap Next second_is in
-      let e3 : step_of st2 (fore_in z) ≡ Next (after3 st2 (fore_in z)) = step_next st2 (fore_in z) new3 ∙ ap Next (after_is_3 st2 (fore_in z) three.layer_is) in
-      ap (λ (x : Step). on_step x Stop (λ (t : State). run t ((mask_in z) ∷ (fore_in z) ∷ []))) e1
-      ∙ ap (λ (x : Step). on_step x Stop (λ (t : State). run t ((fore_in z) ∷ []))) e2
-      ∙ ap (λ (x : Step). on_step x Stop (λ (t : State). run t [])) e3
+      let e1 : step_of st (back_in z) ≡ Some st1 = step_next st (back_in z) new1 ∙ ap Some first_is in
+      let e2 : step_of st1 (mask_in z) ≡ Some st2 = step_next st1 (mask_in z) new2 ∙ ap Some second_is in
+      let e3 : step_of st2 (fore_in z) ≡ Some (after3 st2 (fore_in z)) = step_next st2 (fore_in z) new3 ∙ ap Some (after_is_3 st2 (fore_in z) three.layer_is) in
+      ap (λ (x : Option State). on_step x None (λ (t : State). run t ((mask_in z) ∷ (fore_in z) ∷ []))) e1
+      ∙ ap (λ (x : Option State). on_step x None (λ (t : State). run t ((fore_in z) ∷ []))) e2
+      ∙ ap (λ (x : Option State). on_step x None (λ (t : State). run t [])) e3
 
   pub stripe_ran : Ran hd.main hd.width k left height st rs
   unfolding st3 st2 st1 after3 after2 after1 mask_record

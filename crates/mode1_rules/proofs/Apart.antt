@@ -26,7 +26,7 @@ use Rattle.jpeg_rules.proofs.Theorems.{walk_exactly}
 use Rattle.segment_rules.specs.Rules.{mode1}
 use Rattle.start_rules.specs.declared.Head.{Head}
 use Rattle.mode1_rules.specs.declared.Fields.{Fields}
-use Rattle.mode1_rules.specs.declared.LayerData.TheVariants.{There, Absent}
+use Rattle.std.specs.Prelude.{Some, None}
 use Rattle.mode1_rules.specs.Kinds.{image_record, mask_record}
 use Rattle.mode1_rules.specs.Grammar.{colour_of, fields_of, there, absent, Stripe}
 
@@ -173,8 +173,8 @@ stripe_first =
       mask = coded_mask;
       back = grey;
       fore = coloured;
-      back_is = There 66 40 grey_said;
-      fore_is = There 106 34 coloured_said;
+      back_is = Some (record { start = 66; size = 40; said = grey_said });
+      fore_is = Some (record { start = 106; size = 34; said = coloured_said });
       octets = refl;
       widths =
           record {
@@ -209,8 +209,8 @@ stripe_second =
       mask = [];
       back = [];
       fore = grey;
-      back_is = Absent;
-      fore_is = There 179 40 grey_said;
+      back_is = None;
+      fore_is = Some (record { start = 179; size = 40; said = grey_said });
       octets = refl;
       widths =
           record {

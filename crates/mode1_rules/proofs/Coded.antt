@@ -14,8 +14,8 @@ use Rattle.jpeg_rules.specs.Said.{record_said}
 use Rattle.jpeg_rules.specs.Grammar.{Layer}
 use Rattle.jpeg_rules.proofs.Grey.{count_again}
 use Rattle.start_rules.specs.declared.Head.{Head}
+use Rattle.std.specs.Prelude.{Option, Some}
 use Rattle.mode1_rules.specs.declared.LayerData.{LayerData}
-use Rattle.mode1_rules.specs.declared.LayerData.TheVariants.{There}
 use Rattle.mode1_rules.specs.Kinds.{stripe_body, has_back, has_mask, has_fore, image_record, mask_record}
 use Rattle.mode1_rules.specs.Grammar.{Image, there, absent, Stripe}
 use Rattle.mode1_rules.proofs.Parts.{stripe_each, stripe_length, back_octets_lem, fore_octets_lem}
@@ -25,12 +25,12 @@ pub record Named (main : ℕ) (s : List ℕ) (r : Record) : Type 0 where
   pub inside : r.start + r.len ≤ length s
   pub layer : (r.layer ≡ 2) ⊎ Layer main (take r.len (drop r.start s)) (record_said r)
 
-image_named : (hd : Head) (s : List ℕ) (k l at : ℕ) (base : Colour) (x y : ℕ) (b : Bool) (o : List ℕ) (c : LayerData) → Image hd.main at b o c
+image_named : (hd : Head) (s : List ℕ) (k l at : ℕ) (base : Colour) (x y : ℕ) (b : Bool) (o : List ℕ) (c : Option LayerData) → Image hd.main at b o c
     → take (image_record hd k l base x y c).len (drop (image_record hd k l base x y c).start s) ≡ o → at + length o ≤ length s → Coded (image_record hd k l base x y c)
     → Named hd.main s (image_record hd k l base x y c)
 unfolding image_record
 image_named hd s k l at base x y b o c (there {said = said} z) e i d =
-    let same : said ≡ record_said (image_record hd k l base x y (There at (length o) said)) =
+    let same : said ≡ record_said (image_record hd k l base x y (Some (record { start = at; size = length o; said = said }))) =
     λ j. record { width = said.width; height = said.height; res = said.res; components = sym (count_again said.components z.counted) j } in
     record { inside = i; layer = inr (subst₂ (Layer hd.main) (sym e) same z) }
 image_named hd s k l at base x y b o c absent e i d = absurd (d refl)

@@ -7,8 +7,8 @@ use mathlib.Core.List.{List, [], ◌∷◌, ◌++◌}
 use lib.ListN.{get_or, drop}
 use Rattle.octets.specs.Octets.{octets16, octets32}
 use Rattle.laws.proofs.Says.{says_within}
-use Rattle.answers.specs.declared.Answer.{Answer}
-use Rattle.answers.specs.declared.Answer.TheVariants.{Short, BadStripe}
+use Rattle.answers.specs.declared.Refusal.{Refusal}
+use Rattle.answers.specs.declared.Refusal.TheVariants.{Short, BadStripe}
 use Rattle.field_rules.specs.Field.{Width, one, four, Field, put, Sized, widths}
 use Rattle.field_rules.specs.Fault.{Faulted, cut, BadNumbers, the}
 use Rattle.field_rules.proofs.Faults.{fault_here, past_val, none_at_fault, fault_one, fault_two, fault_three, broken_numbers, numbers_broken, broken_any}
@@ -21,7 +21,7 @@ use Rattle.mode1_rules.specs.Faults.{Typed, Placed, Masked, Octets3, Coloured, B
 use Rattle.mode1_rules.proofs.Rules.{says_type, says_offset, says_mask_length}
 
 module _ (hd : Head) (left at : ℕ) where
-  abbrev Bad : List ℕ → Answer → Type 0
+  abbrev Bad : List ℕ → Refusal → Type 0
   Bad = BadFields hd left at
 
   abbrev Tall : ℕ → Type 0
@@ -30,13 +30,13 @@ module _ (hd : Head) (left at : ℕ) where
   -- ---- from the table to the sentences
 
   -- a place in other words
-  moved : {p q : ℕ} {ws : List Width} {Good : List ℕ → Type 0} {l : List ℕ} {x : Answer} → p ≡ q → BadNumbers ws Good BadStripe p l x → BadNumbers ws Good BadStripe q l x
+  moved : {p q : ℕ} {ws : List Width} {Good : List ℕ → Type 0} {l : List ℕ} {x : Refusal} → p ≡ q → BadNumbers ws Good BadStripe p l x → BadNumbers ws Good BadStripe q l x
   moved {ws = ws} {Good = Good} {l = l} {x = x} e b = subst (λ (p : ℕ). BadNumbers ws Good BadStripe p l x) e b
 
   abbrev four_of_lem : List ℕ → ℕ → ℕ → List ℕ
   four_of_lem rest x y = octets32 x ++ (octets32 y ++ rest)
 
-  pub faulted_fields : (l : List ℕ) (x : Answer) → Faulted (stripe_table hd left) [] at l x → Bad l x
+  pub faulted_fields : (l : List ℕ) (x : Refusal) → Faulted (stripe_table hd left) [] at l x → Bad l x
   unfolding stripe_table colour_of octets32 octets16 put widths
   faulted_fields l x f =
       fault_one (λ (l : List ℕ). Bad l x) f (λ b. bad_type (broken_numbers (the (Typed hd)) (λ vs z. says_type hd (get_or vs 0 0)) b)) λ t l1 bt gt f1.
@@ -78,14 +78,14 @@ module _ (hd : Head) (left at : ℕ) where
 
   -- ---- and back: what stands in front of each field
 
-  shifted : {p q : ℕ} {table : List Field} {known l : List ℕ} {x : Answer} → p ≡ q → Faulted table known p l x → Faulted table known q l x
+  shifted : {p q : ℕ} {table : List Field} {known l : List ℕ} {x : Refusal} → p ≡ q → Faulted table known p l x → Faulted table known q l x
   shifted {table = table} {known = known} {l = l} {x = x} e f = subst (λ (p : ℕ). Faulted table known p l x) e f
 
-  behind_type : {l : List ℕ} {x : Answer} (t : ℕ) → t < 256 → Typed hd t → Faulted (drop 1 (stripe_table hd left)) (t ∷ []) (at + 1) l x → Faulted (stripe_table hd left) [] at (t ∷ l) x
+  behind_type : {l : List ℕ} {x : Refusal} (t : ℕ) → t < 256 → Typed hd t → Faulted (drop 1 (stripe_table hd left)) (t ∷ []) (at + 1) l x → Faulted (stripe_table hd left) [] at (t ∷ l) x
   unfolding stripe_table put widths Sized
   behind_type t b k f = past_val {ws = one ∷ []} (t ∷ []) (b, tt) ((says_type hd t).shown k) f
 
-  behind_back : {l : List ℕ} {x : Answer} (t : ℕ) (c : Colour) → t < 256 → Typed hd t → Octets3 c
+  behind_back : {l : List ℕ} {x : Refusal} (t : ℕ) (c : Colour) → t < 256 → Typed hd t → Octets3 c
       → Faulted (drop 2 (stripe_table hd left)) (t ∷ c.c0 ∷ c.c1 ∷ c.c2 ∷ []) (at + 4) l x → Faulted (stripe_table hd left) [] at (t ∷ colour_of c ++ l) x
   unfolding stripe_table colour_of put widths Sized
   behind_back t c b k o f =
@@ -95,7 +95,7 @@ module _ (hd : Head) (left at : ℕ) where
   abbrev known : {front : List ℕ} {t : ℕ} → Coloured hd left at front t → List ℕ → List ℕ
   known {t = t} c vs = t ∷ c.back.c0 ∷ c.back.c1 ∷ c.back.c2 ∷ c.fore.c0 ∷ c.fore.c1 ∷ c.fore.c2 ∷ vs
 
-  behind_colours : {l front : List ℕ} {t : ℕ} {x : Answer} (c : Coloured hd left at front t) → Faulted (drop 3 (stripe_table hd left)) (known c []) (at + 7) l x
+  behind_colours : {l front : List ℕ} {t : ℕ} {x : Refusal} (c : Coloured hd left at front t) → Faulted (drop 3 (stripe_table hd left)) (known c []) (at + 7) l x
       → Faulted (stripe_table hd left) [] at (front ++ l) x
   unfolding stripe_table colour_of put widths Sized
   behind_colours {l = l} {t = t} {x = x} c f =
@@ -106,14 +106,14 @@ module _ (hd : Head) (left at : ℕ) where
       (past_val {ws = one ∷ one ∷ one ∷ []} (c.fore.c0 ∷ c.fore.c1 ∷ c.fore.c2 ∷ []) (o.c0, (o.c1, (o.c2, tt))) refl (shifted e f)))
 
   module _ {front : List ℕ} {t : ℕ} (c : Coloured hd left at front t) where
-    behind_back_offset : {l : List ℕ} {x : Answer} (bx b_y : ℕ) → bx < 4294967296 → b_y < 4294967296 → Placed (has_back t) (bx ∷ b_y ∷ [])
+    behind_back_offset : {l : List ℕ} {x : Refusal} (bx b_y : ℕ) → bx < 4294967296 → b_y < 4294967296 → Placed (has_back t) (bx ∷ b_y ∷ [])
         → Faulted (drop 4 (stripe_table hd left)) (known c (bx ∷ b_y ∷ [])) (at + 15) l x → Faulted (stripe_table hd left) [] at (front ++ four_of_lem l bx b_y) x
     unfolding stripe_table octets32 octets16 put widths Sized
     behind_back_offset bx b_y p q k f =
         let e : at + 15 ≡ at + 7 + 8 = omega arith in
         behind_colours c (past_val {ws = four ∷ four ∷ []} (bx ∷ b_y ∷ []) (p, (q, tt)) ((says_offset (has_back t) bx b_y).shown k) (shifted e f))
 
-    behind_offsets : {l : List ℕ} {x : Answer} (bx b_y fx f_y : ℕ) → bx < 4294967296 → b_y < 4294967296 → fx < 4294967296 → f_y < 4294967296
+    behind_offsets : {l : List ℕ} {x : Refusal} (bx b_y fx f_y : ℕ) → bx < 4294967296 → b_y < 4294967296 → fx < 4294967296 → f_y < 4294967296
         → Placed (has_back t) (bx ∷ b_y ∷ []) → Placed (has_fore t) (fx ∷ f_y ∷ [])
         → Faulted (drop 5 (stripe_table hd left)) (known c (bx ∷ b_y ∷ fx ∷ f_y ∷ [])) (at + 23) l x → Faulted (stripe_table hd left) [] at (front ++ four_of_lem (four_of_lem l fx f_y) bx b_y) x
     unfolding stripe_table octets32 octets16 put widths Sized
@@ -121,7 +121,7 @@ module _ (hd : Head) (left at : ℕ) where
         let e : at + 23 ≡ at + 15 + 8 = omega arith in
         behind_back_offset bx b_y p q k (past_val {ws = four ∷ four ∷ []} (fx ∷ f_y ∷ []) (r, (s, tt)) ((says_offset (has_fore t) fx f_y).shown m) (shifted e f))
 
-  pub fields_faulted : (l : List ℕ) (x : Answer) → Bad l x → Faulted (stripe_table hd left) [] at l x
+  pub fields_faulted : (l : List ℕ) (x : Refusal) → Bad l x → Faulted (stripe_table hd left) [] at l x
   unfolding stripe_table octets32 octets16 put widths Sized
   fields_faulted l x (bad_type b) = fault_here (numbers_broken (the (Typed hd)) (λ vs z. says_type hd (get_or vs 0 0)) b)
   fields_faulted l x (cut_back t rest b k c) = behind_type t b k (fault_here (cut c))

@@ -17,21 +17,21 @@ use Rattle.sheet_rules.specs.declared.Colour.{Colour}
 use Rattle.sheet_rules.specs.declared.Record.{Record}
 use Rattle.sheet_rules.specs.Sentences.{Among}
 use Rattle.start_rules.specs.declared.Head.{Head}
+use Rattle.std.specs.Prelude.{Option, Some, None}
 use Rattle.mode1_rules.specs.declared.LayerData.{LayerData}
-use Rattle.mode1_rules.specs.declared.LayerData.TheVariants.{There, Absent}
 use Rattle.mode1_rules.specs.Kinds.{stripe_body, has_mask, image_record, mask_record}
 use Rattle.mode1_rules.specs.Grammar.{fields_of, Image, there, absent, Stripe}
 use Rattle.mode1_rules.proofs.Tables.{length_fields}
 
 -- ---- what a record names
 
-pub image_place : (hd : Head) (k l : ℕ) (base : Colour) (x y : ℕ) (c : LayerData)
+pub image_place : (hd : Head) (k l : ℕ) (base : Colour) (x y : ℕ) (c : Option LayerData)
     → ((image_record hd k l base x y c).stripe ≡ k) × ((image_record hd k l base x y c).layer ≡ l)
 unfolding image_record
-image_place hd k l base x y (There a n said) = (refl, refl)
-image_place hd k l base x y Absent = (refl, refl)
+image_place hd k l base x y (Some w) = (refl, refl)
+image_place hd k l base x y None = (refl, refl)
 
-image_at_lem : (hd : Head) (s : List ℕ) (k l at : ℕ) (base : Colour) (x y : ℕ) (b : Bool) (o more : List ℕ) (c : LayerData) → Image hd.main at b o c → drop at s ≡ o ++ more
+image_at_lem : (hd : Head) (s : List ℕ) (k l at : ℕ) (base : Colour) (x y : ℕ) (b : Bool) (o more : List ℕ) (c : Option LayerData) → Image hd.main at b o c → drop at s ≡ o ++ more
     → take (image_record hd k l base x y c).len (drop (image_record hd k l base x y c).start s) ≡ o
 unfolding image_record
 image_at_lem hd s k l at base x y b o more c (there z) e = ap (take (length o)) e ∙ take_at o more (length o) refl

@@ -5,7 +5,7 @@ use native.Mathlib.Omega.{arith}
 use mathlib.Core.Path.{◌≡◌, refl, sym, ap, subst}
 use mathlib.Core.List.{List, [], ◌++◌}
 use lib.ListN.{length}
-use Rattle.answers.specs.declared.Answer.{Answer}
+use Rattle.answers.specs.declared.Refusal.{Refusal}
 use Rattle.sheet_rules.specs.declared.Record.{Record}
 use Rattle.field_rules.specs.Field.{fields}
 use Rattle.field_rules.specs.Stands.{Stands}
@@ -34,7 +34,7 @@ module _ (hd : Head) (k left : ℕ) (s : List ℕ) (at : ℕ) (h : at ≤ length
   abbrev Second : List ℕ → ℕ → List ℕ → Item → Type 0
   Second vs n = Mapped (λ (rs : List Record). striped (fields_from vs).height rs) (Layers hd k (fields_from vs) n)
 
-  abbrev Worse : List ℕ → ℕ → List ℕ → Answer → Type 0
+  abbrev Worse : List ℕ → ℕ → List ℕ → Refusal → Type 0
   Worse vs n = BadLayers hd (fields_from vs) n
 
   place : (f : Fields) → at + length (fields_of f) ≡ at + stripe_body
@@ -102,13 +102,13 @@ module _ (hd : Head) (k left : ℕ) (s : List ℕ) (at : ℕ) (h : at ≤ length
                 })));
           }
 
-      bad : {l : List ℕ} {x : Answer} → BadThen First (Faulted (stripe_table hd left) [] at) Worse at l x → BadStripeRest hd left at l x
+      bad : {l : List ℕ} {x : Refusal} → BadThen First (Faulted (stripe_table hd left) [] at) Worse at l x → BadStripeRest hd left at l x
       bad {l} {x} (bad_first b) = bad_fields (faulted_fields hd left at l x b)
       bad {x = x} (bad_later m r vs st b) =
           stripe_apart (λ (vs m : List ℕ). Worse vs (at + length m) r x → BadStripeRest hd left at (m ++ r) x) hd left st
           (λ f w g y. bad_layers f r w g (subst (λ (n : ℕ). BadLayers hd f n r x) (place f) y)) b
 
-      worse : {l : List ℕ} {x : Answer} → BadStripeRest hd left at l x → BadThen First (Faulted (stripe_table hd left) [] at) Worse at l x
+      worse : {l : List ℕ} {x : Refusal} → BadStripeRest hd left at l x → BadThen First (Faulted (stripe_table hd left) [] at) Worse at l x
       worse {l} {x} (bad_fields b) = bad_first (fields_faulted hd left at l x b)
       worse {x = x} (bad_layers f l w g b) =
           bad_later (fields_of f) l (stripe_numbers f) (stripe_stands hd left f low w g) (subst (λ (n : ℕ). BadLayers hd f n l x) (sym (place f)) b)

@@ -5,7 +5,7 @@
 --   Image            an image layer of a stripe, or none where the type names none, and what is known of it
 --   records_of        the records of its layers
 --   Stripe hd k left at ..   a stripe of number k, with so much of the page's height left, whose body stands at a place of the page
-use Rattle.std.specs.Prelude.{ℕ, ◌+◌, ◌≤◌, ◌<◌, ◌≡◌, ◌⊎◌, ◌≢◌, Bool, true, false, cond, List, [], ◌∷◌, ◌++◌, length}
+use Rattle.std.specs.Prelude.{ℕ, ◌+◌, ◌≤◌, ◌<◌, ◌≡◌, ◌⊎◌, ◌≢◌, Bool, true, false, cond, List, [], ◌∷◌, ◌++◌, length, Option, Some, None}
 use Rattle.octets.specs.Octets.{octets32}
 use Rattle.sheet_rules.specs.declared.Colour.{Colour}
 use Rattle.sheet_rules.specs.declared.Record.{Record}
@@ -14,7 +14,6 @@ use Rattle.jpeg_rules.specs.Grammar.{Layer}
 use Rattle.start_rules.specs.declared.Head.{Head}
 use Rattle.mode1_rules.specs.declared.Fields.{Fields}
 use Rattle.mode1_rules.specs.declared.LayerData.{LayerData}
-use Rattle.mode1_rules.specs.declared.LayerData.TheVariants.{There, Absent}
 use Rattle.mode1_rules.specs.Kinds.{stripe_body, has_back, has_mask, has_fore, image_record, mask_record}
 
 unfoldable pub colour_of : Colour → List ℕ
@@ -51,12 +50,12 @@ pub record GoodFields (hd : Head) (left : ℕ) (f : Fields) : Type 0 where
   pub mask : (has_mask f.kind ≡ true → f.mask_length ≡ 0 → ⊥) × (has_mask f.kind ≡ false → f.mask_length ≡ 0)
 
 -- an image layer that the type names is a JPEG layer at a place of the page; one that it does not name has no octets
-pub data Image (main at : ℕ) : Bool → List ℕ → LayerData → Type 0 where
-  there : {l : List ℕ} {said : Said} → Layer main l said → Image main at true l (There at (length l) said)
-  absent : Image main at false [] Absent
+pub data Image (main at : ℕ) : Bool → List ℕ → Option LayerData → Type 0 where
+  there : {l : List ℕ} {said : Said} → Layer main l said → Image main at true l (Some (record { start = at; size = length l; said = said }))
+  absent : Image main at false [] None
 
 -- the records of a stripe: the mask's data stands after the head, then the background's, then the foreground's
-abbrev pub records_of : Head → ℕ → Fields → ℕ → LayerData → LayerData → List Record
+abbrev pub records_of : Head → ℕ → Fields → ℕ → Option LayerData → Option LayerData → List Record
 records_of hd k f at back fore =
     image_record hd k 1 f.back f.back_x f.back_y back
     ∷ mask_record hd k f.height (cond (has_mask f.kind) hd.mask 0) (cond (has_mask f.kind) at 0) f.mask_length
@@ -67,8 +66,8 @@ pub record Stripe (hd : Head) (k left at : ℕ) (l : List ℕ) (height : ℕ) (r
   pub mask : List ℕ
   pub back : List ℕ
   pub fore : List ℕ
-  pub back_is : LayerData
-  pub fore_is : LayerData
+  pub back_is : Option LayerData
+  pub fore_is : Option LayerData
   pub octets : l ≡ fields_of fields ++ (mask ++ (back ++ fore))
   pub widths : Widths fields
   pub good : GoodFields hd left fields

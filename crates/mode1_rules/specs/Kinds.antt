@@ -4,14 +4,13 @@
 --   has_back t, has_mask t, has_fore t   the layers that a type names
 --   type_ok hd t      the type is taken, and names no layer whose coder octet is 0
 --   image_record      the record of an image layer; mask_record: of layer 2
-use Rattle.std.specs.Prelude.{ℕ, ◌/◌, ◌%◌, Bool, ◌&&◌, ◌||◌, not, [], ◌∷◌, eqb, leb}
+use Rattle.std.specs.Prelude.{ℕ, ◌/◌, ◌%◌, Bool, ◌&&◌, ◌||◌, not, [], ◌∷◌, eqb, leb, Option, Some, None}
 use Rattle.laws.specs.Tests.{among}
 use Rattle.sheet_rules.specs.declared.Colour.{Colour}
 use Rattle.sheet_rules.specs.declared.Record.{Record}
 use Rattle.jpeg_rules.specs.Said.{grey_octet}
 use Rattle.start_rules.specs.declared.Head.{Head}
 use Rattle.mode1_rules.specs.declared.LayerData.{LayerData}
-use Rattle.mode1_rules.specs.declared.LayerData.TheVariants.{There, Absent}
 
 abbrev pub stripe_body : ℕ
 stripe_body = 31
@@ -38,26 +37,26 @@ offset_ok present x y = not present || leb x 65535 && leb y 65535
 -- ---- records
 
 -- an image layer: its own size, resolution and count of components where it is coded, and else nothing but its base colour
-unfoldable pub image_record : Head → ℕ → ℕ → Colour → ℕ → ℕ → LayerData → Record
-image_record hd k l base x y (There start size said) =
+unfoldable pub image_record : Head → ℕ → ℕ → Colour → ℕ → ℕ → Option LayerData → Record
+image_record hd k l base x y (Some c) =
     record {
       stripe = k;
       layer = l;
       coder = 1;
       x = x;
       y = y;
-      width = said.width;
-      height = said.height;
-      res = said.res;
+      width = c.said.width;
+      height = c.said.height;
+      res = c.said.res;
       base0 = base.c0;
       base1 = base.c1;
       base2 = base.c2;
-      octet17 = grey_octet said.components;
-      start = start;
-      len = size;
+      octet17 = grey_octet c.said.components;
+      start = c.start;
+      len = c.size;
       octets26 = 0;
     }
-image_record hd k l base x y Absent =
+image_record hd k l base x y None =
     record {
       stripe = k;
       layer = l;

@@ -5,23 +5,21 @@
 --   walked           an image layer where the type names one
 --   layers_of         the coded layers, and the records
 --   stripe_read       the stripe: its height and its records
-use Rattle.std.specs.Prelude.{ℕ, ◌-◌, Bool, not, cond, List, [], ◌∷◌, get_or, eqb}
-use Rattle.answers.specs.declared.Answer.{Answer}
-use Rattle.answers.specs.declared.Answer.TheVariants.{Short, BadLength, BadRes, BadType, BadStripe, BadLayer}
+use Rattle.std.specs.Prelude.{ℕ, ◌-◌, Bool, not, cond, List, [], ◌∷◌, get_or, eqb, Option, Some, None, Result, Ok, Err}
+use Rattle.answers.specs.declared.Refusal.{Refusal}
+use Rattle.answers.specs.declared.Refusal.TheVariants.{Short, BadLength, BadRes, BadType, BadStripe, BadLayer}
 use Rattle.field_rules.specs.Field.{Res, ok, no, bind, one, four, Field, val, fields, is, any}
 use Rattle.field_rules.specs.Part.{span_of}
 use Rattle.sheet_rules.specs.declared.Record.{Record}
 use Rattle.jpeg_rules.specs.declared.Fault.{Fault}
 use Rattle.jpeg_rules.specs.declared.Fault.TheVariants as F
-use Rattle.jpeg_rules.specs.declared.Walk.{Walk}
-use Rattle.jpeg_rules.specs.declared.Walk.TheVariants.{Ends, Refused}
+use Rattle.jpeg_rules.specs.declared.Said.{Said}
+use Rattle.mode1_rules.specs.declared.LayerData.{LayerData}
 use Rattle.laws.specs.Tests.{within}
 use Rattle.jpeg_rules.specs.Walk.{walk_of}
 use Rattle.start_rules.specs.declared.Head.{Head}
 use Rattle.body_rules.specs.Body.{Item, striped}
 use Rattle.mode1_rules.specs.declared.Fields.{Fields}
-use Rattle.mode1_rules.specs.declared.LayerData.{LayerData}
-use Rattle.mode1_rules.specs.declared.LayerData.TheVariants.{There, Absent}
 use Rattle.mode1_rules.specs.Kinds.{has_back, has_mask, has_fore, type_ok, offset_ok}
 use Rattle.mode1_rules.specs.Grammar.{records_of}
 
@@ -62,27 +60,27 @@ fields_from vs =
 -- ---- the coded layers
 
 -- the walk's refusal as an answer
-unfoldable pub fault_of : Fault → Answer
+unfoldable pub fault_of : Fault → Refusal
 fault_of (F.Short p) = Short p
 fault_of (F.BadLength p) = BadLength p
 fault_of (F.BadRes p) = BadRes p
 fault_of (F.BadLayer p) = BadLayer p
 
-unfoldable pub on_walk : Walk → ℕ → Res LayerData
+unfoldable pub on_walk : Result (ℕ × Said) Fault → ℕ → Res (Option LayerData)
 unfolding fault_of
-on_walk (Ends next said) at = ok (There at (next - at) said) next
-on_walk (Refused f) at = no (fault_of f)
+on_walk (Ok (next, said)) at = ok (Some (record { start = at; size = next - at; said = said })) next
+on_walk (Err f) at = no (fault_of f)
 
-unfoldable pub walked : List ℕ → ℕ → Bool → ℕ → Res LayerData
+unfoldable pub walked : List ℕ → ℕ → Bool → ℕ → Res (Option LayerData)
 unfolding on_walk
-walked s main present at = cond present (on_walk (walk_of s at main) at) (ok Absent at)
+walked s main present at = cond present (on_walk (walk_of s at main) at) (ok None at)
 
 unfoldable pub layers_of : Head → ℕ → Fields → List ℕ → ℕ → Res (List Record)
 unfolding bind span_of walked
 layers_of hd k f s at =
     bind (span_of s at f.mask_length) (λ (n p : ℕ).
-    bind (walked s hd.main (has_back f.kind) p) (λ (back : LayerData) (q : ℕ).
-    bind (walked s hd.main (has_fore f.kind) q) (λ (fore : LayerData) (e : ℕ).
+    bind (walked s hd.main (has_back f.kind) p) (λ (back : Option LayerData) (q : ℕ).
+    bind (walked s hd.main (has_fore f.kind) q) (λ (fore : Option LayerData) (e : ℕ).
     ok (records_of hd k f at back fore) e)))
 
 -- ---- the stripe

@@ -21,9 +21,10 @@ pub struct Fields {
     pub mask_length: u32,
 }
 
-// Where a layer's coded data stands, and what it says of itself; or no coded data.
+// A layer's coded data: where they stand, how many octets they are, and what they say of themselves.
 #[derive(Clone, Copy)]
-pub enum LayerData {
-    There { start: u32, size: u32, said: Said },
-    Absent,
+pub struct LayerData {
+    pub start: u32,
+    pub size: u32,
+    pub said: Said,
 }

@@ -1,27 +1,34 @@
--- What the functions' proofs cite: for a store, a turn or an end of a loop, and a return, one law whose premises are the facts that stand there.
--- Assumes nothing.
+-- What the functions' proofs cite. Assumes nothing.
 use mathlib.Core.Path.{◌≡◌, refl, ap, ◌∙◌}
-use mathlib.Core.List.{List, append_assoc}
-use Prim.Native.Nat.{ℕ, ◌+◌, ◌-◌, ◌/◌, ◌%◌, ◌≤◌, ◌<◌}
+use mathlib.Core.List.{List, ◌++◌, append_assoc}
+use Prim.Native.Nat.{ℕ, ◌+◌, ◌-◌, ◌≤◌, ◌<◌, ◌/◌, ◌%◌}
 use native.Mathlib.Numerals.{add-one}
 use native.Mathlib.Omega.{arith}
-use lib.ListN.{length, get_or, set, take, drop}
+use lib.ListN.{length, get_or, set, take}
 use lib.Seq.{paste, paste-zero, paste-suc, take-length}
 use borrow.Author.Rules.{set_long}
+use borrow.Rule.Slice.PartMut.{put_mid, post_of, Post-is}
+use Rattle.std.specs.Int.{w16, w32, to_be_bytes}
 use Rattle.octets.specs.Octets.{octets16, octets32, put_at}
-use Rattle.octets.proofs.Laws.{put_put, length_octets16}
-use Rattle.octets.proofs.Turns.{sets_put}
 
-pub put16_stores : (d : List ℕ) (at v : ℕ) → at + 2 ≤ length d → set (set d at (v / 256)) (at + 1) (v % 256) ≡ put_at d at (octets16 v)
+-- a part that is written whole
+pub part_put : (d : List ℕ) (at : ℕ) (v r : List ℕ) → r ≡ v → put_mid at (at + length v - at) d r ≡ put_at d at v
+unfolding put_at
+part_put d at v r e = ap (λ (x : List ℕ). take at d ++ (x ++ post_of at (at + length v - at) d)) e ∙ ap (λ (x : List ℕ). take at d ++ (v ++ x)) (Post-is at (at + length v) d (omega arith))
+
+-- the octets of a number, as the library has them
+pub octets16_are : (v : ℕ) → v < 65536 → to_be_bytes w16 v ≡ octets16 v
 unfolding octets16
-put16_stores d at v h = rw add-one (sets_put d at (octets16 v) h)
+octets16_are v h = let e : v / 256 % 256 ≡ v / 256 = omega arith in simp e refl
 
-pub put32_halves : (d m e : List ℕ) (at v : ℕ) → at + 4 ≤ length d → m ≡ put_at d at (octets16 (v / 65536))
-    → e ≡ put_at m (at + 2) (octets16 (v % 65536)) → e ≡ put_at d at (octets32 v)
-unfolding octets32
-put32_halves d m e at v h p q =
-    let l = rw length_octets16 at (put_put d at (octets16 (v / 65536)) (octets16 (v % 65536)) (omega arith)) in
-    cc
+pub octets32_are : (v : ℕ) → v < 4294967296 → to_be_bytes w32 v ≡ octets32 v
+unfolding octets32 octets16
+octets32_are v h =
+    let a : v / 16777216 % 256 ≡ v / 65536 / 256 = omega arith in
+    let b : v / 65536 % 256 ≡ v / 65536 % 256 = refl in
+    let c : v / 256 % 256 ≡ v % 65536 / 256 = omega arith in
+    let e : v % 256 ≡ v % 65536 % 256 = omega arith in
+    simp (a, c, e) refl
 
 -- the copy
 pub copy_on : (d₀ d : List ℕ) (at : ℕ) (v : List ℕ) (k : ℕ) → d ≡ paste d₀ at v k → at + length v ≤ length d₀ → k < length v
@@ -35,7 +42,4 @@ copy_ends d₀ d at v k e h g =
     let q : k ≡ length v = omega arith in
     e ∙ simp (q, take-length, append_assoc)
 
-pub copy_part : (d e s : List ℕ) (to from n : ℕ) → e ≡ put_at d to (take (from + n - from) (drop from s)) → e ≡ put_at d to (take n (drop from s))
-copy_part d e s to from n h = let l : from + n - from ≡ n = omega arith in cc
-
-pub ruleset turns = (put16_stores, put32_halves, paste-zero, copy_on, copy_ends, copy_part, set_long, arith)
+pub ruleset turns = (paste-zero, copy_on, copy_ends, set_long, arith)

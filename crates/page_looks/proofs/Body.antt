@@ -15,8 +15,8 @@ use borrow.Author.Tests.{ltb-false}
 use Rattle.octets.specs.Octets.{stands_at}
 use Rattle.octets.proofs.Agree.{stands_agree, Hangs}
 use Rattle.laws.proofs.Cases.{cond_with}
-use Rattle.answers.specs.declared.Answer.TheVariants.{Short, BadStripe}
-use Rattle.answers.specs.Answers.{place_of}
+use Rattle.answers.specs.declared.Refusal.TheVariants.{Short, BadStripe}
+use Rattle.answers.specs.Answers.{refusal_place}
 use Rattle.sheet_rules.specs.declared.Record.{Record}
 use Rattle.field_rules.specs.Field.{Res, ok, no, bind}
 use Rattle.page_looks.proofs.Hangs.{Whole}
@@ -59,7 +59,7 @@ module _ (turn : ℕ → ℕ → List ℕ → ℕ → Res Item) (look : ℕ → 
     look_next end = cond end (at + 2) (onward (turn k left s at) (look k left s at) (λ (it : Item) (e : ℕ). look_behind it e))
 
     next_looked : (end : Bool) → at + 2 ≤ length s → Whole (read_next end s) → Looked (look_next end) (read_next end) s (at + 2)
-    unfolding place_of beyond
+    unfolding refusal_place beyond
     next_looked true h w =
         cond_with (λ (x : Res (List Record)). Looked (at + 2) (λ (t : List ℕ). x) s (at + 2)) (eqb k 0)
         (λ e. looked_no s (BadStripe at) (at + 2) (at + 2) (omega arith) h (nearby s (BadStripe at) (at + 2) (near at 2 (BadStripe at) refl (lit≤ tt) (lit≤ tt)))) (λ e. looked_ok s acc (at + 2) h)

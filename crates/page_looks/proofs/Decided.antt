@@ -9,9 +9,9 @@ use lib.ListN.{length}
 use lib.Dec.{lit≤}
 use Rattle.octets.specs.Octets.{Octets}
 use Rattle.laws.proofs.Cases.{clash}
-use Rattle.answers.specs.declared.Answer.{Answer}
-use Rattle.answers.specs.declared.Answer.TheVariants.{Short, BadMark}
-use Rattle.answers.specs.Answers.{place_of}
+use Rattle.answers.specs.declared.Refusal.{Refusal}
+use Rattle.answers.specs.Answers.{refusal_place}
+use Rattle.answers.specs.declared.Refusal.TheVariants.{Short, BadMark}
 use Rattle.sheet_rules.specs.declared.Record.{Record}
 use Rattle.field_rules.specs.Field.{Res, no, bind, fields}
 use Rattle.page_looks.proofs.Hangs.{reach, Whole}
@@ -26,11 +26,11 @@ use Rattle.page_rules.specs.Reading.{item_of, end_table, page_of}
 use Rattle.page_looks.proofs.Page.{item_look, item_looked, item_far, read_zeros, zeros_looked, page_look}
 
 end_near : (at : ℕ) → Looks Near at end_table
-unfolding Looks end_table place_of beyond
+unfolding Looks end_table refusal_place beyond
 end_near at = near at 2 (BadMark at) refl (lit≤ tt) (lit≤ tt) & tt
 
 module _ (s : List ℕ) where
-  pub page_looked : Octets s → (a : Answer) → page_of s ≡ no a → ((p : ℕ) → a ≡ Short p → ⊥) → Looked (page_look s) page_of s 0
+  pub page_looked : Octets s → (a : Refusal) → page_of s ≡ no a → ((p : ℕ) → a ≡ Short p → ⊥) → Looked (page_look s) page_of s 0
   unfolding page_of page_look
   page_looked o a q u =
       looked_bind s (λ (t : List ℕ). start_read t 0) on_start (start_look s 0) _ 0 (start_looked s 0 (omega arith))

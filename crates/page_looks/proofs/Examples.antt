@@ -5,7 +5,7 @@ use mathlib.Core.Path.{◌≡◌, refl}
 use mathlib.Core.List.{List, [], ◌∷◌, ◌++◌}
 use lib.ListN.{take}
 use Rattle.octets.specs.Octets.{be16_at, be32_at, begins, stands_at, octets16, octets32}
-use Rattle.answers.specs.declared.Answer.TheVariants.{Short, BadMark, BadLength, BadLayer, Trailing}
+use Rattle.answers.specs.declared.Refusal.TheVariants.{Short, BadMark, BadLength, BadLayer, Trailing}
 use Rattle.field_rules.specs.Field.{no, fields}
 use Rattle.jpeg_rules.specs.Marker.{class_of, marker_of}
 use Rattle.jpeg_rules.specs.Walk.{seg_of, scan_of, tag_of, frame_body_of, frame_of, scan_step_of, segment_of, end_of, turn_of, walk_of}

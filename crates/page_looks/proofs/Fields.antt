@@ -9,8 +9,8 @@ use lib.Dec.{ltb}
 use borrow.Author.Tests.{ltb-false}
 use Rattle.octets.specs.Octets.{stands_at}
 use Rattle.laws.proofs.Cases.{cond_both, clash}
-use Rattle.answers.specs.declared.Answer.{Answer}
-use Rattle.answers.specs.declared.Answer.TheVariants.{Short}
+use Rattle.answers.specs.declared.Refusal.{Refusal}
+use Rattle.answers.specs.declared.Refusal.TheVariants.{Short}
 use Rattle.field_rules.specs.Field.{Res, ok, no, widths, numbers, Field, mark, val, again, fields}
 use Rattle.page_looks.proofs.Hangs.{reach, Whole, fields_hang}
 
@@ -28,7 +28,7 @@ module _ (out s : List ℕ) (n : ℕ) where
       cond_both (λ x l. x ≡ ok out n → l ≡ n) (good before) (λ u e. reach_end table before at e) (λ u e. clash cc)
 
 -- a segment that begins with a mark is looked at beyond it, if it is not Short
-pub reach_mark : (m : List ℕ) (refusal : ℕ → Answer) (table : List Field) (before s : List ℕ) (at : ℕ) → Whole (fields (mark m refusal ∷ table) before s at)
+pub reach_mark : (m : List ℕ) (refusal : ℕ → Refusal) (table : List Field) (before s : List ℕ) (at : ℕ) → Whole (fields (mark m refusal ∷ table) before s at)
     → at + length m ≤ reach (mark m refusal ∷ table) before s at
 unfolding fields reach
 reach_mark m refusal table before s at =
@@ -37,21 +37,21 @@ reach_mark m refusal table before s at =
     (λ u w. (fields_hang table before s (at + length m) (ltb-false (length s) (at + length m) t) w).ahead) (λ u w. omega arith)
 
 -- each refusal of a table that is read from a place on has a property, together with the end of its field
-unfoldable pub Looks : (Answer → ℕ → Type 0) → ℕ → List Field → Type 0
+unfoldable pub Looks : (Refusal → ℕ → Type 0) → ℕ → List Field → Type 0
 Looks Q at [] = Unit {0}
 Looks Q at (mark m refusal ∷ table) = Q (refusal at) (at + length m) × Looks Q (at + length m) table
 Looks Q at (val ws good refusal ∷ table) = Q (refusal at) (at + widths ws) × Looks Q (at + widths ws) table
 Looks Q at (again back good refusal ∷ table) = Q (refusal (at - back)) at × Looks Q at table
 
-module _ (Q : Answer → ℕ → Type 0) (s : List ℕ) (a : Answer) (whole : (p : ℕ) → a ≡ Short p → ⊥) where
+module _ (Q : Refusal → ℕ → Type 0) (s : List ℕ) (a : Refusal) (whole : (p : ℕ) → a ≡ Short p → ⊥) where
   abbrev Known : Res (List ℕ) → ℕ → Type 0
   Known x look = x ≡ no a → Q a look
 
   cut : (p look : ℕ) → Known (no (Short p)) look
   cut p look e = absurd (whole p cc)
 
-  told : (b : Answer) (look : ℕ) → Q b look → Known (no b) look
-  told b look q e = let z : b ≡ a = cc in subst (λ (c : Answer). Q c look) z q
+  told : (b : Refusal) (look : ℕ) → Q b look → Known (no b) look
+  told b look q e = let z : b ≡ a = cc in subst (λ (c : Refusal). Q c look) z q
 
   pub fields_look : (table : List Field) (before : List ℕ) (at : ℕ) → Looks Q at table → fields table before s at ≡ no a → Q a (reach table before s at)
   unfolding fields reach Looks

@@ -8,8 +8,8 @@ use mathlib.Core.List.{List, [], ◌∷◌, ◌++◌}
 use lib.ListN.{length}
 use lib.Dec.{ltb}
 use borrow.Author.Tests.{ltb-false}
-use Rattle.answers.specs.declared.Answer.{Answer}
-use Rattle.answers.specs.declared.Answer.TheVariants.{Short}
+use Rattle.answers.specs.declared.Refusal.{Refusal}
+use Rattle.answers.specs.declared.Refusal.TheVariants.{Short}
 use Rattle.laws.proofs.Cases.{cond_both}
 use Rattle.octets.specs.Octets.{stands_at}
 use Rattle.octets.proofs.Agree.{Agree, octet_agree, be16_agree, be32_agree, stands_agree, Hangs, hangs_none, hangs_then, hangs_fits}
@@ -45,7 +45,7 @@ Whole r = (p : ℕ) → r ≡ no (Short p) → ⊥
 -- ---- a field
 
 -- a test of numbers known already, and then the fields after it
-module _ (refusal : Answer) (table : List Field) (before s : List ℕ) (at : ℕ) (h : at ≤ length s)
+module _ (refusal : Refusal) (table : List Field) (before s : List ℕ) (at : ℕ) (h : at ≤ length s)
     (rest : Whole (fields table before s at) → Hangs (reach table before s at) (λ (t : List ℕ). fields table before t at) s at) where
   test_hangs : (b : Bool) → Whole (cond b (fields table before s at) (no refusal))
       → Hangs (cond b (reach table before s at) at) (λ (t : List ℕ). cond b (fields table before t at) (no refusal)) s at
@@ -53,7 +53,7 @@ module _ (refusal : Answer) (table : List Field) (before s : List ℕ) (at : ℕ
   test_hangs false w = hangs_none s (no refusal) at at (omega arith) h
 
 -- a field of n octets, whatever it is: its test, and the numbers known after it, are of those octets alone
-module _ (n at : ℕ) (test : List ℕ → Bool) (known : List ℕ → List ℕ) (refusal : Answer) (table : List Field) where
+module _ (n at : ℕ) (test : List ℕ → Bool) (known : List ℕ → List ℕ) (refusal : Refusal) (table : List Field) where
   abbrev read_field : List ℕ → Res (List ℕ)
   read_field s = cond (ltb (length s) (at + n)) (no (Short at)) (cond (test s) (fields table (known s) s (at + n)) (no refusal))
 

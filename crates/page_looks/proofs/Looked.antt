@@ -19,9 +19,9 @@ use lib.Dec.{eqb, ltb, lit≤}
 use borrow.Author.Tests.{ltb-false, le-ltb}
 use Rattle.octets.proofs.Agree.{Hangs, hangs_none, hangs_as, hangs_from, hangs_then}
 use Rattle.laws.proofs.Cases.{cond_with, clash}
-use Rattle.answers.specs.declared.Answer.{Answer}
-use Rattle.answers.specs.declared.Answer.TheVariants.{Short, BadLength}
-use Rattle.answers.specs.Answers.{number_of, place_of}
+use Rattle.answers.specs.declared.Refusal.{Refusal}
+use Rattle.answers.specs.Answers.{refusal_number, refusal_place}
+use Rattle.answers.specs.declared.Refusal.TheVariants.{Short, BadLength}
 use Rattle.field_rules.specs.Field.{Res, ok, no, bind, Field, fields}
 use Rattle.field_rules.specs.Part.{span_of}
 use Rattle.jpeg_looks.proofs.Look.{fill_at}
@@ -38,15 +38,15 @@ onward (no a) looked go = looked
 abbrev widest : List ℕ
 widest = 4 ∷ 6 ∷ 1 ∷ 1 ∷ 1 ∷ 65525 ∷ 4 ∷ 1 ∷ 8 ∷ 65532 ∷ 1 ∷ []
 
-unfoldable pub beyond : Answer → ℕ
-unfolding number_of
-beyond a = get_or (0 ∷ 0 ∷ widest) (number_of a) 0
+unfoldable pub beyond : Refusal → ℕ
+unfolding refusal_number
+beyond a = get_or (0 ∷ 0 ∷ widest) (refusal_number a) 0
 
-pub record Near (a : Answer) (look : ℕ) : Type 0 where
-  pub past : place_of a < look
-  pub most : look ≤ place_of a + beyond a
+pub record Near (a : Refusal) (look : ℕ) : Type 0 where
+  pub past : refusal_place a < look
+  pub most : look ≤ refusal_place a + beyond a
 
-pub near : (p n : ℕ) (a : Answer) → place_of a ≡ p → 1 ≤ n → n ≤ beyond a → Near a (p + n)
+pub near : (p n : ℕ) (a : Refusal) → refusal_place a ≡ p → 1 ≤ n → n ≤ beyond a → Near a (p + n)
 near p n a e l g = record { past = omega arith; most = omega arith }
 
 -- the number of BadLayer
@@ -54,20 +54,20 @@ abbrev bad_layer : ℕ
 bad_layer = 11
 
 -- the place of a marker of a JPEG layer is the first FF of its run
-unfoldable pub fill_by : List ℕ → Answer → ℕ
-unfolding number_of
-fill_by s a = cond (eqb (number_of a) bad_layer) (fill_at s (place_of a)) 0
+unfoldable pub fill_by : List ℕ → Refusal → ℕ
+unfolding refusal_number
+fill_by s a = cond (eqb (refusal_number a) bad_layer) (fill_at s (refusal_place a)) 0
 
-pub record Nearby (s : List ℕ) (a : Answer) (look : ℕ) : Type 0 where
-  pub past : place_of a < look
-  pub most : look ≤ place_of a + (fill_by s a + beyond a)
+pub record Nearby (s : List ℕ) (a : Refusal) (look : ℕ) : Type 0 where
+  pub past : refusal_place a < look
+  pub most : look ≤ refusal_place a + (fill_by s a + beyond a)
 
-pub nearby : (s : List ℕ) (a : Answer) (look : ℕ) → Near a look → Nearby s a look
+pub nearby : (s : List ℕ) (a : Refusal) (look : ℕ) → Near a look → Nearby s a look
 nearby s a look k = let l = k.past in let m = k.most in record { past = l; most = omega arith }
 
 -- a length that depends on the ident behind it: two octets and four
 pub near_length : (p : ℕ) → Near (BadLength p) (p + 6)
-unfolding place_of beyond
+unfolding refusal_place beyond
 near_length p = near p 6 (BadLength p) refl (lit≤ tt) (lit≤ tt)
 
 -- a table's looks, one behind another
@@ -78,15 +78,15 @@ a & b = (a, b)
 pub record Looked {A : Type 0} (look : ℕ) (read : List ℕ → Res A) (s : List ℕ) (at : ℕ) : Type 0 where
   pub hangs : Hangs look read s at
   pub ends : (x : A) (n : ℕ) → read s ≡ ok x n → look ≡ n
-  pub near : (a : Answer) → read s ≡ no a → Nearby s a look
+  pub near : (a : Refusal) → read s ≡ no a → Nearby s a look
 
 module _ (s : List ℕ) where
   pub looked_ok : {A : Type 0} (x : A) (n : ℕ) → n ≤ length s → Looked n (λ (t : List ℕ). ok x n) s n
   looked_ok x n h = record { hangs = hangs_none s (ok x n) n n (omega arith) h; ends = λ y m e. cc; near = λ a e. clash cc }
 
-  pub looked_no : {A : Type 0} (a : Answer) (look at : ℕ) → at ≤ look → look ≤ length s → Nearby s a look → Looked {A = A} look (λ (t : List ℕ). no a) s at
+  pub looked_no : {A : Type 0} (a : Refusal) (look at : ℕ) → at ≤ look → look ≤ length s → Nearby s a look → Looked {A = A} look (λ (t : List ℕ). no a) s at
   looked_no a look at h g k =
-      record { hangs = hangs_none s (no a) at look h g; ends = λ y m e. clash cc; near = λ b e. let z : a ≡ b = cc in subst (λ (c : Answer). Nearby s c look) z k }
+      record { hangs = hangs_none s (no a) at look h g; ends = λ y m e. clash cc; near = λ b e. let z : a ≡ b = cc in subst (λ (c : Refusal). Nearby s c look) z k }
 
   pub looked_from : {A : Type 0} (read : List ℕ → Res A) (look at from : ℕ) → from ≤ look → Looked look read s at → Looked look read s from
   looked_from read look at from h k = record { hangs = hangs_from s read look at from h k.hangs; ends = k.ends; near = k.near }
@@ -119,7 +119,7 @@ module _ (s : List ℕ) where
   looked_if false x y l m at f g = g
 
   -- a test that so many octets are there, where they are
-  pub looked_fits : {A : Type 0} (short : Answer) (rest : List ℕ → Res A) (d look at : ℕ) → at ≤ d → Looked look rest s d
+  pub looked_fits : {A : Type 0} (short : Refusal) (rest : List ℕ → Res A) (d look at : ℕ) → at ≤ d → Looked look rest s d
       → Looked look (λ (t : List ℕ). cond (ltb (length t) d) (no short) (rest t)) s at
   looked_fits short rest d look at h k =
       let a = k.hangs.ahead in

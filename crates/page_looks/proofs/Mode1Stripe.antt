@@ -12,6 +12,7 @@ use Rattle.sheet_rules.specs.declared.Record.{Record}
 use Rattle.start_rules.specs.declared.Head.{Head}
 use Rattle.body_rules.specs.Body.{striped}
 use Rattle.mode1_rules.specs.declared.Fields.{Fields}
+use Rattle.std.specs.Prelude.{Option}
 use Rattle.mode1_rules.specs.declared.LayerData.{LayerData}
 use Rattle.mode1_rules.specs.Kinds.{has_back, has_fore}
 use Rattle.mode1_rules.specs.Grammar.{records_of}
@@ -24,13 +25,13 @@ module _ (s : List ℕ) (o : Octets s) (hd : Head) where
   layers_looked k f at =
       looked_bind s (λ (t : List ℕ). span_of t at f.mask_length)
       (λ (n p : ℕ) (t : List ℕ).
-      bind (walked t hd.main (has_back f.kind) p) (λ (back : LayerData) (q : ℕ).
-      bind (walked t hd.main (has_fore f.kind) q) (λ (fore : LayerData) (e : ℕ). ok (records_of hd k f at back fore) e)))
+      bind (walked t hd.main (has_back f.kind) p) (λ (back : Option LayerData) (q : ℕ).
+      bind (walked t hd.main (has_fore f.kind) q) (λ (fore : Option LayerData) (e : ℕ). ok (records_of hd k f at back fore) e)))
       (at + f.mask_length) _ at (looked_span s at f.mask_length) λ n p hp ip ep.
       looked_bind s (λ (t : List ℕ). walked t hd.main (has_back f.kind) p)
-      (λ (back : LayerData) (q : ℕ) (t : List ℕ). bind (walked t hd.main (has_fore f.kind) q) (λ (fore : LayerData) (e : ℕ). ok (records_of hd k f at back fore) e))
+      (λ (back : Option LayerData) (q : ℕ) (t : List ℕ). bind (walked t hd.main (has_fore f.kind) q) (λ (fore : Option LayerData) (e : ℕ). ok (records_of hd k f at back fore) e))
       (layer_look s hd.main (has_back f.kind) p) _ p (looked_walked s o hd.main (has_back f.kind) p ip) λ back q hq iq eq.
-      looked_map s (λ (t : List ℕ). walked t hd.main (has_fore f.kind) q) (λ (fore : LayerData). records_of hd k f at back fore)
+      looked_map s (λ (t : List ℕ). walked t hd.main (has_fore f.kind) q) (λ (fore : Option LayerData). records_of hd k f at back fore)
       (layer_look s hd.main (has_fore f.kind) q) q (looked_walked s o hd.main (has_fore f.kind) q iq)
 
   pub stripe_looked : (k left at : ℕ) → at ≤ length s → Whole (stripe_read hd k left s at)

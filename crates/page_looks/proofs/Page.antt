@@ -19,9 +19,9 @@ use lib.Dec.{eqb, lit≤}
 use Rattle.octets.specs.Octets.{Octets}
 use Rattle.octets.proofs.Agree.{octet_agree}
 use Rattle.laws.proofs.Cases.{bool_else, clash}
-use Rattle.answers.specs.declared.Answer.{Answer}
-use Rattle.answers.specs.declared.Answer.TheVariants.{Trailing}
-use Rattle.answers.specs.Answers.{place_of}
+use Rattle.answers.specs.declared.Refusal.{Refusal}
+use Rattle.answers.specs.Answers.{refusal_place}
+use Rattle.answers.specs.declared.Refusal.TheVariants.{Trailing}
 use Rattle.sheet_rules.specs.declared.Record.{Record}
 use Rattle.field_rules.specs.Field.{Res, ok, no, bind, fields}
 use Rattle.page_looks.proofs.Hangs.{reach, Whole}
@@ -109,14 +109,14 @@ module _ (s : List ℕ) (o : Octets s) (hd : Head) (k left at : ℕ) (h : at ≤
 
 -- ---- zero octets: the first that is not zero decides
 
-record Zeros (l : List ℕ) (at : ℕ) (a : Answer) : Type 0 where
+record Zeros (l : List ℕ) (at : ℕ) (a : Refusal) : Type 0 where
   ahead : at < zeros_look l at
   inside : zeros_look l at ≤ at + length l
   near_by : Near a (zeros_look l at)
   same : (m : List ℕ) → zeros_look l at ≤ at + length m → ((i : ℕ) → at + i < zeros_look l at → get_or m i 0 ≡ get_or l i 0) → zeros_of m at ≡ no a
 
-zeros_told : (a : Answer) (l : List ℕ) (at : ℕ) → zeros_of l at ≡ no a → Zeros l at a
-unfolding zeros_of zeros_look place_of beyond
+zeros_told : (a : Refusal) (l : List ℕ) (at : ℕ) → zeros_of l at ≡ no a → Zeros l at a
+unfolding zeros_of zeros_look refusal_place beyond
 zeros_told a [] at e = clash cc
 zeros_told a (x ∷ l) at e =
     ⊎_elim
@@ -139,7 +139,7 @@ zeros_told a (x ∷ l) at e =
     record {
       ahead = omega arith;
       inside = omega arith;
-      near_by = subst (λ (c : Answer). Near c (zeros_look (x ∷ l) at)) b (subst (Near (Trailing at)) (sym q) (near at 1 (Trailing at) refl (lit≤ tt) (lit≤ tt)));
+      near_by = subst (λ (c : Refusal). Near c (zeros_look (x ∷ l) at)) b (subst (Near (Trailing at)) (sym q) (near at 1 (Trailing at) refl (lit≤ tt) (lit≤ tt)));
       same = λ m h g. here z m q b h g;
     })
     (bool_else (eqb x 0))
@@ -163,7 +163,7 @@ abbrev pub read_zeros : List Record → ℕ → List ℕ → Res (List Record)
 read_zeros rs e t = bind (zeros_of (drop e t) e) (λ (z end : ℕ). ok rs end)
 
 module _ (s : List ℕ) where
-  pub zeros_looked : (rs : List Record) (e : ℕ) (a : Answer) → e ≤ length s → read_zeros rs e s ≡ no a → Looked (zeros_look (drop e s) e) (read_zeros rs e) s e
+  pub zeros_looked : (rs : List Record) (e : ℕ) (a : Refusal) → e ≤ length s → read_zeros rs e s ≡ no a → Looked (zeros_look (drop e s) e) (read_zeros rs e) s e
   unfolding bind
   zeros_looked rs e a h q = by (zeros_of (drop e s) e) refl q
     where
@@ -189,5 +189,5 @@ module _ (s : List ℕ) where
                       ∙ sym z;
                 };
             ends = λ x n y. clash cc;
-            near = λ c y. let w : b ≡ c = cc in nearby s c (zeros_look (drop e s) e) (subst (λ (d : Answer). Near d (zeros_look (drop e s) e)) w k.near_by);
+            near = λ c y. let w : b ≡ c = cc in nearby s c (zeros_look (drop e s) e) (subst (λ (d : Refusal). Near d (zeros_look (drop e s) e)) w k.near_by);
           }

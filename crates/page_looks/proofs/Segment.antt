@@ -11,8 +11,8 @@ use mathlib.Core.List.{List, [], ◌∷◌}
 use lib.ListN.{length}
 use lib.Dec.{eqb, lit≤}
 use Rattle.laws.proofs.Cases.{cond_with}
-use Rattle.answers.specs.declared.Answer.TheVariants.{BadMark, BadLength}
-use Rattle.answers.specs.Answers.{place_of}
+use Rattle.answers.specs.declared.Refusal.TheVariants.{BadMark, BadLength}
+use Rattle.answers.specs.Answers.{refusal_place}
 use Rattle.field_rules.specs.Field.{Res, ok, no, bind, widths, fields}
 use Rattle.field_rules.specs.Part.{span_of}
 use Rattle.page_looks.proofs.Hangs.{reach, Whole}
@@ -35,7 +35,7 @@ segment_look version due s at =
 -- ---- the beginning
 
 open_near : (version : Version) (due : Due) (at : ℕ) → Looks Near at (open_table version due)
-unfolding Looks open_table widths place_of beyond
+unfolding Looks open_table widths refusal_place beyond
 open_near version due at =
     near at 2 (BadMark at) refl (lit≤ tt) (lit≤ tt)
     & near (at + 2) 2 (BadLength (at + 2)) refl (lit≤ tt) (lit≤ tt)

@@ -7,8 +7,8 @@ use mathlib.Core.Path.{◌≡◌, refl, ap, subst}
 use mathlib.Core.List.{List, [], ◌∷◌}
 use lib.ListN.{length}
 use lib.Dec.{lit≤}
-use Rattle.answers.specs.declared.Answer.TheVariants.{BadMark, BadLength, BadVersion, BadMode, BadCoder, BadRes, BadWidth}
-use Rattle.answers.specs.Answers.{place_of}
+use Rattle.answers.specs.declared.Refusal.TheVariants.{BadMark, BadLength, BadVersion, BadMode, BadCoder, BadRes, BadWidth}
+use Rattle.answers.specs.Answers.{refusal_place}
 use Rattle.field_rules.specs.Field.{Res, ok, bind, widths, fields}
 use Rattle.page_looks.proofs.Hangs.{reach, Whole}
 use Rattle.page_looks.proofs.Fields.{Looks, reach_mark}
@@ -20,7 +20,7 @@ start_look s at = reach start_table [] s at
 
 -- each field is at most as wide as `beyond` says
 pub start_near : (at : ℕ) → Looks Near at start_table
-unfolding Looks start_table widths place_of beyond
+unfolding Looks start_table widths refusal_place beyond
 start_near at =
     near at 2 (BadMark at) refl (lit≤ tt) (lit≤ tt)
     & near (at + 2) 2 (BadMark (at + 2)) refl (lit≤ tt) (lit≤ tt)

@@ -11,8 +11,8 @@ use lib.Dec.{eqb}
 use borrow.Author.Tests.{eqb-true, eqb-false, ne_eqb}
 use Rattle.octets.specs.Octets.{Octets}
 use Rattle.laws.proofs.Cases.{cond_with, clash}
-use Rattle.answers.specs.declared.Answer.{Answer}
-use Rattle.answers.specs.declared.Answer.TheVariants.{BadMark, Trailing}
+use Rattle.answers.specs.declared.Refusal.{Refusal}
+use Rattle.answers.specs.declared.Refusal.TheVariants.{BadMark, Trailing}
 use Rattle.sheet_rules.specs.declared.Record.{Record}
 use Rattle.field_rules.specs.Field.{ok, no, bind, fields}
 use Rattle.field_rules.specs.Stands.{Stands, at_end, marked}
@@ -40,7 +40,7 @@ use Rattle.page_rules.proofs.Items.{item_exact, item_opens}
 pub data Zeros (size at : ℕ) : List ℕ → ℕ → Type 0 where
   zeros : (n : ℕ) → at + n ≡ size → Zeros size at (replicate n 0) 0
 
-pub data NoZeros (at : ℕ) : List ℕ → Answer → Type 0 where
+pub data NoZeros (at : ℕ) : List ℕ → Refusal → Type 0 where
   no_zero : (n y : ℕ) (rest : List ℕ) → y ≢ 0 → NoZeros at (replicate n 0 ++ (y ∷ rest)) (Trailing (at + n))
 
 zeros_there : (n at : ℕ) → zeros_of (replicate n 0) at ≡ ok 0 (at + n)
@@ -61,7 +61,7 @@ zeros_back (x ∷ l) at z n =
     (λ t e. let k = zeros_back l (suc at) z n e in let k1 = k.1 in (ap₂ (λ (a : ℕ) (b : List ℕ). a ∷ b) (eqb-true x 0 t) k.0, omega arith, k.2))
     (λ t e. clash cc)
 
-no_zeros_back : (l : List ℕ) (at : ℕ) (x : Answer) → zeros_of l at ≡ no x → NoZeros at l x
+no_zeros_back : (l : List ℕ) (at : ℕ) (x : Refusal) → zeros_of l at ≡ no x → NoZeros at l x
 unfolding zeros_of
 no_zeros_back [] at x = λ e. clash cc
 no_zeros_back (y ∷ l) at x =
@@ -69,7 +69,7 @@ no_zeros_back (y ∷ l) at x =
     (λ t e. subst (λ (v : ℕ). NoZeros at (v ∷ l) x) (sym (eqb-true y 0 t)) (by (no_zeros_back l (suc at) x e)))
     (λ t e. let z : Trailing at ≡ x = cc in subst (NoZeros at (y ∷ l)) (ap Trailing (add-zero at) ∙ z) (no_zero 0 y l (eqb-false y 0 t)))
   where
-    by : {m : List ℕ} {w : Answer} → NoZeros (suc at) m w → NoZeros at (0 ∷ m) w
+    by : {m : List ℕ} {w : Refusal} → NoZeros (suc at) m w → NoZeros at (0 ∷ m) w
     by (no_zero n v rest d) =
         let z : at + suc n ≡ suc at + n = omega arith in subst (NoZeros at (0 ∷ replicate n 0 ++ (v ∷ rest))) (ap Trailing z) (no_zero (suc n) v rest d)
 
@@ -109,7 +109,7 @@ exact_zeros s at h =
         let v : at + n ≡ at + length (replicate {A = ℕ} n 0) = omega arith in
         ap (λ (x : List ℕ). zeros_of x at) (e ∙ ap (λ (x : List ℕ). replicate n 0 ++ x) r ∙ append-nil (replicate n 0)) ∙ zeros_there n at ∙ ap (ok 0) v
 
-    refuse : (l : List ℕ) (x : Answer) → NoZeros at l x → zeros_of l at ≡ no x
+    refuse : (l : List ℕ) (x : Refusal) → NoZeros at l x → zeros_of l at ≡ no x
     refuse l x (no_zero n y rest d) = no_zero_there n y rest at d
 
 -- ---- the page, part by part
@@ -121,7 +121,7 @@ data Tail (rs : List Record) (size e : ℕ) : List ℕ → List Record → Type 
 exact_tail : (rs : List Record) (s : List ℕ) (e : ℕ) → e ≤ length s → Exact (bind (zeros_of (drop e s) e) (λ (z end : ℕ). ok rs end)) (Tail rs (length s) e) (NoZeros e) s e
 exact_tail rs s e h =
     exact_as
-    (exact_then (zeros_of (drop e s) e) (λ (z end : ℕ). ok rs end) (Zeros (length s) e) (NoZeros e) (λ (z end : ℕ). Nothing rs) (λ (z end : ℕ) (l : List ℕ) (x : Answer). ⊥) s e h
+    (exact_then (zeros_of (drop e s) e) (λ (z end : ℕ). ok rs end) (Zeros (length s) e) (NoZeros e) (λ (z end : ℕ). Nothing rs) (λ (z end : ℕ) (l : List ℕ) (x : Refusal). ⊥) s e h
     (exact_zeros s e h) (λ a l z g. exact_ok rs s (e + length l) g))
     (λ l a b. subst (λ (x : List ℕ). Tail rs (length s) e x a) (sym b.octets) (to b.first b.second))
     (λ l a b. fro b)
@@ -133,7 +133,7 @@ exact_tail rs s e h =
     fro : {l : List ℕ} {a : List Record} → Tail rs (length s) e l a → Both (Zeros (length s) e) (λ (z end : ℕ). Nothing rs) e l a
     fro (tail n q) = record { front = replicate n 0; rest = []; value = 0; octets = sym (append-nil (replicate n 0)); first = zeros n q; second = nothing }
 
-    bad : {l : List ℕ} {x : Answer} → BadThen (Zeros (length s) e) (NoZeros e) (λ (z end : ℕ) (l : List ℕ) (x : Answer). ⊥) e l x → NoZeros e l x
+    bad : {l : List ℕ} {x : Refusal} → BadThen (Zeros (length s) e) (NoZeros e) (λ (z end : ℕ) (l : List ℕ) (x : Refusal). ⊥) e l x → NoZeros e l x
     bad (bad_first b) = b
     bad (bad_later f r a z w) = absurd w
 
@@ -156,19 +156,19 @@ exact_end s at h =
 abbrev Behind : Head → ℕ → List ℕ → List Record → Type 0
 Behind hd = After (Optional hd.rules.version) (Stripe hd) 0 65535 []
 
-abbrev BadBehind : Head → ℕ → List ℕ → Answer → Type 0
+abbrev BadBehind : Head → ℕ → List ℕ → Refusal → Type 0
 BadBehind hd = BadBody (Optional hd.rules.version) (Stripe hd) (BadItem hd) 0 65535
 
 abbrev End : ℕ → List Record → ℕ → List ℕ → List Record → Type 0
 End size rs m = Both Ends (λ (es : List ℕ) (e : ℕ). Tail rs size e) m
 
-abbrev BadEnd : List Record → ℕ → List ℕ → Answer → Type 0
+abbrev BadEnd : List Record → ℕ → List ℕ → Refusal → Type 0
 BadEnd rs m = BadThen Ends (BadMarked end_mark BadMark m) (λ (es : List ℕ) (e : ℕ). NoZeros e) m
 
 abbrev Inner : ℕ → Head → ℕ → List ℕ → List Record → Type 0
 Inner size hd n = Both (Behind hd n) (End size) n
 
-abbrev BadInner : Head → ℕ → List ℕ → Answer → Type 0
+abbrev BadInner : Head → ℕ → List ℕ → Refusal → Type 0
 BadInner hd n = BadThen (Behind hd n) (BadBehind hd n) BadEnd n
 
 start_some : (l : List ℕ) (hd : Head) → Start l hd → 0 < length l
@@ -307,7 +307,7 @@ page_back s o rs n e =
 
 -- ---- refusals
 
-to_bad : (s : List ℕ) (x : Answer) → BadThen Start BadStart BadInner 0 s x → BadPage s x
+to_bad : (s : List ℕ) (x : Refusal) → BadThen Start BadStart BadInner 0 s x → BadPage s x
 to_bad s x (bad_first b) = in_start b
 to_bad s x (bad_later f r hd st (bad_first b)) =
     in_body f r hd st (subst (λ (j : ℕ). BadBehind hd j r x) (let z : 0 + length f ≡ length f = omega arith in z) b)
@@ -319,18 +319,18 @@ to_bad s x (bad_later f r hd st (bad_later m t rs a b)) = at_end_of b
     bodied : BodyOf hd (length f) m rs
     bodied = to_body hd (length f) m rs (subst (λ (j : ℕ). Behind hd j m rs) z a)
 
-    trails : {u : List ℕ} {e : ℕ} {x : Answer} → e ≡ length f + length m + 2 → NoZeros e u x → BadPage (f ++ (m ++ (end_mark ++ u))) x
+    trails : {u : List ℕ} {e : ℕ} {x : Refusal} → e ≡ length f + length m + 2 → NoZeros e u x → BadPage (f ++ (m ++ (end_mark ++ u))) x
     trails e (no_zero n y rest d) =
         subst (BadPage (f ++ (m ++ (end_mark ++ (replicate n 0 ++ (y ∷ rest)))))) (ap (λ (j : ℕ). Trailing (j + n)) (sym e)) (trailing f m rest hd rs n y st bodied d)
 
-    behind : {g es u : List ℕ} {x : Answer} → Ends g es → NoZeros (0 + length f + length m + length g) u x → BadPage (f ++ (m ++ (g ++ u))) x
+    behind : {g es u : List ℕ} {x : Refusal} → Ends g es → NoZeros (0 + length f + length m + length g) u x → BadPage (f ++ (m ++ (g ++ u))) x
     behind ends b = trails (let w : 0 + length f + length m + 2 ≡ length f + length m + 2 = omega arith in w) b
 
-    at_end_of : {t : List ℕ} {x : Answer} → BadEnd rs (0 + length f + length m) t x → BadPage (f ++ (m ++ t)) x
+    at_end_of : {t : List ℕ} {x : Refusal} → BadEnd rs (0 + length f + length m) t x → BadPage (f ++ (m ++ t)) x
     at_end_of {t} {x} (bad_first b) = in_end f m t hd rs st bodied (subst (λ (j : ℕ). BadMarked end_mark BadMark (j + length m) t x) z b)
     at_end_of {t} {x} (bad_later g u es e b) = behind e b
 
-from_bad : (s : List ℕ) (x : Answer) → BadPage s x → BadThen Start BadStart BadInner 0 s x
+from_bad : (s : List ℕ) (x : Refusal) → BadPage s x → BadThen Start BadStart BadInner 0 s x
 from_bad s x (in_start b) = bad_first b
 from_bad s x (in_body f r hd st b) = bad_later f r hd st (bad_first (subst (λ (j : ℕ). BadBehind hd j r x) (let z : length f ≡ 0 + length f = omega arith in z) b))
 from_bad s x (in_end f m r hd rs st b w) =
@@ -344,8 +344,8 @@ from_bad s x (trailing f m r hd rs n y st b d) =
     (bad_later m (end_mark ++ (replicate n 0 ++ (y ∷ r))) rs (subst (λ (j : ℕ). Behind hd j m rs) z (from_body hd (length f) m rs b))
     (bad_later end_mark (replicate n 0 ++ (y ∷ r)) [] ends (subst (NoZeros (0 + length f + length m + 2) (replicate n 0 ++ (y ∷ r))) (ap Trailing v) (no_zero n y r d))))
 
-pub page_blamed : (s : List ℕ) → Octets s → (x : Answer) → page_of s ≡ no x → BadPage s x
+pub page_blamed : (s : List ℕ) → Octets s → (x : Refusal) → page_of s ≡ no x → BadPage s x
 page_blamed s o x e = to_bad s x ((exact_page s).refused o x e)
 
-pub page_bad : (s : List ℕ) (x : Answer) → BadPage s x → page_of s ≡ no x
+pub page_bad : (s : List ℕ) (x : Refusal) → BadPage s x → page_of s ≡ no x
 page_bad s x b = (exact_page s).refuses x (from_bad s x b)

@@ -11,7 +11,7 @@ use lib.Dec.{eqb, lit<}
 use borrow.Author.Tests.{eqb-true, eqb-false, eq-eqb, ne_eqb}
 use Rattle.laws.proofs.Cases.{cond_with, clash}
 use Rattle.laws.proofs.Says.{says_eq, says_and, says_or, says_within, says_fails}
-use Rattle.answers.specs.declared.Answer.{Answer}
+use Rattle.answers.specs.declared.Refusal.{Refusal}
 use Rattle.sheet_rules.specs.declared.Record.{Record}
 use Rattle.field_rules.specs.Field.{Res, ok}
 use Rattle.field_rules.specs.Part.{Exact, Both, BadThen, bad_first, bad_later, Apart}
@@ -91,8 +91,8 @@ module _ (hd : Head) (k left : ℕ) (s : List ℕ) (at : ℕ) (h : at ≤ length
     of_stripe : {l : List ℕ} {it : Item} → n ≡ 0x01 → Striping mode hd k left e l it → Behind n e l it
     of_optional : n ≢ 0x01 → Behind n e [] skipped
 
-  data BadBehind (n e : ℕ) : List ℕ → Answer → Type 0 where
-    of_bad : {l : List ℕ} {x : Answer} → n ≡ 0x01 → BadStripeIn mode hd left e l x → BadBehind n e l x
+  data BadBehind (n e : ℕ) : List ℕ → Refusal → Type 0 where
+    of_bad : {l : List ℕ} {x : Refusal} → n ≡ 0x01 → BadStripeIn mode hd left e l x → BadBehind n e l x
 
   exact_behind : (n e : ℕ) → e ≤ length s → Exact (cond (eqb n 0x01) (stripe_read_in mode hd k left s e) (ok skipped e)) (Behind n e) (BadBehind n e) s e
   exact_behind n e i =
@@ -108,7 +108,7 @@ module _ (hd : Head) (k left : ℕ) (s : List ℕ) (at : ℕ) (h : at ≤ length
       striped_of z (of_stripe y w) = w
       striped_of z (of_optional d) = absurd (d z)
 
-      bad_of : {l : List ℕ} {x : Answer} → BadBehind n e l x → BadStripeIn mode hd left e l x
+      bad_of : {l : List ℕ} {x : Refusal} → BadBehind n e l x → BadStripeIn mode hd left e l x
       bad_of (of_bad z b) = b
 
       to : n ≢ 0x01 → {l : List ℕ} {it : Item} → Nothing skipped l it → Behind n e l it
@@ -118,7 +118,7 @@ module _ (hd : Head) (k left : ℕ) (s : List ℕ) (at : ℕ) (h : at ≤ length
       fro d (of_stripe z w) = absurd (d z)
       fro d (of_optional y) = nothing
 
-      none : n ≢ 0x01 → {l : List ℕ} {x : Answer} → BadBehind n e l x → ⊥
+      none : n ≢ 0x01 → {l : List ℕ} {x : Refusal} → BadBehind n e l x → ⊥
       none d (of_bad z b) = d z
 
   -- ---- in the words of the grammar
@@ -163,7 +163,7 @@ module _ (hd : Head) (k left : ℕ) (s : List ℕ) (at : ℕ) (h : at ≤ length
         second = of_stripe refl (striping y.behind);
       }
 
-  to_bad : (f r : List ℕ) (n : ℕ) {x : Answer} → First f n → BadBehind n (at + length f) r x → BadItem hd k left at (f ++ r) x
+  to_bad : (f r : List ℕ) (n : ℕ) {x : Refusal} → First f n → BadBehind n (at + length f) r x → BadItem hd k left at (f ++ r) x
   to_bad f r _ (whole n begin body g e o) (of_bad z b) = absurd (body_passed mode k n e z)
   to_bad f r _ (begun n size g e o) (of_bad z b) = bad_stripe f r (room_left n z g) (opened_by n size (body_sized mode k n size e) o) b
 
@@ -178,11 +178,11 @@ module _ (hd : Head) (k left : ℕ) (s : List ℕ) (at : ℕ) (h : at ≤ length
       (λ l x b. bad b)
       (λ l x b. worse b)
     where
-      bad : {l : List ℕ} {x : Answer} → BadThen First (BadSegment version (due_at mode k) at) BadBehind at l x → BadItem hd k left at l x
+      bad : {l : List ℕ} {x : Refusal} → BadThen First (BadSegment version (due_at mode k) at) BadBehind at l x → BadItem hd k left at l x
       bad (bad_first b) = bad_segment b
       bad (bad_later f r n z b) = to_bad f r n z b
 
-      worse : {l : List ℕ} {x : Answer} → BadItem hd k left at l x → BadThen First (BadSegment version (due_at mode k) at) BadBehind at l x
+      worse : {l : List ℕ} {x : Refusal} → BadItem hd k left at l x → BadThen First (BadSegment version (due_at mode k) at) BadBehind at l x
       worse (bad_segment b) = bad_first b
       worse (bad_stripe begin rest fw o b) = bad_later begin rest 0x01 (begun 0x01 (body_in mode) (stripe_named mode k fw) refl o) (of_bad refl b)
 

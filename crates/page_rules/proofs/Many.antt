@@ -12,7 +12,7 @@ use Rattle.sheet_rules.specs.declared.Record.{Record}
 use Rattle.segment_rules.specs.Segment.{begin_of, short}
 use Rattle.start_rules.specs.Grammar.{start_of, GoodHead}
 use Rattle.body_rules.specs.Body.{no_more, last, next}
-use Rattle.mode1_rules.specs.declared.LayerData.TheVariants.{Absent}
+use Rattle.std.specs.Prelude.{None}
 use Rattle.mode1_rules.specs.Kinds.{stripe_body}
 use Rattle.mode1_rules.specs.Grammar as M1
 use Rattle.mode1_rules.specs.Grammar.{fields_of, absent, records_of}
@@ -33,17 +33,17 @@ good_head : GoodHead head
 good_head = record { mask = inr (inr (inr (inl refl))); image = inl refl; main = inr (inl refl); width = (lit≤ tt, lit≤ tt) }
 
 abbrev records_at : ℕ → ℕ → List Record
-records_at k at = records_of head k stripe (at + length begins + stripe_body) Absent Absent
+records_at k at = records_of head k stripe (at + length begins + stripe_body) None None
 
-rest_of : (k left at : ℕ) → 2 ≤ left → M1.Stripe head k left at behind 2 (records_of head k stripe (at + stripe_body) Absent Absent)
+rest_of : (k left at : ℕ) → 2 ≤ left → M1.Stripe head k left at behind 2 (records_of head k stripe (at + stripe_body) None None)
 rest_of k left at h =
     record {
       fields = stripe;
       mask = coded_mask;
       back = [];
       fore = [];
-      back_is = Absent;
-      fore_is = Absent;
+      back_is = None;
+      fore_is = None;
       octets = refl;
       widths =
           record {

@@ -12,8 +12,9 @@ use mathlib.Core.List.{List, [], ◌∷◌, ◌++◌}
 use lib.ListN.{length, take}
 use borrow.Author.Tests.{le-ltb, lt-ltb}
 use Rattle.octets.specs.Octets.{be16_at, be32_at, begins, stands_at, octets16, octets32, put_at}
-use Rattle.answers.specs.declared.Answer.{Answer}
-use Rattle.answers.specs.declared.Answer.TheVariants.{BadMark, BadLength, BadStripe, TooLong}
+use Rattle.std.specs.Prelude.{Err}
+use Rattle.answers.specs.Answers.{Answer}
+use Rattle.answers.specs.declared.Refusal.TheVariants.{BadMark, BadLength, BadStripe, TooLong}
 use Rattle.field_rules.specs.Field.{Res, ok, no, fields}
 use Rattle.segment_rules.specs.Rules.{longest_page}
 use Rattle.segment_rules.specs.Segment.{begin_of, open_table}
@@ -29,7 +30,7 @@ use Rattle.page_rules.proofs.Samples.{head, stripe, stripe_head, coded_mask, pag
 use Rattle.page_rules.proofs.Examples.{optional_of}
 
 -- a page of 16,777,216 octets is too long, whatever it says; one of 16,777,215 is read
-pub longest : (s : List ℕ) (room : ℕ) → (16777215 < length s → read_of s room ≡ TooLong) × (length s ≤ 16777215 → read_of s room ≡ room_of room (page_of s))
+pub longest : (s : List ℕ) (room : ℕ) → (16777215 < length s → read_of s room ≡ Err TooLong) × (length s ≤ 16777215 → read_of s room ≡ room_of room (page_of s))
 unfolding read_of
 longest s room = (λ h. simp (lt-ltb longest_page (length s) h), λ h. simp (le-ltb longest_page (length s) h))
 
@@ -38,9 +39,9 @@ unfolding put_at page
 faulty at v = read_of (put_at page at v) 84
 
 -- the stripe's marker; its length, below 6 and other than 37; its ident, 02 and FF; FF D9, twice
-pub stripe_refused : (faulty 23 (0xEE ∷ []) ≡ BadMark 22) × (faulty 25 (0x05 ∷ 0x00 ∷ []) ≡ BadLength 24) × (faulty 25 (0x24 ∷ []) ≡ BadLength 24)
-    × (faulty 25 (0x26 ∷ []) ≡ BadLength 24) × (faulty 29 (0x02 ∷ []) ≡ BadMark 26) × (faulty 29 (0xFF ∷ []) ≡ BadMark 26)
-    × (faulty 66 (0xFE ∷ []) ≡ BadMark 66) × (faulty 69 (0xD8 ∷ []) ≡ BadMark 68)
+pub stripe_refused : (faulty 23 (0xEE ∷ []) ≡ Err (BadMark 22)) × (faulty 25 (0x05 ∷ 0x00 ∷ []) ≡ Err (BadLength 24)) × (faulty 25 (0x24 ∷ []) ≡ Err (BadLength 24))
+    × (faulty 25 (0x26 ∷ []) ≡ Err (BadLength 24)) × (faulty 29 (0x02 ∷ []) ≡ Err (BadMark 26)) × (faulty 29 (0xFF ∷ []) ≡ Err (BadMark 26))
+    × (faulty 66 (0xFE ∷ []) ≡ Err (BadMark 66)) × (faulty 69 (0xD8 ∷ []) ≡ Err (BadMark 68))
 unfolding faulty read_of start_of begin_of fields_of colour_of octets16 octets32 start_table open_table stripe_table end_table fields mask_coder image_coder type_ok be16_at be32_at stands_at begins
 stripe_refused = (refl, refl, refl, refl, refl, refl, refl, refl)
 
@@ -51,8 +52,8 @@ unfolding optional_of page
 with_optional n = read_of (take 22 page ++ (optional_of n (7 ∷ []) ++ (0xFF ∷ 0xD9 ∷ []))) 84
 
 -- it is passed over, so that the fault is the missing stripe behind it; 00, 02 and FF are no idents
-pub optional_idents : (with_optional 0x03 ≡ BadStripe 31) × (with_optional 0xFE ≡ BadStripe 31) × (with_optional 0x02 ≡ BadMark 26) × (with_optional 0xFF ≡ BadMark 26)
-    × (with_optional 0x00 ≡ BadMark 26)
+pub optional_idents : (with_optional 0x03 ≡ Err (BadStripe 31)) × (with_optional 0xFE ≡ Err (BadStripe 31)) × (with_optional 0x02 ≡ Err (BadMark 26)) × (with_optional 0xFF ≡ Err (BadMark 26))
+    × (with_optional 0x00 ≡ Err (BadMark 26))
 unfolding with_optional read_of start_of begin_of fields_of colour_of octets16 octets32 start_table open_table stripe_table end_table fields mask_coder image_coder type_ok be16_at be32_at stands_at begins
 optional_idents = (refl, refl, refl, refl, refl)
 

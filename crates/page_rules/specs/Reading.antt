@@ -8,11 +8,11 @@
 --   read_of s room    what the call answers, where the buffer holds so many octets
 --   read_into s d     what the buffer holds afterwards
 --   Reads s d a e    the call's promise: it answers a, and the buffer d is then e
-use Rattle.std.specs.Prelude.{ℕ, suc, ◌*◌, ◌≡◌, Bool, ◌&&◌, ◌||◌, cond, List, [], ◌∷◌, length, drop, eqb, ltb}
+use Rattle.std.specs.Prelude.{ℕ, suc, ◌*◌, ◌≡◌, Bool, ◌&&◌, ◌||◌, cond, List, [], ◌∷◌, length, drop, eqb, ltb, Ok, Err}
 use Rattle.octets.specs.Octets.{put_at}
 use Rattle.laws.specs.Tests.{within}
-use Rattle.answers.specs.declared.Answer.{Answer}
-use Rattle.answers.specs.declared.Answer.TheVariants.{Done, BadMark, Trailing, NoRoom, TooLong}
+use Rattle.answers.specs.Answers.{Answer}
+use Rattle.answers.specs.declared.Refusal.TheVariants.{BadMark, Trailing, NoRoom, TooLong}
 use Rattle.field_rules.specs.Field.{Res, ok, no, bind, Field, mark, fields}
 use Rattle.sheet_rules.specs.declared.Record.{Record}
 use Rattle.sheet_rules.specs.Record.{record_size, sheet_of}
@@ -75,12 +75,12 @@ page_of s =
 -- ---- the call: TooLong first, then the page, NoRoom last
 
 unfoldable pub room_of : ℕ → Res (List Record) → Answer
-room_of room (ok rs n) = cond (ltb room (length rs * record_size)) NoRoom (Done (length rs))
-room_of room (no a) = a
+room_of room (ok rs n) = cond (ltb room (length rs * record_size)) (Err NoRoom) (Ok (length rs))
+room_of room (no a) = Err a
 
 unfoldable pub read_of : List ℕ → ℕ → Answer
 unfolding page_of room_of
-read_of s room = cond (ltb longest_page (length s)) TooLong (room_of room (page_of s))
+read_of s room = cond (ltb longest_page (length s)) (Err TooLong) (room_of room (page_of s))
 
 -- the sheet's octets in front, and the octets past them as they were; a refusal changes nothing
 unfoldable pub into_of : List ℕ → Res (List Record) → List ℕ

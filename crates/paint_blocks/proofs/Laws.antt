@@ -4,24 +4,13 @@ use Prim.Native.Nat.{ℕ, ◌+◌, ◌*◌, ◌/◌, ◌%◌, ◌<◌}
 use native.Mathlib.Omega.{arith}
 use mathlib.Core.Path.{◌≡◌, refl, sym, ap, subst, ◌∙◌}
 use mathlib.Core.Logic.{⊎_elim}
-use mathlib.Core.Bool.{true, ◌&&◌, cond}
+use mathlib.Core.Bool.{true, ◌&&◌}
 use mathlib.Core.List.{List, [], ◌∷◌}
 use lib.ListN.{get_or}
 use lib.Dec.{eqb}
-use borrow.Author.Tests.{eq-eqb, ne_eqb}
-use borrow.Author.Rules.{rules}
 use Rattle.laws.proofs.Says.{says_eq, says_lt, says_and, says_else}
 use Rattle.paint_words.specs.Words.{octets_of, four_from}
 use Rattle.paint_blocks.specs.Blocks.{Alike, Eight}
-
--- ---- eight octets
-
-pub eight_made : (s : List ℕ) (i a b v w : ℕ) → octets_of a ≡ four_from s i → octets_of b ≡ four_from s (i + 4) → (v ≡ a) × (v < 4294967296) → (w ≡ b) × (w < 4294967296)
-    → Eight s i (v + w * 4294967296)
-eight_made s i a b v w p q h k =
-    record { low = v; high = w; is = refl; small = h.1; first = ap octets_of h.0 ∙ p; second = ap octets_of k.0 ∙ q }
-
-pub ruleset eights = (rules, eight_made)
 
 -- ---- octets that are alike
 
@@ -81,23 +70,9 @@ octets_of_product v h =
     let d : v * 16843009 / 16777216 ≡ v = omega arith in
     cc
 
-pub block_same : (p q a b : ℕ) (s : List ℕ) (i : ℕ) → (p ≡ get_or s i 0) × (p < 256) → (q ≡ p) × (q < 4294967296) → Eight s i a → Eight s (i + 8) b
+pub block_same : (q a b : ℕ) (s : List ℕ) (i : ℕ) → q ≡ get_or s i 0 → q < 256 → Eight s i a → Eight s (i + 8) b
     → eqb a (q * 72340172838076673) && eqb b (q * 72340172838076673) ≡ true → Alike (get_or s i 0) s i (i + 16)
-block_same p q a b s i h k f g z =
-    let small = h.1 in
-    let same = k.0 in
-    let n : q * 72340172838076673 ≡ p * 16843009 + p * 16843009 * 4294967296 = omega arith in
-    subst (λ (v : ℕ). Alike v s i (i + 16)) h.0
-    (block_alike p (p * 16843009) (q * 72340172838076673) a b s i (octets_of_product p small) (omega arith) n f g z)
-
-pub ruleset alikes = (rules, block_zeros)
-
--- ---- a place chosen
-
-pub place_low : (m low up : ℕ) → m ≡ 0 → low ≡ cond (eqb m 0) low up
-place_low m low up e = simp (eq-eqb m 0 e)
-
-pub place_up : (m low up : ℕ) → (m ≡ 0 → ⊥) → up ≡ cond (eqb m 0) low up
-place_up m low up n = simp (ne_eqb m 0 n)
-
-pub ruleset placing = (rules, place_low, place_up)
+block_same q a b s i e small f g z =
+    let n : q * 72340172838076673 ≡ q * 16843009 + q * 16843009 * 4294967296 = omega arith in
+    subst (λ (v : ℕ). Alike v s i (i + 16)) e
+    (block_alike q (q * 16843009) (q * 72340172838076673) a b s i (octets_of_product q small) (omega arith) n f g z)

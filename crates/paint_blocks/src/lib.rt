@@ -1,7 +1,7 @@
 // Sixteen octets of a mask at once: whether they are all 0 or all 1, so that what they show is laid without a choice.
 #![tactic(auto)]
 
-ghost use Rattle.std.specs.Prelude.{◌≡◌, true, cond, ◌+◌, ◌-◌, ◌<◌, ◌≤◌, length, get_or, eqb};
+ghost use Rattle.std.specs.Prelude.{◌≡◌, true, ◌+◌, ◌-◌, ◌<◌, ◌≤◌, length, get_or};
 ghost use Rattle.paint_blocks.specs.Blocks.{Alike, Eight};
 
 pub const BLOCK: usize = 16;
@@ -9,18 +9,12 @@ pub const BLOCK: usize = 16;
 // Eight times the octet 1.
 const EIGHT_ONES: u64 = 72340172838076673;
 
-fn wider(x: u32) -> u64
-    ensures { (result ≡ x) × (result < 4294967296) }
-{
-    x as u64
-}
-
 // Eight octets as one number, by one load.
 fn eight(s: &[u8], i: usize) -> u64
     requires { i + 8 ≤ length s.now }
     ensures { Eight s.now i result }
 {
-    wider(paint_words::word(s, i)) + wider(paint_words::word(s, i + 4)) * 4294967296
+    u64::from(paint_words::word(s, i)) + u64::from(paint_words::word(s, i + 4)) * 4294967296
 }
 
 // All sixteen from x on are 0.
@@ -44,7 +38,7 @@ pub fn uniform(m: &[u8], x: usize) -> bool
     requires { x + 16 ≤ length m.now }
     ensures { result ≡ true → Alike (get_or m.now x 0) m.now x (x + 16) }
 {
-    let v = wider(paint_words::wide(m[x])) * EIGHT_ONES;
+    let v = u64::from(m[x]) * EIGHT_ONES;
     (eight(m, x) == v) & (eight(m, x + 8) == v)
 }
 
@@ -64,11 +58,4 @@ pub fn mixed_end(m: &[u8], x: usize, n: usize) -> usize
         step = 4 * BLOCK;
     }
     e
-}
-
-// Where the lower one starts under a mask's 0, and else the upper one.
-pub fn place(m: u8, low: usize, up: usize) -> usize
-    ensures { result ≡ cond (eqb m 0) low up }
-{
-    if m == 0 { low } else { up }
 }

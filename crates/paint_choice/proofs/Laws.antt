@@ -2,7 +2,7 @@
 -- Assumes nothing.
 use Prim.Native.Nat.{ℕ, suc, ◌+◌, ◌-◌, ◌*◌, ◌/◌, ◌≤◌, ◌<◌}
 use native.Mathlib.Omega.{arith}
-use native.Mathlib.Nat.{add-mul, one-mul, mul-le-mul_right, suc-mul, add-mul-div_right, div-le_self, div-one}
+use native.Mathlib.Nat.{add-mul, one-mul, mul-le-mul_right, suc-mul, add-mul-div_right, div-one}
 use mathlib.Core.Path.{◌≡◌, sym, ap, ◌∙◌}
 use mathlib.Core.Logic.{⊎_elim}
 use mathlib.Core.List.{List}
@@ -69,9 +69,6 @@ module _ (d : List ℕ) (m : Row) (x y : ℕ) (g : MaskPart d m x y) (i j : ℕ)
       let z = q.is in
       omega arith
 
-  pub bits_small_last : j ≤ y
-  bits_small_last = let e = q.is in let r = div-le_self (y - 1 - m.from.0) m.ratio in omega arith
-
   reach : y ≤ m.from.0 + i * m.ratio + (j - i + 1) * m.ratio
   reach = let n = span in let o = q.high in let u = mul-le-mul_right m.ratio read_order in let z = g.some in omega arith
 
@@ -88,8 +85,6 @@ module _ (d : List ℕ) (m : Row) (x y : ℕ) (g : MaskPart d m x y) (i j : ℕ)
             let q₁ : m.at + i + (x - (m.from.0 + i * m.ratio) + z) / m.ratio ≡ m.at + (x + z - m.from.0) / m.ratio = omega arith in
             s.there (x - (m.from.0 + i * m.ratio) + z) (inside_end x z (m.from.0 + i * m.ratio) y ((j - i + 1) * m.ratio) t reach w) ∙ ap (λ (o : ℕ). get_or d o 0) q₁;
       }
-
-pub ruleset spreading = (rules, read_order, bits_room, bits_there, spread_at)
 
 module _ (d : List ℕ) (m : Row) (v a x y : ℕ) (g : MaskPart d m x y) (h : a ≤ x) where
   pub read_whole : (l e : List ℕ) → m.ratio ≡ 1 → Marked (bits_from d (x - a) (m.at + (x - m.from.0))) l (x - a) (y - a) v e → Marked (mask_bits d m a) l (x - a) (y - a) v e

@@ -6,11 +6,12 @@ use native.Mathlib.Nat.{div-eq_of_lt-le, mul-le-mul_right, add-mul, one-mul}
 use mathlib.Core.Path.{◌≡◌, refl, sym, ap, subst, ◌∙◌}
 use mathlib.Core.Logic.{⊎_elim}
 use mathlib.Core.Bool.{cond}
-use mathlib.Core.List.{List}
-use lib.ListN.{length, get_or, set, length-set}
+use mathlib.Core.List.{List, ◌++◌}
+use lib.ListN.{length, get_or, set, length-set, replicate, take, drop}
+use borrow.Rule.Slice.PartMut.{put_mid}
+use Rattle.std.proofs.lemmas.List.{length-take-le, length-drop, length-append, length-replicate, get_or-take, get_or-drop, get_or-replicate, get_or_append_left, get_or-append_right}
 use lib.Seq.{get_or-set_same, get_or-set_other}
 use lib.Dec.{eqb}
-use borrow.Author.Tests.{eq-eqb, ne_eqb}
 use borrow.Author.Rules.{rules}
 use Rattle.laws.proofs.Says.{says_lt, says_else}
 use Rattle.paint_choice.specs.Choice.{Marked, ever, bits_from, Spread}
@@ -74,14 +75,6 @@ pub bits_is : (m : List ℕ) (p i x low v w : ℕ) → w ≡ cond (eqb (get_or m
 unfolding bits_from
 bits_is m p i x low v w e = e
 
-pub pick_low : (m low up : ℕ) → m ≡ 0 → low ≡ cond (eqb m 0) low up
-pick_low m low up e = simp (eq-eqb m 0 e)
-
-pub pick_up : (m low up : ℕ) → (m ≡ 0 → ⊥) → up ≡ cond (eqb m 0) low up
-pick_up m low up n = simp (ne_eqb m 0 n)
-
-pub ruleset picking = (rules, pick_low, pick_up)
-
 pub ruleset marking = (rules, marking_begun, marking_more, marking_end, ever_is, bits_is)
 
 -- ---- samples spread
@@ -99,64 +92,33 @@ pub record Spreading (m : List ℕ) (i k n : ℕ) (l e : List ℕ) (q p : ℕ) :
   pub place : p ≡ q * k
   pub done : Spread m i k q l e
 
-module _ (m : List ℕ) (i k n : ℕ) (l : List ℕ) where
-  pub spread_begun : 0 < k → n * k ≤ length l → Spreading m i k n l l 0 0
-  spread_begun s h = let z : 0 ≡ 0 * k = omega arith in record { few = omega arith; some = s; room = h; place = z; done = record { long = refl; there = λ x q. absurd (omega arith) } }
+module _ (m : List ℕ) (i k n : ℕ) (l e : List ℕ) (q p : ℕ) (c : Spreading m i k n l e q p) where
+  pub spread_more : (new : List ℕ) → q < n → Marked (ever 1) e p (p + k) (get_or m (i + q) 0) new → Spreading m i k n l new (q + 1) (p + k)
+  unfolding ever
+  spread_more new h f =
+      let b : (q + 1) * k ≡ q * k + k = add-mul q 1 k ∙ ap (λ (o : ℕ). q * k + o) (one-mul k) in
+      let z = c.place in
+      record {
+        few = omega arith;
+        some = c.some;
+        room = c.room;
+        place = omega arith;
+        done = record {
+          long = f.long ∙ c.done.long;
+          there = λ x g. ⊎_elim
+              (λ (y : x < p). f.before x y ∙ c.done.there x (omega arith))
+              (λ (y : x < p → ⊥).
+              let d : x / k ≡ q = div-eq_of_lt-le k (omega arith) (omega arith) in
+              f.there x (omega arith) (omega arith) ∙ ap (λ (o : ℕ). get_or m (i + o) 0) (sym d))
+              (says_else (says_lt x p));
+        };
+      }
 
-  module _ (e : List ℕ) (q p : ℕ) (c : Spreading m i k n l e q p) where
-    pub spread_room : q < n → p + k ≤ length e
-    spread_room h = let a = product q n k h in let r = c.room in let z = c.place in let g = c.done.long in omega arith
-
-    pub spread_more : (new : List ℕ) → q < n → Marked (ever 1) e p (p + k) (get_or m (i + q) 0) new → Spreading m i k n l new (q + 1) (p + k)
-    unfolding ever
-    spread_more new h f =
-        let b : (q + 1) * k ≡ q * k + k = add-mul q 1 k ∙ ap (λ (o : ℕ). q * k + o) (one-mul k) in
-        let z = c.place in
-        record {
-          few = omega arith;
-          some = c.some;
-          room = c.room;
-          place = omega arith;
-          done = record {
-            long = f.long ∙ c.done.long;
-            there = λ x g. ⊎_elim
-                (λ (y : x < p). f.before x y ∙ c.done.there x (omega arith))
-                (λ (y : x < p → ⊥).
-                let d : x / k ≡ q = div-eq_of_lt-le k (omega arith) (omega arith) in
-                f.there x (omega arith) (omega arith) ∙ ap (λ (o : ℕ). get_or m (i + o) 0) (sym d))
-                (says_else (says_lt x p));
-          };
-        }
-
-    pub spread_end : n ≤ q → Spread m i k n l e
-    spread_end h = let f = c.few in let z : q ≡ n = omega arith in subst (λ (o : ℕ). Spread m i k o l e) z c.done
-
--- two stores of one value
-pub spread_two : (m : List ℕ) (i n : ℕ) (l e : List ℕ) (q : ℕ) → Spreading m i 2 n l e q (q * 2) → q < n
-    → Spreading m i 2 n l (set (set e (q * 2) (get_or m (i + q) 0)) (q * 2 + 1) (get_or m (i + q) 0)) (q + 1) ((q + 1) * 2)
-spread_two m i n l e q c h =
-    let v : ℕ = get_or m (i + q) 0 in
-    let r = c.room in
-    let g = c.done.long in
-    let z : q * 2 + 1 + 1 ≡ q * 2 + 2 = omega arith in
-    let w : q * 2 + 2 ≡ (q + 1) * 2 = omega arith in
-    let b = marking_begun (ever 1) e (q * 2) (q * 2 + 2) (get_or m (i + q) 0) (omega arith) (omega arith) in
-    let o = marking_more (ever 1) e (q * 2) (q * 2 + 2) (get_or m (i + q) 0) e (q * 2) (get_or m (i + q) 0) (ever_is (q * 2) (get_or e (q * 2) 0) (get_or m (i + q) 0)) (omega arith) b in
-    let t = marking_more (ever 1) e (q * 2) (q * 2 + 2) (get_or m (i + q) 0) (set e (q * 2) (get_or m (i + q) 0)) (q * 2 + 1) (get_or m (i + q) 0)
-    (ever_is (q * 2 + 1) (get_or (set e (q * 2) (get_or m (i + q) 0)) (q * 2 + 1) 0) (get_or m (i + q) 0)) (omega arith) o in
-    let k = marking_end (ever 1) e (q * 2) (q * 2 + 2) (get_or m (i + q) 0) (set (set e (q * 2) (get_or m (i + q) 0)) (q * 2 + 1) (get_or m (i + q) 0)) (q * 2 + 1 + 1) t (omega arith) in
-    subst (λ (p : ℕ). Spreading m i 2 n l (set (set e (q * 2) (get_or m (i + q) 0)) (q * 2 + 1) (get_or m (i + q) 0)) (q + 1) p) w (spread_more m i 2 n l e q (q * 2) c _ h k)
-
-pub spread_zero : (m : List ℕ) (i k n : ℕ) (l : List ℕ) → 0 < k → n * k ≤ length l → Spreading m i k n l l 0 (0 * k)
-spread_zero m i k n l s h = let z : 0 ≡ 0 * k = omega arith in subst (λ (p : ℕ). Spreading m i k n l l 0 p) z (spread_begun m i k n l s h)
-
-pub spread_done : (m : List ℕ) (i k n : ℕ) (l e : List ℕ) (q : ℕ) → Spreading m i k n l e q (q * k) → n ≤ q → Spread m i k n l e
-spread_done m i k n l e q c h = spread_end m i k n l e q (q * k) c h
-
-pub spread_first : (m : List ℕ) (i n : ℕ) (l e : List ℕ) (q : ℕ) → Spreading m i 2 n l e q (q * 2) → q < n → q * 2 + 1 < length e
-spread_first m i n l e q c h = let r = c.room in let g = c.done.long in omega arith
-
-pub ruleset twice = (rules, spread_zero, spread_two, spread_done, spread_first)
+-- so far as the next sample's first place
+pub spread_next : (m : List ℕ) (i k n : ℕ) (l e : List ℕ) (q : ℕ) → Spreading m i k n l e (q + 1) (q * k + k) → Spreading m i k n l e (q + 1) ((q + 1) * k)
+spread_next m i k n l e q c =
+    let z : q * k + k ≡ (q + 1) * k = sym (add-mul q 1 k ∙ ap (λ (o : ℕ). q * k + o) (one-mul k)) in
+    subst (λ (p : ℕ). Spreading m i k n l e (q + 1) p) z c
 
 -- one value as the two octets of a number
 pub put_two : (l : List ℕ) (p v w : ℕ) → p + 2 ≤ length l → (w ≡ v) × (w < 256) → Marked (ever 1) l p (p + 2) v (set (set l p (w * 257 % 256)) (p + 1) (w * 257 / 256))
@@ -197,13 +159,6 @@ spread_four m i n l e o g q c h a b =
     subst (λ (p : ℕ). Spreading m i 4 n l g (q + 1) p) w
     (spread_more m i 4 n l e q (q * 4) c g h (subst (λ (p : ℕ). Marked (ever 1) e (q * 4) p (get_or m (i + q) 0) g) z k))
 
-pub four_room : (m : List ℕ) (i n : ℕ) (l e : List ℕ) (q : ℕ) → Spreading m i 4 n l e q (q * 4) → q < n → q * 4 + 2 + 2 ≤ length e
-four_room m i n l e q c h = let r = c.room in let g = c.done.long in omega arith
-
-pub ruleset fourfold = (rules, spread_zero, spread_done, four_room)
-
-pub ruleset spreading = (rules, spread_begun, spread_room, spread_end)
-
 pub as_ratio : (m : List ℕ) (i k c n : ℕ) (l e : List ℕ) → k ≡ c → Spread m i c n l e → Spread m i k n l e
 as_ratio m i k c n l e q g = rw q g
 
@@ -211,3 +166,25 @@ pub room_ratio : (k c n len : ℕ) → k ≡ c → n * k ≤ len → n * c ≤ l
 room_ratio k c n len q h = rw q at h
 
 pub ruleset ratios = (rules, as_ratio, room_ratio)
+
+-- what the library's fill leaves of a part
+pub fill_put : (l r : List ℕ) (p q v : ℕ) → p ≤ q → q ≤ length l → r ≡ replicate (length (take (q - p) (drop p l))) v → Marked (ever 1) l p q v (put_mid p (q - p) l r)
+unfolding ever
+fill_put l r p q v h k e =
+    let f : length (drop p l) ≡ length l - p = length-drop p l in
+    let m : ℕ = length (take (q - p) (drop p l)) in
+    let w : m ≡ q - p = length-take-le (q - p) (drop p l) (omega arith) in
+    let o : List ℕ = take p l in
+    let t : List ℕ = drop (q - p) (drop p l) in
+    let b : length o ≡ p = length-take-le p l (omega arith) in
+    let n : length r ≡ q - p = ap length e ∙ length-replicate m v ∙ w in
+    let d : length t ≡ length l - p - (q - p) = length-drop (q - p) (drop p l) ∙ ap (λ (i : ℕ). i - (q - p)) f in
+    record {
+      long = length-append o (r ++ t) ∙ ap (λ (i : ℕ). length o + i) (length-append r t) ∙ omega arith;
+      there = λ i a c. get_or-append_right o (r ++ t) p i 0 b a ∙ get_or_append_left r t 0 (i - p) (omega arith) ∙ ap (λ (s : List ℕ). get_or s (i - p) 0) e ∙ get_or-replicate m (i - p) v 0 (omega arith);
+      before = λ i a. get_or_append_left o (r ++ t) 0 i (omega arith) ∙ get_or-take p l i 0 a;
+      behind = λ i a.
+          let z : p + (q - p + (i - p - (q - p))) ≡ i = omega arith in
+          get_or-append_right o (r ++ t) p i 0 b (omega arith) ∙ get_or-append_right r t (q - p) (i - p) 0 n (omega arith)
+          ∙ get_or-drop (q - p) (drop p l) (i - p - (q - p)) 0 ∙ get_or-drop p l (q - p + (i - p - (q - p))) 0 ∙ ap (λ (j : ℕ). get_or l j 0) z;
+    }

@@ -1,38 +1,25 @@
 // Octets marked under a mask, one a pixel, sixteen at a time: the floors of the pixels of a part of a row are kept so, and masks alone are looked at.
 #![tactic(auto)]
 
-ghost use Rattle.std.specs.Prelude.{◌≡◌, cond, ◌+◌, ◌-◌, ◌*◌, ◌<◌, ◌≤◌, length, eqb};
+ghost use Rattle.std.specs.Prelude.{◌+◌, ◌-◌, ◌*◌, ◌<◌, ◌≤◌, length};
 ghost use Rattle.paint_choice.specs.Choice.{Marked, ever, bits_from, Spread, mask_bits, SpreadAt, MaskPart};
 
 use line_fetch::Row;
 use pixel_rules::MainPos;
 
-// Mask 0 keeps.
-pub fn pick(m: u8, low: u8, up: u8) -> u8
-    ensures { result ≡ cond (eqb m 0) low up }
-{
-    if m == 0 { low } else { up }
-}
-
 pub fn fill(sel: &mut [u8], p: usize, q: usize, v: u8)
     requires { (p ≤ q) × (q ≤ length sel.old) }
     ensures { Marked (ever 1) sel.old p q v sel.new }
 {
-    let mut x = p;
-    while x < q {
-        sel[x] = v;
-        x += 1;
-    }
+    sel[p..q].fill(v);
 }
 
 fn choose(sel: &mut [u8], p: usize, q: usize, m: &[u8], i: usize, v: u8)
     requires { (p ≤ q) × (q ≤ length sel.old) × (i + (q - p) ≤ length m.now) }
     ensures { Marked (bits_from m.now p i) sel.old p q v sel.new }
 {
-    let mut x = p;
-    while x < q {
-        sel[x] = pick(m[i + (x - p)], sel[x], v);
-        x += 1;
+    for x in p..q {
+        sel[x] = paint_words::pick(m[i + (x - p)], sel[x], v);
     }
 }
 
@@ -40,13 +27,9 @@ fn bits_by(bits: &mut [u8], m: &[u8], i: usize, n: usize, k: usize)
     requires { (0 < k) × (n * k ≤ length bits.old) × (i + n ≤ length m.now) }
     ensures { Spread m.now i k n bits.old bits.new }
 {
-    let mut q = 0;
-    let mut p = 0;
-    while q < n {
-        let v = m[i + q];
-        fill(bits, p, p + k, v);
-        q += 1;
-        p += k;
+    for q in 0..n {
+        let p = q * k;
+        fill(bits, p, p + k, m[i + q]);
     }
 }
 
@@ -55,12 +38,10 @@ fn bits_twice(bits: &mut [u8], m: &[u8], i: usize, n: usize)
     requires { (n * 2 ≤ length bits.old) × (i + n ≤ length m.now) }
     ensures { Spread m.now i 2 n bits.old bits.new }
 {
-    let mut q = 0;
-    while q < n {
+    for q in 0..n {
         let v = m[i + q];
         bits[q * 2] = v;
         bits[q * 2 + 1] = v;
-        q += 1;
     }
 }
 
@@ -69,7 +50,7 @@ fn put_twice(bits: &mut [u8], p: usize, v: u8)
     requires { p + 2 ≤ length bits.old }
     ensures { Marked (ever 1) bits.old p (p + 2) v bits.new }
 {
-    let w = paint_words::wide(v) * 257;
+    let w = u32::from(v) * 257;
     bits[p] = (w % 256) as u8;
     bits[p + 1] = (w / 256) as u8;
 }
@@ -80,12 +61,10 @@ fn bits_four(bits: &mut [u8], m: &[u8], i: usize, n: usize)
     requires { (n * 4 ≤ length bits.old) × (i + n ≤ length m.now) }
     ensures { Spread m.now i 4 n bits.old bits.new }
 {
-    let mut q = 0;
-    while q < n {
+    for q in 0..n {
         let v = m[i + q];
         put_twice(bits, q * 4, v);
         put_twice(bits, q * 4 + 2, v);
-        q += 1;
     }
 }
 

@@ -7,7 +7,6 @@
 --   chosen_by m low up  by what is below where the mask m is 0, and else by what is above
 --   four_in n s p       the four octets of the seen sample of n octets at a place
 --   samples_by n k s t i   samples of n octets, k pixels each, the first at pixel t and place i
---   WideBy             n samples of three octets are laid, up to pixel r
 use Rattle.std.specs.Prelude.{ℕ, ◌+◌, ◌-◌, ◌*◌, ◌/◌, ◌≤◌, ◌<◌, ◌≡◌, cond, List, length, get_or, eqb}
 use Rattle.paint_words.specs.Words.{four_from, seen_from, grey_from}
 
@@ -34,7 +33,3 @@ four_in n s p = cond (eqb n 3) (seen_from s p) (grey_from s p)
 
 unfoldable pub samples_by : ℕ → ℕ → List ℕ → ℕ → ℕ → ℕ → List ℕ
 samples_by n k s t i x = four_in n s (i + (x - t) / k * n)
-
-pub record WideBy (k : ℕ) (s : List ℕ) (t i n : ℕ) (l : List ℕ) (r : ℕ) (e : List ℕ) : Type 0 where
-  pub end : r ≡ t + n * k
-  pub done : Coated (over (samples_by 3 k s t i)) l t r e

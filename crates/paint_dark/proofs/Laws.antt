@@ -4,15 +4,14 @@ use Prim.Native.Nat.{ℕ, zero, suc, ◌+◌, ◌*◌, ◌≤◌, ◌<◌}
 use native.Mathlib.Omega.{arith}
 use mathlib.Core.Path.{◌≡◌, refl, sym, ap, subst, ◌∙◌}
 use mathlib.Core.Logic.{◌≢◌, ◌⊎◌, ⊎_elim}
-use mathlib.Core.Bool.{Bool, true, false, ◌||◌}
+use mathlib.Core.Bool.{Bool, true, false}
 use mathlib.Core.List.{List}
 use lib.ListN.{length}
-use lib.Dec.{eqb, leb}
 use borrow.Author.Rules.{rules}
 use Rattle.laws.proofs.Cases.{clash}
-use Rattle.laws.proofs.Says.{says_eq, says_or, says_le, says_lt, says_else}
-use Rattle.pixel_rules.specs.declared.Sample.{Sample}
-use Rattle.pixel_rules.specs.declared.Sample.TheVariants.{Known, Unknown}
+use Rattle.laws.proofs.Says.{says_lt, says_else}
+use Rattle.std.specs.Prelude.{Option, Some, None}
+use Rattle.sheet_rules.specs.declared.Colour.{Colour}
 use Rattle.pixel_rules.specs.declared.Mask.{Mask}
 use Rattle.pixel_rules.specs.declared.Mask.TheVariants.{Zero, One, Hidden}
 use Rattle.pixel_rules.specs.Samples.{bit_of}
@@ -27,32 +26,20 @@ use Rattle.paint_dark.specs.Dark.{Darkens, image_unread as layer_unread, never_o
 
 -- ---- a pair
 
-pub dark_layer : (m r : Row) (a b : ℕ) (z : Bool) → r.read ≡ 0 → (z ≡ true → Between r a b) → z ≡ true → true ≡ true → Darkens m r a b
-dark_layer m r a b z e k t u = layer_unread e (k t)
-
-pub dark_not : (m r : Row) (a b : ℕ) → false ≡ true → Darkens m r a b
-dark_not m r a b e = clash cc
-
-pub dark_mask : (m r : Row) (a b : ℕ) → (m.other ≢ 0 → ⊥) → (eqb m.read 0 || leb m.to.0 m.from.0) ≡ true → Darkens m r a b
-dark_mask m r a b n t = never_one (⊎_elim (λ (z : m.other ≡ 0). z) (λ (z : m.other ≡ 0 → ⊥). absurd (n z)) (says_else (says_eq m.other 0)))
-    ((says_or (says_eq m.read 0) (says_le m.to.0 m.from.0)).told t)
-
-pub ruleset darkening = (rules, dark_layer, dark_not, dark_mask)
-
 -- ---- one pair more
 
-agree_dark : (p : Sample) → agree p Unknown ≡ Unknown
+agree_dark : (p : Option Colour) → agree p None ≡ None
 unfolding agree
-agree_dark (Known c) = refl
-agree_dark Unknown = refl
+agree_dark (Some c) = refl
+agree_dark None = refl
 
-step_dark : (m : Mask) (up : Sample) → up ≡ Unknown → pair_step m Unknown up ≡ Unknown
+step_dark : (m : Mask) (up : Option Colour) → up ≡ None → pair_step m None up ≡ None
 unfolding pair_step agree
 step_dark Zero up e = refl
 step_dark One up e = e
 step_dark Hidden up e = refl
 
-step_unlit : (m : Mask) (up : Sample) → m ≢ One → pair_step m Unknown up ≡ Unknown
+step_unlit : (m : Mask) (up : Option Colour) → m ≢ One → pair_step m None up ≡ None
 unfolding pair_step agree
 step_unlit Zero up n = refl
 step_unlit One up n = absurd (n refl)
@@ -83,14 +70,14 @@ module _ (s d ns : List ℕ) (a b : ℕ) where
       record {
         lost = λ x p q.
             let st : Stack = row_stack s d ns (record { 0 = x }) in
-            let u : st.image (suc j) ≡ Unknown = ap (λ (w : Row). row_image s d w (record { 0 = x })) (sym er) ∙ sym (image_unread s d r (record { 0 = x }) (k.from x p q) (k.to x p q) e) in
-            ap (λ (low : Sample). pair_step (st.mask (suc j)) low (st.image (suc j))) (g.lost x p q) ∙ step_dark (st.mask (suc j)) (st.image (suc j)) u;
+            let u : st.image (suc j) ≡ None = ap (λ (w : Row). row_image s d w (record { 0 = x })) (sym er) ∙ sym (image_unread s d r (record { 0 = x }) (k.from x p q) (k.to x p q) e) in
+            ap (λ (low : Option Colour). pair_step (st.mask (suc j)) low (st.image (suc j))) (g.lost x p q) ∙ step_dark (st.mask (suc j)) (st.image (suc j)) u;
       }
   lost_step j m r em er (never_one o k) g =
       record {
         lost = λ x p q.
             let st : Stack = row_stack s d ns (record { 0 = x }) in
-            ap (λ (low : Sample). pair_step (st.mask (suc j)) low (st.image (suc j))) (g.lost x p q)
+            ap (λ (low : Option Colour). pair_step (st.mask (suc j)) low (st.image (suc j))) (g.lost x p q)
             ∙ step_unlit (st.mask (suc j)) (st.image (suc j)) (λ (z : st.mask (suc j) ≡ One). never d m x o k (ap (λ (w : Row). row_mask d w (record { 0 = x })) em ∙ z));
       }
 

@@ -36,12 +36,11 @@ fn pairs_dark(
     requires { RowsFit s.now d.now rows.now pairs × Lost s.now d.now rows.now f a b × (f ≤ pairs) × (pairs ≤ 7) }
     ensures { result ≡ true → Lost s.now d.now rows.now pairs a b }
 {
-    let mut j = f;
-    while j < pairs {
-        j += 1;
-        let m = line_fetch::row_at(rows, j * 2);
-        let r = line_fetch::row_at(rows, j * 2 + 1);
-        if stays_dark(m, r, a, b) {} else {
+    for j in f..pairs {
+        let p = j + 1;
+        let m = line_fetch::row_at(rows, p * 2);
+        let r = line_fetch::row_at(rows, p * 2 + 1);
+        if !stays_dark(m, r, a, b) {
             return false;
         }
     }

@@ -4,14 +4,14 @@ use Prim.Native.Nat.{ℕ, zero, suc, ◌+◌, ◌-◌, ◌*◌, ◌/◌, ◌≤�
 use native.Mathlib.Omega.{arith}
 use mathlib.Core.Path.{◌≡◌, refl, sym, ap, subst, ◌∙◌}
 use mathlib.Core.Logic.{◌≢◌, ⊎_elim}
-use mathlib.Core.Bool.{Bool, true, false, cond}
+use mathlib.Core.Bool.{Bool, true, cond}
 use mathlib.Core.List.{List}
 use lib.ListN.{length, get_or}
-use lib.Dec.{eqb, leb}
+use lib.Dec.{eqb}
 use borrow.Author.Tests.{eq-eqb, ne_eqb}
 use borrow.Author.Rules.{rules}
 use Rattle.laws.proofs.Cases.{clash}
-use Rattle.laws.proofs.Says.{says_lt, says_le, says_eq, says_else}
+use Rattle.laws.proofs.Says.{says_lt, says_eq, says_else}
 use Rattle.pixel_rules.specs.Place.{scale}
 use Rattle.line_fetch.specs.declared.Row.{Row}
 use Rattle.line_fetch.specs.Rows.{MaskFits}
@@ -20,8 +20,8 @@ use Rattle.line_fetch.proofs.Laws.{mask_before, mask_after, mask_unread, mask_re
 use Rattle.line_pixel.specs.Rows.{row_stack, RowsFit}
 use Rattle.pixel_rules.specs.declared.Mask.{Mask}
 use Rattle.pixel_rules.specs.declared.Mask.TheVariants.{Zero, One, Hidden}
-use Rattle.pixel_rules.specs.declared.Sample.{Sample}
-use Rattle.pixel_rules.specs.declared.Sample.TheVariants.{Known, Unknown}
+use Rattle.std.specs.Prelude.{Option, Some, None}
+use Rattle.sheet_rules.specs.declared.Colour.{Colour}
 use Rattle.pixel_rules.specs.Samples.{bit_of}
 use Rattle.pixel_rules.specs.Decide.{Stack, agree, pair_step, decide}
 use Rattle.paint_rules.specs.Floor.{dark, Settled, Step, stays, taken, lost}
@@ -29,23 +29,9 @@ use Rattle.paint_rules.proofs.Floors.{settled_first, settled_dark, settled_step}
 use Rattle.paint_image.specs.Image.{Between, Within}
 use Rattle.paint_choice.specs.Choice.{Marked, ever, mask_bits, MaskPart}
 use Rattle.paint_choice.proofs.Marks.{marked_none, marked_as}
-use Rattle.paint_floor.specs.Floors.{inside_bits, MarkOf, Covers, all_ones, all_dark, PlainRows, Sure, Starts}
+use Rattle.paint_floor.specs.Floors.{inside_bits, MarkOf, Covers, all_ones, all_dark, Sure, Starts}
 
 -- ---- a part of an area, what stands for a pair
-
-pub spans_both : (r : Row) (a b : ℕ) → r.from.0 ≤ a → leb b r.to.0 ≡ true → Between r a b
-spans_both r a b h t = let k = (says_le b r.to.0).told t in record { from = λ x p q. omega arith; to = λ x p q. omega arith }
-
-pub spans_not : (r : Row) (a b : ℕ) → false ≡ true → Between r a b
-spans_not r a b e = clash cc
-
-pub mark_dark : (r : Row) (j a b : ℕ) (z : Bool) → r.read ≡ 0 → (z ≡ true → Between r a b) → z ≡ true → MarkOf r j a b dark
-mark_dark r j a b z n k t = record { same = λ d. absurd (d refl); unread = λ d. n; between = λ d. k t }
-
-pub mark_plain : (r : Row) (j a b : ℕ) → j < 8 → MarkOf r j a b j
-mark_plain r j a b h = record { same = λ d. refl; unread = λ d. absurd (omega arith); between = λ d. absurd (omega arith) }
-
-pub ruleset markings = (rules, spans_both, spans_not, mark_dark, mark_plain)
 
 -- ---- beside a mask's area, and in it
 
@@ -126,7 +112,7 @@ hidden_zero e = clash cc
 
 module _ (st : Stack) (p c c' : ℕ) where
   -- a mask of one value, which is known
-  step_known : (n v : ℕ) → st.mask p ≡ bit_of n → (v ≢ dark → v ≡ p) → (v ≡ dark → st.image p ≡ Unknown) → c' ≡ cond (eqb n 0) c v → Step st p c c'
+  step_known : (n v : ℕ) → st.mask p ≡ bit_of n → (v ≢ dark → v ≡ p) → (v ≡ dark → st.image p ≡ None) → c' ≡ cond (eqb n 0) c v → Step st p c c'
   step_known n v m k u e =
       ⊎_elim
       (λ (z : n ≡ 0). stays (λ h. zero_one (sym (m ∙ bit_zero n z) ∙ h)) (e ∙ simp (eq-eqb n 0 z)))
@@ -137,7 +123,7 @@ module _ (st : Stack) (p c c' : ℕ) where
       (says_else (says_eq n 0))
 
   -- one that is not
-  step_hidden : (v : ℕ) → st.mask p ≡ Hidden → (v ≡ dark → st.image p ≡ Unknown) → c' ≡ cond (eqb (cond (eqb v dark) 1 0) 0) c v → Step st p c c'
+  step_hidden : (v : ℕ) → st.mask p ≡ Hidden → (v ≡ dark → st.image p ≡ None) → c' ≡ cond (eqb (cond (eqb v dark) 1 0) 0) c v → Step st p c c'
   step_hidden v m u e =
       ⊎_elim
       (λ (y : v ≡ dark). let w : cond (eqb (cond (eqb v dark) 1 0) 0) c v ≡ v = simp (eq-eqb v dark y) in lost (λ h. hidden_zero (sym m ∙ h)) (u y) (e ∙ w ∙ y))
@@ -153,7 +139,7 @@ module _ (s d ns : List ℕ) (f a b j : ℕ) (m r : Row) (em : m ≡ row_at ns (
   mask_is_lem : (i : ℕ) (o : Mask) → o ≡ row_mask d m (record { 0 = a + i }) → (stack i).mask (j + 1) ≡ o
   mask_is_lem i o e = sym (e ∙ ap (λ (w : Row). row_mask d w (record { 0 = a + i })) em)
 
-  dark_is : (v i : ℕ) → MarkOf r (j + 1) x y v → x ≤ a + i → a + i < y → v ≡ dark → (stack i).image (j + 1) ≡ Unknown
+  dark_is : (v i : ℕ) → MarkOf r (j + 1) x y v → x ≤ a + i → a + i < y → v ≡ dark → (stack i).image (j + 1) ≡ None
   dark_is v i k p q z =
       sym (image_unread s d r (record { 0 = a + i }) ((k.between z).from (a + i) p q) ((k.between z).to (a + i) p q) (k.unread z)
       ∙ ap (λ (w : Row). row_image s d w (record { 0 = a + i })) er)
@@ -231,31 +217,12 @@ module _ (s d ns : List ℕ) (pairs j : ℕ) (g : RowsFit s d ns pairs) (h : j <
   pub mask_fits : (m : Row) → m ≡ row_at ns ((j + 1) * 2) → MaskFits d m
   mask_fits m e = subst (MaskFits d) (sym e) (g.pair (j + 1) (omega arith) (omega arith)).mask
 
-pub mask_few : (ns : List ℕ) (pairs j : ℕ) (m : Row) → PlainRows ns pairs → j < pairs → m ≡ row_at ns ((j + 1) * 2) → m.ratio ≤ 12
-mask_few ns pairs j m g h e = subst (λ (o : Row). o.ratio ≤ 12) (sym e) (g.mask (j + 1) (omega arith) (omega arith)).few
-
-pub mask_between : (m : Row) (a b x y : ℕ) → Within m.from.0 a b x → Within m.to.0 x b y → Between m x y
-mask_between m a b x y p q = record { from = λ z i j. p.behind z i (let h = q.high in omega arith); to = λ z i j. q.before z i j }
-
-pub ruleset pairing = (rules, mask_room, image_room, mask_fits, mask_few, mask_between, pair_sure)
-
 -- ---- a pair that covers a part
 
-pub covers_ones : (m r : Row) (a b : ℕ) → m.other ≢ 0 → leb m.to.0 m.from.0 ≡ true → Covers m r a b
-covers_ones m r a b n t = all_ones n ((says_le m.to.0 m.from.0).told t)
-
-pub covers_dark : (m r : Row) (a b : ℕ) (y z : Bool) → m.read ≡ 0 → r.read ≡ 0 → (y ≡ true → Between m a b) → y ≡ true → (z ≡ true → Between r a b) → z ≡ true → Covers m r a b
-covers_dark m r a b y z n o k t l u = all_dark n (k t) o (l u)
-
-pub covers_not : (m r : Row) (a b : ℕ) → false ≡ true → Covers m r a b
-covers_not m r a b e = clash cc
-
-pub ruleset covering = (rules, covers_ones, covers_dark, covers_not)
-
-agree_dark : (p : Sample) → agree p Unknown ≡ Unknown
+agree_dark : (p : Option Colour) → agree p None ≡ None
 unfolding agree
-agree_dark (Known c) = refl
-agree_dark Unknown = refl
+agree_dark (Some c) = refl
+agree_dark None = refl
 
 module _ (s d ns : List ℕ) (pairs a b : ℕ) where
   pub starts_none : Starts s d ns pairs a b 0
@@ -266,7 +233,7 @@ module _ (s d ns : List ℕ) (pairs a b : ℕ) where
   unfolding decide pair_step
   shows_one st j e = ap (λ (o : Mask). pair_step o (decide st j) (st.image (suc j))) e
 
-  shows_dark : (st : Stack) (j : ℕ) → st.mask (suc j) ≡ Hidden → st.image (suc j) ≡ Unknown → decide st (suc j) ≡ st.image (suc j)
+  shows_dark : (st : Stack) (j : ℕ) → st.mask (suc j) ≡ Hidden → st.image (suc j) ≡ None → decide st (suc j) ≡ st.image (suc j)
   unfolding decide pair_step
   shows_dark st j e u =
       ap (λ (o : Mask). pair_step o (decide st j) (st.image (suc j))) e ∙ ap (agree (decide st j)) u ∙ agree_dark (decide st j) ∙ sym u

@@ -123,14 +123,12 @@ pub fn first_pair(s: &[u8], d: &[u8], rows: &[usize], pairs: usize, a: usize, b:
     requires { RowsFit s.now d.now rows.now pairs × (pairs ≤ 7) }
     ensures { Starts s.now d.now rows.now pairs a b result }
 {
-    let mut j = pairs;
-    while 0 < j {
+    for j in (1..=pairs).rev() {
         let m = line_fetch::row_at(rows, j * 2);
         let r = line_fetch::row_at(rows, j * 2 + 1);
         if covers(m, r, a, b) {
             return j;
         }
-        j -= 1;
     }
     0
 }
@@ -153,9 +151,7 @@ pub fn put_floors(
 {
     let v = mark(line_fetch::row_at(rows, f * 2 + 1), f as u8, a, b);
     paint_choice::fill(sel, 0, b - a, v);
-    let mut j = f;
-    while j < pairs {
+    for j in f..pairs {
         mask_pair(sel, bits, s, d, rows, pairs, f, j, a, b);
-        j += 1;
     }
 }

@@ -6,7 +6,7 @@ use mathlib.Core.Path.{◌≡◌, refl, sym, ap, ap₂, subst, ◌∙◌}
 use mathlib.Core.Logic.{◌≢◌}
 use mathlib.Core.Bool.{cond}
 use mathlib.Core.List.{List}
-use native.Mathlib.Nat.{add-mul, one-mul, mul-le-mul}
+use native.Mathlib.Nat.{add-mul, one-mul}
 use lib.ListN.{length, get_or, take, drop, length-take, length-drop}
 use lib.Seq.{take_all, get_or-drop}
 use lib.Dec.{eqb}
@@ -17,21 +17,10 @@ use borrow.Author.Rules.{rules}
 use Rattle.octets.specs.Octets.{put_at}
 use Rattle.paint_words.specs.Words.{octets_of, seen_from, grey_from}
 use Rattle.paint_coat.specs.Coat.{Coated, over, four_in}
-use Rattle.paint_coat.proofs.Coats.{coated_none, coated_chain, coated_put, coated_as}
-use Rattle.paint_coat.proofs.Laws.{coat_begun, coat_end}
+use Rattle.paint_coat.proofs.Coats.{coated_chain, coated_put, coated_as}
 use Rattle.paint_gather.specs.Gather.{entry, place_in, gathered, next_at, Reach, Reaches, Running}
 
 -- ---- a sample
-
-pub word_three : (d : List ℕ) (p each w : ℕ) → each ≡ 3 → octets_of w ≡ seen_from d p → octets_of w ≡ four_in each d p
-unfolding four_in
-word_three d p each w q e = e ∙ sym (rw q)
-
-pub word_grey : (d : List ℕ) (p each w : ℕ) → each ≢ 3 → octets_of w ≡ grey_from d p → octets_of w ≡ four_in each d p
-unfolding four_in
-word_grey d p each w q e = e ∙ sym (simp (ne_eqb each 3 q))
-
-pub ruleset words = (rules, word_three, word_grey)
 
 pub entry_room : (j c n : ℕ) → 192 ≤ n → j < 12 → c < 16 → j * 16 + c < n
 entry_room j c n h k l = omega arith
@@ -112,19 +101,6 @@ module _ (each : ℕ) (sel : List ℕ) (p : ℕ) (t : List ℕ) (j : ℕ) (r : L
       (subst (λ (m : ℕ). octets_of a ≡ next_at each sel p t j r y m) z (four_is 0 a p j (omega arith) (omega arith) ua))
       (four_is 1 b (p + 1) (j + 1) refl refl ub) (four_is 2 c (p + 2) (j + 2) refl refl uc) (four_is 3 d (p + 3) (j + 3) refl refl ud)
 
-module _ (sel : List ℕ) (p : ℕ) (t : List ℕ) (j : ℕ) (r : List ℕ) (g : Reach 4 sel p t j r) where
-  pub four_few : (m : ℕ) → m < 4 → get_or sel (p + m) 0 < 16
-  four_few m h = g.few m h
-
-  pub first_few : get_or sel p 0 < 16
-  first_few = let z : p + 0 ≡ p = omega arith in subst (λ (n : ℕ). get_or sel n 0 < 16) z (g.few 0 (omega arith))
-
-  pub first_there : entry t j (get_or sel p 0) + 4 ≤ length r
-  first_there =
-      let z : p + 0 ≡ p = omega arith in
-      let y : j + 0 ≡ j = omega arith in
-      subst (λ (n : ℕ). entry t j (get_or sel n 0) + 4 ≤ length r) z (subst (λ (n : ℕ). entry t n (get_or sel (p + 0) 0) + 4 ≤ length r) y (g.there 0 (omega arith)))
-
 -- ---- twelve pixels
 
 module _ (sel : List ℕ) (p : ℕ) (t r : List ℕ) where
@@ -164,25 +140,11 @@ module _ (sel : List ℕ) (p : ℕ) (t r : List ℕ) where
         (twelve_part (p + 4) 4 (y + 4) (y + 8) e f refl refl (omega arith) k₂))
         (twelve_part (p + 8) 8 (y + 8) (y + 12) f h refl refl (omega arith) k₃)
 
-pub twelve_three : (each : ℕ) (sel : List ℕ) (p : ℕ) (t r : List ℕ) (y e : ℕ) (l o : List ℕ) → each ≡ 3 → Coated (over (next_at 3 sel p t 0 r y)) l y e o → Coated (over (next_at each sel p t 0 r y)) l y e o
-twelve_three each sel p t r y e l o z k = subst (λ (n : ℕ). Coated (over (next_at n sel p t 0 r y)) l y e o) (sym z) k
-
-pub ruleset twelves = (rules, twelve_three)
-
 -- ---- pixels one by one
-
-module _ (sel t d : List ℕ) (step a x e : ℕ) (g : Reaches sel t d step (x - a) (e - a)) (ax : a ≤ x) (y : ℕ) (h : x ≤ y) (k : y < e) where
-  pub few_few : get_or sel (y - a) 0 < 16
-  few_few = g.few (y - a) (omega arith) (omega arith)
-
-  pub few_there : place_in t step (y - a) (get_or sel (y - a) 0) + 4 ≤ length d
-  few_there = g.there (y - a) (omega arith) (omega arith)
 
 pub few_is : (each : ℕ) (sel t d : List ℕ) (step a y w : ℕ) (o : List ℕ) → octets_of w ≡ four_in each d (place_in t step (y - a) (get_or sel (y - a) 0)) → octets_of w ≡ over (gathered each sel t d step a) y o
 unfolding over gathered
 few_is each sel t d step a y w o e = e
-
-pub ruleset fews = (rules, coat_begun, coat_end)
 
 -- ---- twelve by twelve
 
@@ -204,12 +166,6 @@ part_four_lem each d i p h k =
 part_long : (d : List ℕ) (i : ℕ) → i ≤ length d → length (take (length d - i) (drop i d)) ≡ length d - i
 part_long d i h = let a = length-take (length d - i) (drop i d) in let b = length-drop i d in omega arith
 
-pub step_fits : (n step : ℕ) → n < 65536 → step ≤ 36 → Fits w64 (n * step)
-step_fits n step h k = let m = mul-le-mul {n₁ = n} {m₁ = step} {n₂ = 65535} {m₂ = 36} (omega arith) k in record { fits = omega arith }
-
-pub step_adds : (n step i : ℕ) → n < 65536 → step ≤ 36 → i ≡ n * step → Fits w64 (i + step)
-step_adds n step i h k z = let m = mul-le-mul {n₁ = n} {m₁ = step} {n₂ = 65535} {m₂ = 36} (omega arith) k in record { fits = omega arith }
-
 pub record Turning (each : ℕ) (sel t d : List ℕ) (step a x e : ℕ) (l out : List ℕ) (y i : ℕ) : Type 0 where
   pub from : x ≤ y
   pub upto : y ≤ e
@@ -219,10 +175,6 @@ pub record Turning (each : ℕ) (sel t d : List ℕ) (step a x e : ℕ) (l out :
   pub done : Coated (over (gathered each sel t d step a)) l x y out
 
 module _ (each : ℕ) (sel t d : List ℕ) (step a x e : ℕ) (l : List ℕ) (g : Reaches sel t d step (x - a) (e - a)) (ax : a ≤ x) where
-  pub turning_begun : x ≤ e → (x - a) % 12 ≡ 0 → (i : ℕ) → i ≡ (x - a) / 12 * step → Turning each sel t d step a x e l l x i
-  turning_begun h z i q =
-      record { from = omega arith; upto = h; long = refl; twelfth = z; place = q; done = coated_none (over (gathered each sel t d step a)) l x x (omega arith) }
-
   module _ (out : List ℕ) (y i : ℕ) (c : Turning each sel t d step a x e l out y i) (h : 12 ≤ e - y) where
     -- the places of the twelve
     place_here : (m : ℕ) → m < 12 → place_in t step (y - a + m) (get_or sel (y - a + m) 0) ≡ entry t m (get_or sel (y - a + m) 0) + i
@@ -247,7 +199,7 @@ module _ (each : ℕ) (sel t d : List ℕ) (step a x e : ℕ) (l : List ℕ) (g 
     pub part_low : i ≤ length d
     part_low = let r = there_here 0 (omega arith) in omega arith
 
-    pub twelve_reach : Reach 12 sel (y - a) t 0 (take (length d - i) (drop i d))
+    twelve_reach : Reach 12 sel (y - a) t 0 (take (length d - i) (drop i d))
     twelve_reach =
         let n = g.long in
         let f = c.from in
@@ -280,7 +232,7 @@ module _ (each : ℕ) (sel t d : List ℕ) (step a x e : ℕ) (l : List ℕ) (g 
         ∙ ap (λ (n : ℕ). four_in each d (place_in t step n (get_or sel n 0))) q)
         k
 
-    pub turning_more : (o : List ℕ) → Coated (over (next_at each sel (y - a) t 0 (take (length d - i) (drop i d)) y)) out y (y + 12) o → Turning each sel t d step a x e l o (y + 12) (i + step)
+    turning_more : (o : List ℕ) → Coated (over (next_at each sel (y - a) t 0 (take (length d - i) (drop i d)) y)) out y (y + 12) o → Turning each sel t d step a x e l o (y + 12) (i + step)
     turning_more o k =
         let f = c.from in
         let w = c.twelfth in
@@ -296,10 +248,16 @@ module _ (each : ℕ) (sel t d : List ℕ) (step a x e : ℕ) (l : List ℕ) (g 
           done = coated_chain (over (gathered each sel t d step a)) l out o x y (y + 12) f (omega arith) c.done (twelve_told o k);
         }
 
-  pub turning_end : (out : List ℕ) (y i : ℕ) → Turning each sel t d step a x e l out y i → Running each sel t d step a x e l y out
-  turning_end out y i c = record { from = c.from; upto = c.upto; done = c.done }
+    -- the same, the twelve's first place being p
+    module _ (p : ℕ) (z : p ≡ y - a) where
+      pub twelve_at : Reach 12 sel p t 0 (take (length d - i) (drop i d))
+      twelve_at = rw z twelve_reach
 
-pub ruleset turning = (rules, turning_begun, turning_end, part_low)
+      pub turning_at : (o : List ℕ) → Coated (over (next_at each sel p t 0 (take (length d - i) (drop i d)) y)) out y (y + 12) o → Turning each sel t d step a x e l o (y + 12) (i + step)
+      turning_at o k = turning_more o (rw z at k)
+
+  pub turning_next : (out : List ℕ) (y z i j : ℕ) → y ≡ z → i ≡ j → Turning each sel t d step a x e l out y i → Turning each sel t d step a x e l out z j
+  turning_next out y z i j p q c = subst (λ (m : ℕ). Turning each sel t d step a x e l out z m) q (subst (λ (m : ℕ). Turning each sel t d step a x e l out m i) p c)
 
 -- ---- all of them
 
@@ -314,6 +272,11 @@ module _ (each : ℕ) (sel t d : List ℕ) (step a x e y : ℕ) (l o n : List �
 
   pub rest_chain : Running each sel t d step a x e l y o → Coated (over (gathered each sel t d step a)) o y e n → Coated (over (gathered each sel t d step a)) l x e n
   rest_chain g q = coated_chain (over (gathered each sel t d step a)) l o n x y e g.from g.upto g.done q
+
+module _ (each : ℕ) (sel t d : List ℕ) (step a x e : ℕ) (l o : List ℕ) where
+  pub gathered_grey : each ≢ 3 → Coated (over (gathered 1 sel t d step a)) l x e o → Coated (over (gathered each sel t d step a)) l x e o
+  unfolding over gathered four_in
+  gathered_grey q c = coated_as (over (gathered 1 sel t d step a)) (over (gathered each sel t d step a)) l o x e (λ y u r s. sym (simp (ne_eqb each 3 q))) c
 
 pub gather_all : (each : ℕ) (sel t d : List ℕ) (step a x e y : ℕ) (l o : List ℕ) → y ≤ e → e ≤ y → Coated (over (gathered each sel t d step a)) l x y o → Coated (over (gathered each sel t d step a)) l x e o
 gather_all each sel t d step a x e y l o h k c = let z : y ≡ e = omega arith in subst (λ (b : ℕ). Coated (over (gathered each sel t d step a)) l x b o) z c

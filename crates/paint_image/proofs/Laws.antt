@@ -18,7 +18,7 @@ use Rattle.line_sample.specs.Factor.{Steps}
 use Rattle.line_fetch.specs.declared.Row.{Row}
 use Rattle.line_fetch.specs.Rows.{Turns, ImageFits}
 use Rattle.line_fetch.proofs.Laws.{image_before, image_after, image_unread, image_read_lem}
-use Rattle.pixel_rules.specs.declared.Sample.TheVariants.{Known}
+use Rattle.std.specs.Prelude.{Some}
 use Rattle.pixel_rules.specs.Samples.{colour_in, grey_of}
 use Rattle.sheet_rules.specs.Record.{colour_at}
 use Rattle.paint_words.specs.Words.{octets_of, seen_from, grey_from}
@@ -260,20 +260,6 @@ count_small r a i t s = let d = div-le_self (a - r.from.0) r.ratio in let e = s.
 
 pub ruleset areas = (rules, area_one, area_first, area_next, area_start, area_both)
 
--- ---- a place brought between two
-
-module _ (x a b : ℕ) (h : a ≤ b) where
-  pub within_low : x < a → Within x a b a
-  within_low l = record { low = omega arith; high = h; before = λ y p q. absurd (omega arith); behind = λ y p q. omega arith }
-
-  pub within_high : a ≤ x → b < x → Within x a b b
-  within_high k l = record { low = h; high = omega arith; before = λ y p q. omega arith; behind = λ y p q. absurd (omega arith) }
-
-  pub within_here : a ≤ x → x ≤ b → Within x a b x
-  within_here k l = record { low = k; high = l; before = λ y p q. q; behind = λ y p q. p }
-
-pub ruleset bringing = (rules, within_low, within_high, within_here)
-
 -- ---- the base colour, the area
 
 module _ (un s d : List ℕ) (r : Row) (t a b : ℕ) where
@@ -302,11 +288,11 @@ module _ (un s d : List ℕ) (r : Row) (t a b : ℕ) where
       (λ x o p q.
       ap (shown_four un) (image_unread s d r (record { 0 = a + (x - t) }) (g.from (a + (x - t)) (omega arith) (omega arith)) (g.to (a + (x - t)) (omega arith) (omega arith)) z)) c
 
-  four_colour : (n p : ℕ) → four_in n d p ≡ shown_four un (Known (colour_in n d p))
+  four_colour : (n p : ℕ) → four_in n d p ≡ shown_four un (Some (colour_in n d p))
   unfolding four_in shown_four colour_in seen_from grey_from
   four_colour n p = by (eqb n 3)
     where
-      by : (z : Bool) → cond z (seen_from d p) (grey_from d p) ≡ shown_four un (Known (cond z (colour_at d p) (grey_of (get_or d p 0))))
+      by : (z : Bool) → cond z (seen_from d p) (grey_from d p) ≡ shown_four un (Some (cond z (colour_at d p) (grey_of (get_or d p 0))))
       by true = refl
       by false = refl
 

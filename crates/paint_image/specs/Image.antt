@@ -11,16 +11,15 @@
 --   WholeFits d r q n f   n samples from sample q on, which starts at pixel f, are there
 --   Within x a b r      r is x brought between a and b
 --   Between r a b       the pixels a up to b lie in the area; Beside: none of them does
-use Rattle.std.specs.Prelude.{ℕ, ◌+◌, ◌-◌, ◌*◌, ◌/◌, ◌≤◌, ◌<◌, ◌≡◌, ◌≢◌, ◌⊎◌, List, [], ◌∷◌, length}
-use Rattle.pixel_rules.specs.declared.Sample.{Sample}
-use Rattle.pixel_rules.specs.declared.Sample.TheVariants.{Known, Unknown}
+use Rattle.std.specs.Prelude.{ℕ, ◌+◌, ◌-◌, ◌*◌, ◌/◌, ◌≤◌, ◌<◌, ◌≡◌, ◌≢◌, ◌⊎◌, List, [], ◌∷◌, length, Option, Some, None}
+use Rattle.sheet_rules.specs.declared.Colour.{Colour}
 use Rattle.line_fetch.specs.declared.Row.{Row}
 use Rattle.line_fetch.specs.Rows.{row_image, Turns}
 use Rattle.paint_coat.specs.Coat.{four_in}
 
-unfoldable pub shown_four : List ℕ → Sample → List ℕ
-shown_four un (Known c) = c.c0 ∷ c.c1 ∷ c.c2 ∷ 1 ∷ []
-shown_four un Unknown = un
+unfoldable pub shown_four : List ℕ → Option Colour → List ℕ
+shown_four un (Some c) = c.c0 ∷ c.c1 ∷ c.c2 ∷ 1 ∷ []
+shown_four un None = un
 
 unfoldable pub image_from : List ℕ → List ℕ → List ℕ → Row → ℕ → List ℕ
 image_from un s d r x = shown_four un (row_image s d r (record { 0 = x }))

@@ -11,18 +11,12 @@ ghost use Rattle.paint_image.specs.Image.{image_from, area_from, moved, Plain, S
 use line_fetch::Row;
 use pixel_rules::MainPos;
 
-// Brought between two places.
+// Brought between two places: the clamp, told point by point.
 pub fn within(x: usize, a: usize, b: usize) -> usize
     requires { a ≤ b }
     ensures { Within x a b result }
 {
-    if x < a {
-        return a;
-    }
-    if b < x {
-        return b;
-    }
-    x
+    x.clamp(a, b)
 }
 
 // The sample of a pixel.

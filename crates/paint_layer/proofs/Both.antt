@@ -39,11 +39,11 @@ module _ (mask : ℕ → ℕ) (low up : ℕ → List ℕ) (l e : List ℕ) (x y 
       (λ p old a b. let z : x + (p - x) ≡ p = omega arith in ap (λ (i : ℕ). cond (eqb (mask p) 0) (low i) (up p)) z)
 
   pub up_laid : (f : ℕ → List ℕ) (o : List ℕ) → Shows f low x y → Coated (over (moved x x up)) l x (x + (y - x)) o
-      → Coated (chosen_by mask (over f) kept) o x (x + (y - x)) e → Coated (chosen_by mask (over low) (over up)) l x y e
+      → Coated (chosen_by mask (over f) kept) o x y e → Coated (chosen_by mask (over low) (over up)) l x y e
   unfolding chosen_by over kept moved
   up_laid f o s c k =
       coated_after (over (moved x x up)) (chosen_by mask (over f) kept) (chosen_by mask (over low) (over up)) l o e x y (up_to l o x y h (over (moved x x up)) c)
-      (up_to o e x y h (chosen_by mask (over f) kept) k)
+      k
       (λ p old a b.
       let z : x + (p - x) ≡ p = omega arith in
       ap₂ (λ (i : List ℕ) (j : ℕ). cond (eqb (mask p) 0) i (up j)) (s.same p a b) z)

@@ -1,6 +1,6 @@
 -- The loops over pixels: one law for each way out, whatever is shown above and below.
 -- Assumes nothing.
-use Prim.Native.Nat.{ℕ, ◌+◌, ◌-◌, ◌*◌, ◌/◌, ◌%◌, ◌≤◌, ◌<◌}
+use Prim.Native.Nat.{ℕ, ◌+◌, ◌-◌, ◌*◌, ◌/◌, ◌%◌, ◌≤◌}
 use native.Mathlib.Omega.{arith}
 use mathlib.Core.Path.{◌≡◌, refl, sym, ap, ap₂, subst, ◌∙◌}
 use mathlib.Core.Bool.{Bool, true, false, cond}
@@ -14,38 +14,20 @@ use Rattle.paint_words.specs.Words.{octets_of, four_from, seen_from}
 use Rattle.paint_coat.specs.Coat.{Coated, over, kept, flat, four_in, samples_by, chosen_by}
 use Rattle.paint_coat.proofs.Coats.{coated_none, coated_chain, coated_put}
 use Rattle.paint_choice.specs.Choice.{bits_from}
-use Rattle.paint_layer.specs.Layer.{words_from, same_four, agreed, agrees}
+use Rattle.paint_layer.specs.Layer.{same_four, agreed, agrees}
 
--- ---- n pixels from a on
+-- ---- pixels from a on, each made of what stood there
 
-pub record Going (f : ℕ → List ℕ → List ℕ) (l : List ℕ) (a n : ℕ) (out : List ℕ) (x : ℕ) : Type 0 where
-  pub upto : x ≤ n
-  pub room : (a + n) * 4 ≤ length l
-  pub long : length out ≡ length l
-  pub done : Coated f l a (a + x) out
+module _ (f : ℕ → List ℕ → List ℕ) (l : List ℕ) (a : ℕ) where
+  pub coat_begun : Coated f l a (a + 0) l
+  coat_begun = coated_none f l a (a + 0) (omega arith)
 
-module _ (f : ℕ → List ℕ → List ℕ) (l : List ℕ) (a n : ℕ) where
-  pub go_begun : (a + n) * 4 ≤ length l → Going f l a n l 0
-  go_begun r = record { upto = omega arith; room = r; long = refl; done = coated_none f l a (a + 0) (omega arith) }
-
-  pub go_more : (out new : List ℕ) (x v : ℕ) → new ≡ put_at out ((a + x) * 4) (octets_of v) → octets_of v ≡ f (a + x) (four_from out ((a + x) * 4)) → x < n → Going f l a n out x
-      → Going f l a n new (x + 1)
-  go_more out new x v q e h c =
-      let r = c.room in
-      let k = c.long in
-      let p = coated_put f out new (a + x) v (omega arith) q e in
+  pub coat_more : (out new : List ℕ) (x w v : ℕ) → (a + x) * 4 + 4 ≤ length out → octets_of w ≡ four_from out ((a + x) * 4) → new ≡ put_at out ((a + x) * 4) (octets_of v)
+      → octets_of v ≡ f (a + x) (octets_of w) → Coated f l a (a + x) out → Coated f l a (a + (x + 1)) new
+  coat_more out new x w v h ew q e c =
+      let p = coated_put f out new (a + x) v h q (e ∙ ap (f (a + x)) ew) in
       let z : a + x + 1 ≡ a + (x + 1) = omega arith in
-      record {
-        upto = omega arith;
-        room = r;
-        long = p.long ∙ k;
-        done = subst (λ (i : ℕ). Coated f l a i new) z (coated_chain f l out new a (a + x) (a + x + 1) (omega arith) (omega arith) c.done p);
-      }
-
-  pub go_end : (out : List ℕ) (x : ℕ) → Going f l a n out x → n ≤ x → Coated f l a (a + n) out
-  go_end out x c h = let u = c.upto in let z : x ≡ n = omega arith in subst (λ (i : ℕ). Coated f l a (a + i) out) z c.done
-
-pub ruleset going = (rules, go_begun, go_end)
+      subst (λ (i : ℕ). Coated f l a i new) z (coated_chain f l out new a (a + x) (a + x + 1) (omega arith) (omega arith) c p)
 
 -- ---- what is put
 
@@ -120,6 +102,17 @@ pub three_put : (d : List ℕ) (a i x w : ℕ) → octets_of w ≡ seen_from d (
 unfolding samples_by four_in
 three_put d a i x w e = let z : i + x * 3 ≡ i + (a + x - a) / 1 * 3 = omega arith in e ∙ ap (seen_from d) z
 
-pub row_put : (row : List ℕ) (a x w : ℕ) → octets_of w ≡ four_from row (x * 4) → octets_of w ≡ words_from row a (a + x)
-unfolding words_from
-row_put row a x w e = let z : x * 4 ≡ (a + x - a) * 4 = omega arith in e ∙ ap (four_from row) z
+-- ---- what the rules put
+
+pub word_hidden : (m : List ℕ) (a x w u r : ℕ) → r ≡ cond (eqb (get_or m x 0) 0) u w → octets_of r ≡ chosen_by (bits_from m a 0) (over (flat (octets_of u))) kept (a + x) (octets_of w)
+word_hidden m a x w u r e =
+    chosen_put (over (flat (octets_of u))) kept m a x (octets_of w) u w r (over_put (flat (octets_of u)) (a + x) u (octets_of w) (flat_put (a + x) u)) (kept_put (a + x) w (octets_of w) refl) e
+
+pub up_picked : (up : ℕ → List ℕ) (m : List ℕ) (a x w v r : ℕ) → octets_of v ≡ up (a + x) → r ≡ cond (eqb (get_or m x 0) 0) w v
+    → octets_of r ≡ chosen_by (bits_from m a 0) kept (over up) (a + x) (octets_of w)
+up_picked up m a x w v r o e = chosen_put kept (over up) m a x (octets_of w) w v r (kept_put (a + x) w (octets_of w) refl) (over_put up (a + x) v (octets_of w) o) e
+
+pub up_agreed : (up : ℕ → List ℕ) (a x w u v r : ℕ) → octets_of v ≡ up (a + x) → r ≡ cond (eqb w v) v u → octets_of r ≡ agrees up (octets_of u) (a + x) (octets_of w)
+up_agreed up a x w u v r o e = agreed_put up (a + x) (octets_of w) w v u r refl o e
+
+pub ruleset putting = (rules, word_hidden, up_picked, up_agreed)

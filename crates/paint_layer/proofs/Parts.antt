@@ -17,13 +17,13 @@ use Rattle.sheet_rules.specs.Record.{colour_at}
 use Rattle.line_fetch.specs.declared.Row.{Row}
 use Rattle.line_fetch.specs.Rows.{ImageFits}
 use Rattle.line_fetch.proofs.Laws.{image_before, image_after, image_unread}
-use Rattle.paint_words.specs.Words.{octets_of, seen_from}
-use Rattle.paint_coat.specs.Coat.{Coated, over, kept, flat, four_in, samples_by, chosen_by}
-use Rattle.paint_coat.proofs.Coats.{coated_none, coated_chain, coated_as}
+use Rattle.paint_words.specs.Words.{octets_of, four_from, seen_from}
+use Rattle.paint_coat.specs.Coat.{Coated, over, flat, four_in, samples_by, chosen_by}
+use Rattle.paint_coat.proofs.Coats.{coated_as}
 use Rattle.paint_image.specs.Image.{image_from, area_from, shown_four, moved, Beside}
 use Rattle.paint_image.proofs.Laws.{area_is}
 use Rattle.paint_choice.specs.Choice.{bits_from, MaskPart, SpreadAt}
-use Rattle.paint_layer.specs.Layer.{words_from, mask_at, agreed, agrees, Span, Dark}
+use Rattle.paint_layer.specs.Layer.{words_from, mask_at, Span, Dark, Ruled}
 
 -- ---- the tests
 
@@ -106,18 +106,6 @@ module _ (l e : List ℕ) (x y : ℕ) (h : x ≤ y) where
   pub up_to : (f : ℕ → List ℕ → List ℕ) → Coated f l x (x + (y - x)) e → Coated f l x y e
   up_to f c = let z : x + (y - x) ≡ y = omega arith in subst (λ (i : ℕ). Coated f l x i e) z c
 
-  pub chosen_up : (mask : ℕ → ℕ) (low : ℕ → List ℕ → List ℕ) (f g : ℕ → List ℕ) → Shows f g x y → Coated (chosen_by mask low (over f)) l x (x + (y - x)) e
-      → Coated (chosen_by mask low (over g)) l x y e
-  unfolding chosen_by over
-  chosen_up mask low f g s c =
-      coated_as (chosen_by mask low (over f)) (chosen_by mask low (over g)) l e x y
-      (λ p o a b. ap (λ (i : List ℕ). cond (eqb (mask p) 0) (low p o) i) (s.same p a b)) (up_to (chosen_by mask low (over f)) c)
-
-  pub agreed_up : (un : List ℕ) (f g : ℕ → List ℕ) → Shows f g x y → Coated (agrees f un) l x (x + (y - x)) e → Coated (agrees g un) l x y e
-  unfolding agrees
-  agreed_up un f g s c =
-      coated_as (agrees f un) (agrees g un) l e x y (λ p o a b. ap (λ (i : List ℕ). agreed i un o) (s.same p a b)) (up_to (agrees f un) c)
-
 -- a layer that was laid into a row of its own
 row_shows : (f : ℕ → List ℕ) (x y : ℕ) (row₀ row : List ℕ) → Coated (over (moved 0 x f)) row₀ 0 (0 + (y - x)) row → Shows (words_from row x) f x y
 unfolding over moved words_from
@@ -134,9 +122,6 @@ part_octet m k i h =
 
 part_long : (m : List ℕ) (k : ℕ) → k ≤ length m → length (take (length m - k) (drop k m)) ≡ length m - k
 part_long m k h = let a = length-take (length m - k) (drop k m) in let b = length-drop k m in omega arith
-
-pub part_room : (m : List ℕ) (x y p e : ℕ) → x ≤ p → (p < e) × (e ≤ y) × (e ≤ p + 512) → y - x ≤ length m → e - p ≤ length (take (length m - (p - x)) (drop (p - x) m))
-part_room m x y p e h k n = let a = part_long m (p - x) (omega arith) in omega arith
 
 mask_as : (m n : ℕ → ℕ) (low up : ℕ → List ℕ → List ℕ) (l e : List ℕ) (x y : ℕ) → ((p : ℕ) → x ≤ p → p < y → m p ≡ n p) → Coated (chosen_by m low up) l x y e
     → Coated (chosen_by n low up) l x y e
@@ -190,46 +175,18 @@ pub ruleset masking = (rules, whole_room, spread_room)
 
 -- ---- part by part, a row of their own being lent for it
 
-pub record Settling (f : ℕ → List ℕ → List ℕ) (l : List ℕ) (x0 x1 : ℕ) (row₀ out row : List ℕ) (x : ℕ) : Type 0 where
-  pub from : x0 ≤ x
-  pub upto : x ≤ x1
-  pub long : length out ≡ length l
-  pub work : length row ≡ length row₀
-  pub done : Coated f l x0 x out
+-- ---- an image layer by a rule, whatever the rule promises of a pixel
 
-module _ (f : ℕ → List ℕ → List ℕ) (l : List ℕ) (x0 x1 : ℕ) (row₀ : List ℕ) where
-  pub settle_begun : x0 ≤ x1 → Settling f l x0 x1 row₀ l row₀ x0
-  settle_begun h = record { from = omega arith; upto = h; long = refl; work = refl; done = coated_none f l x0 x0 (omega arith) }
+module _ (f : ℕ → List ℕ → List ℕ) (up : ℕ → List ℕ) (post : ℕ → ℕ → ℕ → ℕ → Type 0) (x y : ℕ)
+    (h : Ruled f up post x y) where
+  pub shown_ruled : (g : ℕ → List ℕ) → Shows g up x y → Ruled f g post x y
+  shown_ruled g s i w v k b o q = h i w v k b (o ∙ s.same (x + i) (omega arith) (omega arith)) q
 
-  pub settle_more : (out row new row' : List ℕ) (x e : ℕ) → Settling f l x0 x1 row₀ out row x → x ≤ e → e ≤ x1 → Coated f out x e new → length row' ≡ length row
-      → Settling f l x0 x1 row₀ new row' e
-  settle_more out row new row' x e c h k g w =
-      let a = c.from in
-      record { from = omega arith; upto = k; long = g.long ∙ c.long; work = w ∙ c.work; done = coated_chain f l out new x0 x e a h c.done g }
-
-  pub settle_end : (out row : List ℕ) (x : ℕ) → Settling f l x0 x1 row₀ out row x → x1 ≤ x → Coated f l x0 x1 out
-  settle_end out row x c h = let u = c.upto in let z : x ≡ x1 = omega arith in subst (λ (i : ℕ). Coated f l x0 i out) z c.done
-
-module _ (m : List ℕ) (f : ℕ → List ℕ) (l : List ℕ) (x y : ℕ) (row₀ out row : List ℕ) (p : ℕ) where
-  pub picked_part : (e : ℕ) (row' row'' new : List ℕ) → Settling (chosen_by (bits_from m x 0) kept (over f)) l x y row₀ out row p → (p < e) × (e ≤ y) × (e ≤ p + 512)
-      → y - x ≤ length m → Coated (over (moved 0 p f)) row 0 (0 + (e - p)) row'
-      → Coated (chosen_by (bits_from (take (length m - (p - x)) (drop (p - x) m)) p 0) kept (over (words_from row' p))) out p (p + (e - p)) new → length row'' ≡ length row
-      → Settling (chosen_by (bits_from m x 0) kept (over f)) l x y row₀ new row'' e
-  unfolding bits_from
-  picked_part e row' row'' new c h n r k w =
-      let i = c.from in
-      settle_more (chosen_by (bits_from m x 0) kept (over f)) l x y row₀ out row new row'' p e c (omega arith) h.1
-      (mask_as (bits_from (take (length m - (p - x)) (drop (p - x) m)) p 0) (bits_from m x 0) kept (over f) out new p e
-      (λ q a b.
-      let z : p - x + (0 + (q - p)) ≡ 0 + (q - x) = omega arith in
-      part_octet m (p - x) (0 + (q - p)) (omega arith) ∙ ap (λ (j : ℕ). get_or m j 0) z)
-      (chosen_up out new p e (omega arith) (bits_from (take (length m - (p - x)) (drop (p - x) m)) p 0) kept (words_from row' p) f (row_shows f p e row row' r) k)) w
-
-module _ (f : ℕ → List ℕ) (l : List ℕ) (x y : ℕ) (row₀ out row : List ℕ) (p : ℕ) where
-  pub agreed_part : (un : List ℕ) (e : ℕ) (row' row'' new : List ℕ) → Settling (agrees f un) l x y row₀ out row p → (p < e) × (e ≤ y) × (e ≤ p + 512)
-      → Coated (over (moved 0 p f)) row 0 (0 + (e - p)) row' → Coated (agrees (words_from row' p) un) out p (p + (e - p)) new → length row'' ≡ length row
-      → Settling (agrees f un) l x y row₀ new row'' e
-  agreed_part un e row' row'' new c h r k w =
-      settle_more (agrees f un) l x y row₀ out row new row'' p e c (omega arith) h.1 (agreed_up out new p e (omega arith) un (words_from row' p) f (row_shows f p e row row' r) k) w
-
-pub ruleset parting = (rules, settle_begun, settle_end, part_room)
+  pub laid_ruled : (p e : ℕ) (row₀ row : List ℕ) → x ≤ p → e ≤ y → Coated (over (moved 0 p up)) row₀ 0 (0 + (e - p)) row → (i w v k : ℕ) → i < e - p
+      → octets_of v ≡ four_from row (i * 4) → post (p - x + i) w v k → octets_of k ≡ f (p + i) (octets_of w)
+  unfolding words_from
+  laid_ruled p e row₀ row a b c i w v k j o q =
+      let z : x + (p - x + i) ≡ p + i = omega arith in
+      let n : i * 4 ≡ (p + i - p) * 4 = omega arith in
+      let s : four_from row ((p + i - p) * 4) ≡ up (p + i) = (row_shows up p e row₀ row c).same (p + i) (omega arith) (omega arith) in
+      h (p - x + i) w v k (omega arith) (o ∙ ap (four_from row) n ∙ s ∙ ap up (sym z)) q ∙ ap (λ (m : ℕ). f m (octets_of w)) z

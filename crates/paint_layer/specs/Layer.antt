@@ -5,11 +5,12 @@
 --   same_four v w         two pixels have the same four octets
 --   agreed up un old     what the two pixels `old` and `up` agree on, or the unseen one
 --   agrees up un         what stood there, where `up` has the same four octets, and else the unseen pixel
+--   Ruled f up post x y   of the pixels x up to y, what a rule makes of one that stands there and of that which `up` shows there is what f makes of it
 --   Span d r x y         the layer has a sample of three octets at each of the pixels x up to y, and another octet behind the last
 --   Dark r x y           it was not read, and has them in its area
-use Rattle.std.specs.Prelude.{ℕ, ◌+◌, ◌-◌, ◌*◌, ◌/◌, ◌≤◌, ◌≡◌, Bool, ◌&&◌, cond, List, length, get_or, eqb}
+use Rattle.std.specs.Prelude.{ℕ, ◌+◌, ◌-◌, ◌*◌, ◌/◌, ◌<◌, ◌≤◌, ◌≡◌, Bool, ◌&&◌, cond, List, length, get_or, eqb}
 use Rattle.line_fetch.specs.declared.Row.{Row}
-use Rattle.paint_words.specs.Words.{four_from}
+use Rattle.paint_words.specs.Words.{four_from, octets_of}
 
 unfoldable pub words_from : List ℕ → ℕ → ℕ → List ℕ
 words_from row a x = four_from row ((x - a) * 4)
@@ -26,6 +27,9 @@ agreed up un old = cond (same_four old up) up un
 
 unfoldable pub agrees : (ℕ → List ℕ) → List ℕ → ℕ → List ℕ → List ℕ
 agrees up un x old = agreed (up x) un old
+
+abbrev pub Ruled : (ℕ → List ℕ → List ℕ) → (ℕ → List ℕ) → (ℕ → ℕ → ℕ → ℕ → Type 0) → ℕ → ℕ → Type 0
+Ruled f up post x y = (i w v k : ℕ) → i < y - x → octets_of v ≡ up (x + i) → post i w v k → octets_of k ≡ f (x + i) (octets_of w)
 
 pub record Span (d : List ℕ) (r : Row) (x y : ℕ) : Type 0 where
   pub three : r.read ≡ 3

@@ -2,110 +2,26 @@
 // not read. Loops without a branch, four pixels at a time.
 #![tactic(auto)]
 
-ghost use Rattle.std.specs.Prelude.{◌≡◌, true, ◌+◌, ◌-◌, ◌*◌, ◌<◌, ◌≤◌, length};
+ghost use Rattle.std.specs.Prelude.{◌≡◌, ℕ, true, ◌+◌, ◌-◌, ◌*◌, ◌<◌, ◌≤◌, List, length};
 ghost use Rattle.line_fetch.specs.Rows.{ImageFits};
 ghost use Rattle.paint_words.specs.Words.{octets_of};
-ghost use Rattle.paint_coat.specs.Coat.{Coated, over, flat, samples_by, chosen_by, kept};
+ghost use Rattle.paint_coat.specs.Coat.{Coated, over, flat, chosen_by, kept};
 ghost use Rattle.paint_image.specs.Image.{image_from, Plain, Beside};
 ghost use Rattle.paint_choice.specs.Choice.{bits_from, MaskPart};
-ghost use Rattle.paint_layer.specs.Layer.{words_from, mask_at, agrees, Span, Dark};
+ghost use Rattle.paint_layer.specs.Layer.{mask_at, agrees, Ruled, Span, Dark};
 
 use line_fetch::Row;
 
-// ---- loops: n pixels from a on, the mask's octets those of m from the first on
-
-// One colour above.
-fn pick_word(out: &mut [u8], a: usize, m: &[u8], w: u32, n: usize)
-    requires { ((a + n) * 4 ≤ length out.old) × (n ≤ length m.now) }
-    ensures { Coated (chosen_by (bits_from m.now a 0) kept (over (flat (octets_of w)))) out.old a (a + n) out.new }
+// n pixels from a on, each made of what stands there, by a rule that is told which of them it is.
+fn coat_by<F: Fn(usize, u32) -> u32>(out: &mut [u8], a: usize, n: usize, rule: F)
+    requires room { (a + n) * 4 ≤ length out.old }
+    requires may { (x w : ℕ) → x < n → F.pre rule x w }
+    ensures { (f : ℕ → List ℕ → List ℕ) → ((x w k : ℕ) → x < n → F.post rule x w k → octets_of k ≡ f (a + x) (octets_of w)) → Coated f out.old a (a + n) out.new }
 {
-    let mut x = 0;
-    while x < n {
-        let low = paint_words::word(out, (a + x) * 4);
-        paint_words::put_word(out, (a + x) * 4, paint_words::either(m[x], low, w));
-        x += 1;
-    }
-}
-
-// One colour below what is there.
-fn hide_word(out: &mut [u8], a: usize, m: &[u8], w: u32, n: usize)
-    requires { ((a + n) * 4 ≤ length out.old) × (n ≤ length m.now) }
-    ensures { Coated (chosen_by (bits_from m.now a 0) (over (flat (octets_of w))) kept) out.old a (a + n) out.new }
-{
-    let mut x = 0;
-    while x < n {
-        let up = paint_words::word(out, (a + x) * 4);
-        paint_words::put_word(out, (a + x) * 4, paint_words::either(m[x], w, up));
-        x += 1;
-    }
-}
-
-// Samples of three octets above, a pixel each.
-fn pick_three(out: &mut [u8], a: usize, m: &[u8], d: &[u8], i: usize, n: usize)
-    requires { ((a + n) * 4 ≤ length out.old) × (n ≤ length m.now) × (i + n * 3 + 1 ≤ length d.now) }
-    ensures { Coated (chosen_by (bits_from m.now a 0) kept (over (samples_by 3 1 d.now a i))) out.old a (a + n) out.new }
-{
-    let mut x = 0;
-    while x < n {
-        let low = paint_words::word(out, (a + x) * 4);
-        let up = paint_words::seen_wide(d, i + x * 3);
-        paint_words::put_word(out, (a + x) * 4, paint_words::either(m[x], low, up));
-        x += 1;
-    }
-}
-
-// Pixels of a row above.
-fn pick_row(out: &mut [u8], a: usize, m: &[u8], row: &[u8], n: usize)
-    requires { ((a + n) * 4 ≤ length out.old) × (n ≤ length m.now) × (n * 4 ≤ length row.now) }
-    ensures { Coated (chosen_by (bits_from m.now a 0) kept (over (words_from row.now a))) out.old a (a + n) out.new }
-{
-    let mut x = 0;
-    while x < n {
-        let low = paint_words::word(out, (a + x) * 4);
-        let up = paint_words::word(row, x * 4);
-        paint_words::put_word(out, (a + x) * 4, paint_words::either(m[x], low, up));
-        x += 1;
-    }
-}
-
-// What is there has to agree with samples of three octets, a pixel each.
-fn agree_three(out: &mut [u8], a: usize, d: &[u8], i: usize, n: usize, u: u32)
-    requires { ((a + n) * 4 ≤ length out.old) × (i + n * 3 + 1 ≤ length d.now) }
-    ensures { Coated (agrees (samples_by 3 1 d.now a i) (octets_of u)) out.old a (a + n) out.new }
-{
-    let mut x = 0;
-    while x < n {
-        let low = paint_words::word(out, (a + x) * 4);
-        let up = paint_words::seen_wide(d, i + x * 3);
-        paint_words::put_word(out, (a + x) * 4, paint_words::same(low, up, u));
-        x += 1;
-    }
-}
-
-// Or with one colour.
-fn agree_word(out: &mut [u8], a: usize, w: u32, n: usize, u: u32)
-    requires { (a + n) * 4 ≤ length out.old }
-    ensures { Coated (agrees (flat (octets_of w)) (octets_of u)) out.old a (a + n) out.new }
-{
-    let mut x = 0;
-    while x < n {
-        let low = paint_words::word(out, (a + x) * 4);
-        paint_words::put_word(out, (a + x) * 4, paint_words::same(low, w, u));
-        x += 1;
-    }
-}
-
-// Or with pixels of a row.
-fn agree_row(out: &mut [u8], a: usize, row: &[u8], n: usize, u: u32)
-    requires { ((a + n) * 4 ≤ length out.old) × (n * 4 ≤ length row.now) }
-    ensures { Coated (agrees (words_from row.now a) (octets_of u)) out.old a (a + n) out.new }
-{
-    let mut x = 0;
-    while x < n {
-        let low = paint_words::word(out, (a + x) * 4);
-        let up = paint_words::word(row, x * 4);
-        paint_words::put_word(out, (a + x) * 4, paint_words::same(low, up, u));
-        x += 1;
+    for x in 0..n {
+        let at = (a + x) * 4;
+        let w = paint_words::word(out, at);
+        paint_words::put_word(out, at, rule(x, w));
     }
 }
 
@@ -151,39 +67,94 @@ fn spans_base(r: Row, x: usize, y: usize) -> bool
     (y <= r.from.0) | (r.to.0 <= x)
 }
 
-// A step of n, or of what is left.
-fn ahead(x: usize, n: usize, to: usize) -> usize
-    requires { (x < to) × (0 < n) }
-    ensures { (x < result) × (result ≤ to) × (result ≤ x + n) }
-{
-    if to - x <= n { to } else { x + n }
-}
+// So many pixels are laid into a row of their own at a time.
+const STEP: usize = 512;
 
-// 512 pixels at a time, laid into a row of their own first.
-fn pick_laid(
+// The image layer's pixels by a rule, laid into a row of their own first.
+fn coat_laid<F: Fn(usize, u32, u32) -> u32>(
     out: &mut [u8],
     row: &mut [u8],
-    m: &[u8],
     s: &[u8],
     d: &[u8],
     r: Row,
     x: usize,
     y: usize,
     u: u32,
+    rule: &F,
 )
-    requires { ImageFits s.now d.now r × Plain r × (x ≤ y) × (y < 65536) × (y * 4 ≤ length out.old) × (y - x ≤ length m.now) × (2048 ≤ length row.old) }
-    ensures { Coated (chosen_by (bits_from m.now x 0) kept (over (image_from (octets_of u) s.now d.now r))) out.old x y out.new }
+    requires fits { ImageFits s.now d.now r × Plain r × (x ≤ y) × (y < 65536) × (y * 4 ≤ length out.old) × (2048 ≤ length row.old) }
+    requires may { (i w v : ℕ) → i < y - x → F.pre rule.now i w v }
+    ensures { (f : ℕ → List ℕ → List ℕ) → Ruled f (image_from (octets_of u) s.now d.now r) (F.post rule.now) x y → Coated f out.old x y out.new }
 {
     let mut p = x;
     while p < y {
-        let e = ahead(p, 512, y);
-        let at = p - x;
+        let e = p + (y - p).min(STEP);
         paint_image::lay_image(row, 0, s, d, r, p, e, u);
-        pick_row(out, p, &m[at..], row, e - p);
+        let at = p - x;
+        coat_by(
+            out,
+            p,
+            e - p,
+            |i, low| rule(at + i, low, paint_words::word(row, i * 4)),
+        );
         p = e;
     }
 }
 
+// Fetched at once where they are of one kind all along. The closures that hand one colour on say what they ask: what is inferred of them is that the rule
+// serves any pixel.
+fn coat_image<F: Fn(usize, u32, u32) -> u32>(
+    out: &mut [u8],
+    row: &mut [u8],
+    s: &[u8],
+    d: &[u8],
+    r: Row,
+    x: usize,
+    y: usize,
+    u: u32,
+    rule: &F,
+)
+    requires fits { ImageFits s.now d.now r × Plain r × (x < y) × (y < 65536) × (y * 4 ≤ length out.old) × (2048 ≤ length row.old) }
+    requires may { (i w v : ℕ) → i < y - x → F.pre rule.now i w v }
+    ensures { (f : ℕ → List ℕ → List ℕ) → Ruled f (image_from (octets_of u) s.now d.now r) (F.post rule.now) x y → Coated f out.old x y out.new }
+{
+    if spans_dark(r, x, y) {
+        coat_by(
+            out,
+            x,
+            y - x,
+            |i: usize, low: u32| -> u32
+                requires { F.pre rule.now i low u }
+            { rule(i, low, u) },
+        );
+        return;
+    }
+    if spans_base(r, x, y) {
+        let w = paint_words::seen(s, r.other);
+        coat_by(
+            out,
+            x,
+            y - x,
+            |i: usize, low: u32| -> u32
+                requires { F.pre rule.now i low w }
+            { rule(i, low, w) },
+        );
+        return;
+    }
+    if spans_three(s, d, r, x, y) {
+        let at = r.at + (x - r.from.0) * 3;
+        coat_by(
+            out,
+            x,
+            y - x,
+            |i, low| rule(i, low, paint_words::seen_wide(d, at + i * 3)),
+        );
+        return;
+    }
+    coat_laid(out, row, s, d, r, x, y, u, rule);
+}
+
+// Above, where the mask's octets are those of m from the first on.
 fn pick_image(
     out: &mut [u8],
     row: &mut [u8],
@@ -198,44 +169,20 @@ fn pick_image(
     requires { ImageFits s.now d.now r × Plain r × (x < y) × (y < 65536) × (y * 4 ≤ length out.old) × (y - x ≤ length m.now) × (2048 ≤ length row.old) }
     ensures { Coated (chosen_by (bits_from m.now x 0) kept (over (image_from (octets_of u) s.now d.now r))) out.old x y out.new }
 {
-    if spans_dark(r, x, y) {
-        pick_word(out, x, m, u, y - x);
-        return;
-    }
-    if spans_base(r, x, y) {
-        pick_word(out, x, m, paint_words::seen(s, r.other), y - x);
-        return;
-    }
-    if spans_three(s, d, r, x, y) {
-        pick_three(out, x, m, d, r.at + (x - r.from.0) * 3, y - x);
-        return;
-    }
-    pick_laid(out, row, m, s, d, r, x, y, u);
+    coat_image(
+        out,
+        row,
+        s,
+        d,
+        r,
+        x,
+        y,
+        u,
+        &|i, low, up| paint_words::either(m[i], low, up),
+    );
 }
 
-fn agree_laid(
-    out: &mut [u8],
-    row: &mut [u8],
-    s: &[u8],
-    d: &[u8],
-    r: Row,
-    x: usize,
-    y: usize,
-    u: u32,
-)
-    requires { ImageFits s.now d.now r × Plain r × (x ≤ y) × (y < 65536) × (y * 4 ≤ length out.old) × (2048 ≤ length row.old) }
-    ensures { Coated (agrees (image_from (octets_of u) s.now d.now r) (octets_of u)) out.old x y out.new }
-{
-    let mut p = x;
-    while p < y {
-        let e = ahead(p, 512, y);
-        paint_image::lay_image(row, 0, s, d, r, p, e, u);
-        agree_row(out, p, row, e - p, u);
-        p = e;
-    }
-}
-
-// The mask was not read.
+// The mask was not read: both have to agree.
 pub fn agree_under(
     out: &mut [u8],
     row: &mut [u8],
@@ -249,15 +196,17 @@ pub fn agree_under(
     requires { ImageFits s.now d.now r × Plain r × (x < y) × (y < 65536) × (y * 4 ≤ length out.old) × (2048 ≤ length row.old) }
     ensures { Coated (agrees (image_from (octets_of u) s.now d.now r) (octets_of u)) out.old x y out.new }
 {
-    if spans_base(r, x, y) {
-        agree_word(out, x, paint_words::seen(s, r.other), y - x, u);
-        return;
-    }
-    if spans_three(s, d, r, x, y) {
-        agree_three(out, x, d, r.at + (x - r.from.0) * 3, y - x, u);
-        return;
-    }
-    agree_laid(out, row, s, d, r, x, y, u);
+    coat_image(
+        out,
+        row,
+        s,
+        d,
+        r,
+        x,
+        y,
+        u,
+        &|_, low, up| paint_words::same(low, up, u),
+    );
 }
 
 // The mask was read, and has all of the pixels.
@@ -283,6 +232,14 @@ pub fn pick_under(
     }
     let at = paint_choice::spread(bits, d, m, x, y);
     pick_image(out, row, &bits[at..], s, d, r, x, y, u);
+}
+
+// One colour below what stands there.
+fn hide_word(out: &mut [u8], m: &[u8], w: u32, x: usize, y: usize)
+    requires { (x ≤ y) × (y * 4 ≤ length out.old) × (y - x ≤ length m.now) }
+    ensures { Coated (chosen_by (bits_from m.now x 0) (over (flat (octets_of w))) kept) out.old x y out.new }
+{
+    coat_by(out, x, y - x, |i, up| paint_words::either(m[i], w, up));
 }
 
 // Both layers, the lower one not yet painted, under octets of a mask.
@@ -319,7 +276,7 @@ fn two_masked(
             return;
         }
         paint_image::lay_image(out, x, s, d, up, x, y, u);
-        hide_word(out, x, m, u, n);
+        hide_word(out, m, u, x, y);
         return;
     }
     paint_image::lay_image(out, x, s, d, low, x, y, u);

@@ -7,17 +7,16 @@ use mathlib.Core.List.{List}
 use lib.Dec.{eqb}
 use Rattle.laws.proofs.Says.{says_eq, says_and}
 use Rattle.sheet_rules.specs.declared.Colour.{Colour}
-use Rattle.pixel_rules.specs.declared.Sample.{Sample}
-use Rattle.pixel_rules.specs.declared.Sample.TheVariants.{Known, Unknown}
+use Rattle.std.specs.Prelude.{Option, Some, None}
 use Rattle.pixel_rules.specs.Decide.{same_colour, agree}
 use Rattle.picture_rules.specs.Line.{four_of}
 use Rattle.paint_image.specs.Image.{shown_four}
 use Rattle.paint_layer.specs.Layer.{same_four, agreed}
 
-pub shown_is : (u : Colour) (un : List ℕ) (p : Sample) → un ≡ four_of u Unknown → shown_four un p ≡ four_of u p
+pub shown_is : (u : Colour) (un : List ℕ) (p : Option Colour) → un ≡ four_of u None → shown_four un p ≡ four_of u p
 unfolding shown_four four_of
-shown_is u un (Known c) e = refl
-shown_is u un Unknown e = e
+shown_is u un (Some c) e = refl
+shown_is u un None e = e
 
 and-false : (b : Bool) → (b && false) ≡ false
 and-false true = refl
@@ -34,18 +33,18 @@ same_both c e z =
     λ i. record { c0 = h.0.0 i; c1 = h.0.1 i; c2 = h.1 i }
 
 -- what two pixels agree on is what their samples do
-pub agreed_four : (u : Colour) (p q : Sample) → agreed (four_of u q) (four_of u Unknown) (four_of u p) ≡ four_of u (agree p q)
+pub agreed_four : (u : Colour) (p q : Option Colour) → agreed (four_of u q) (four_of u None) (four_of u p) ≡ four_of u (agree p q)
 unfolding agreed same_four four_of agree same_colour
-agreed_four u (Known c) (Known e) =
-    ap (λ (b : Bool). cond b (four_of u (Known e)) (four_of u Unknown)) (and-true (same_colour c e)) ∙ by (same_colour c e) refl
+agreed_four u (Some c) (Some e) =
+    ap (λ (b : Bool). cond b (four_of u (Some e)) (four_of u None)) (and-true (same_colour c e)) ∙ by (same_colour c e) refl
   where
-    by : (b : Bool) → same_colour c e ≡ b → cond b (four_of u (Known e)) (four_of u Unknown) ≡ four_of u (cond b (Known c) Unknown)
-    by true z = ap (λ (o : Colour). four_of u (Known o)) (sym (same_both c e z))
+    by : (b : Bool) → same_colour c e ≡ b → cond b (four_of u (Some e)) (four_of u None) ≡ four_of u (cond b (Some c) None)
+    by true z = ap (λ (o : Colour). four_of u (Some o)) (sym (same_both c e z))
     by false z = refl
-agreed_four u (Known c) Unknown = rw (and-false (eqb c.c0 u.c0 && eqb c.c1 u.c1 && eqb c.c2 u.c2)) refl
-agreed_four u Unknown (Known e) = rw (and-false (eqb u.c0 e.c0 && eqb u.c1 e.c1 && eqb u.c2 e.c2)) refl
-agreed_four u Unknown Unknown = by (same_four (four_of u Unknown) (four_of u Unknown))
+agreed_four u (Some c) None = rw (and-false (eqb c.c0 u.c0 && eqb c.c1 u.c1 && eqb c.c2 u.c2)) refl
+agreed_four u None (Some e) = rw (and-false (eqb u.c0 e.c0 && eqb u.c1 e.c1 && eqb u.c2 e.c2)) refl
+agreed_four u None None = by (same_four (four_of u None) (four_of u None))
   where
-    by : (b : Bool) → cond b (four_of u Unknown) (four_of u Unknown) ≡ four_of u Unknown
+    by : (b : Bool) → cond b (four_of u None) (four_of u None) ≡ four_of u None
     by true = refl
     by false = refl

@@ -12,8 +12,7 @@ use borrow.Author.Tests.{eq-eqb, ne_eqb}
 use borrow.Author.Rules.{rules}
 use Rattle.laws.proofs.Says.{says_eq, says_else}
 use Rattle.sheet_rules.specs.declared.Colour.{Colour}
-use Rattle.pixel_rules.specs.declared.Sample.{Sample}
-use Rattle.pixel_rules.specs.declared.Sample.TheVariants.{Unknown}
+use Rattle.std.specs.Prelude.{Option, None}
 use Rattle.pixel_rules.specs.declared.Mask.{Mask}
 use Rattle.pixel_rules.specs.declared.Mask.TheVariants.{Zero, One, Hidden}
 use Rattle.pixel_rules.specs.Place.{scale}
@@ -137,12 +136,12 @@ pub ruleset siding = (rules, step_none, step_kept, step_laid, step_agreed, step_
 
 -- ---- what is decided: one pair more
 
-module _ (u : Colour) (un s d ns : List ℕ) (eu : un ≡ four_of u Unknown) where
+module _ (u : Colour) (un s d ns : List ℕ) (eu : un ≡ four_of u None) where
   image_four : (x : ℕ) (r : Row) (j : ℕ) → r ≡ row_at ns (j * 2 + 1) → image_from un s d r x ≡ four_of u ((row_stack s d ns (record { 0 = x })).image j)
   unfolding image_from
   image_four x r j er = shown_is u un (row_image s d r (record { 0 = x })) eu ∙ ap (λ (w : Row). four_of u (row_image s d w (record { 0 = x }))) er
 
-  step_four_lem : (o : Mask) (p q : Sample) → step_four un o (four_of u q) (four_of u p) ≡ four_of u (pair_step o p q)
+  step_four_lem : (o : Mask) (p q : Option Colour) → step_four un o (four_of u q) (four_of u p) ≡ four_of u (pair_step o p q)
   unfolding step_four pair_step
   step_four_lem Zero p q = refl
   step_four_lem One p q = refl
@@ -182,7 +181,7 @@ module _ (u : Colour) (un s d ns : List ℕ) (eu : un ≡ four_of u Unknown) whe
       }
 
   -- with the pair above it
-  two_four : (n : ℕ) (p q : Sample) → cond (eqb n 0) (four_of u p) (four_of u q) ≡ four_of u (pair_step (bit_of n) p q)
+  two_four : (n : ℕ) (p q : Option Colour) → cond (eqb n 0) (four_of u p) (four_of u q) ≡ four_of u (pair_step (bit_of n) p q)
   unfolding bit_of pair_step
   two_four n p q = by (eqb n 0)
     where
@@ -279,7 +278,7 @@ pub record Layering (w : ℕ) (s d ns : List ℕ) (pairs a b : ℕ) (l row₀ bi
   pub long : length out ≡ length l
   pub wide : length row ≡ length row₀
   pub broad : length bits ≡ length bits₀
-  pub more : (u : Colour) (e : List ℕ) → octets_of w ≡ four_of u Unknown → Coated (decided u s d ns k) e a b l → Coated (decided u s d ns j) e a b out
+  pub more : (u : Colour) (e : List ℕ) → octets_of w ≡ four_of u None → Coated (decided u s d ns k) e a b l → Coated (decided u s d ns j) e a b out
 
 module _ (w : ℕ) (s d ns : List ℕ) (pairs a b : ℕ) (l row₀ bits₀ : List ℕ) (k : ℕ) where
   pub layering_begun : k ≤ pairs → Layering w s d ns pairs a b l row₀ bits₀ k l row₀ bits₀ k
@@ -296,7 +295,7 @@ module _ (w : ℕ) (s d ns : List ℕ) (pairs a b : ℕ) (l row₀ bits₀ : Lis
         more = λ u e x o. decided_more u (octets_of w) s d ns x e out new a b j (c.more u e x o) g;
       }
 
-  pub layering_end : (out row bits : List ℕ) (j : ℕ) (u : Colour) (e : List ℕ) → Layering w s d ns pairs a b l row₀ bits₀ k out row bits j → pairs ≤ j → octets_of w ≡ four_of u Unknown
+  pub layering_end : (out row bits : List ℕ) (j : ℕ) (u : Colour) (e : List ℕ) → Layering w s d ns pairs a b l row₀ bits₀ k out row bits j → pairs ≤ j → octets_of w ≡ four_of u None
       → Lowest u s d ns pairs a b e k l → Coated (decided u s d ns pairs) e a b out
   layering_end out row bits j u e c h x g =
       let p = c.upto in

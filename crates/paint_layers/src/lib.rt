@@ -1,8 +1,7 @@
 // A part of a row painted layer by layer, from the lowest that shows up: each pair over what is there.
 #![tactic(auto)]
 
-ghost use Rattle.std.specs.Prelude.{◌≡◌, ◌+◌, ◌-◌, ◌*◌, ◌<◌, ◌≤◌, length};
-ghost use Rattle.pixel_rules.specs.declared.Sample.TheVariants.{Unknown};
+ghost use Rattle.std.specs.Prelude.{◌≡◌, ◌+◌, ◌-◌, ◌*◌, ◌<◌, ◌≤◌, length, None};
 ghost use Rattle.picture_rules.specs.Line.{four_of};
 ghost use Rattle.line_fetch.specs.Rows.{row_at, MaskFits, ImageFits};
 ghost use Rattle.line_pixel.specs.Rows.{RowsFit};
@@ -95,7 +94,7 @@ fn lay_lowest(
     u: u32,
 ) -> usize
     requires { RowsFit s.now d.now rows.now pairs × PlainRows rows.now pairs × Starts s.now d.now rows.now pairs a b f × (f < pairs) × (pairs ≤ 7) × (a < b) × (b < 65536) × (b * 4 ≤ length out.old) × (b - a + 24 ≤ length bits.old)
-        × (2048 ≤ length row.old) × (octets_of u ≡ four_of unseen Unknown) }
+        × (2048 ≤ length row.old) × (octets_of u ≡ four_of unseen None) }
     ensures { Lowest unseen s.now d.now rows.now pairs a b out.old result out.new }
 {
     let low = line_fetch::row_at(rows, f * 2 + 1);
@@ -127,12 +126,11 @@ pub fn lay_layers(
     u: u32,
 )
     requires { RowsFit s.now d.now rows.now pairs × PlainRows rows.now pairs × Starts s.now d.now rows.now pairs a b f × (f < pairs) × (pairs ≤ 7) × (a < b) × (b < 65536) × (b * 4 ≤ length out.old) × (b - a + 24 ≤ length bits.old)
-        × (2048 ≤ length row.old) × (octets_of u ≡ four_of unseen Unknown) }
+        × (2048 ≤ length row.old) × (octets_of u ≡ four_of unseen None) }
     ensures { Coated (decided unseen s.now d.now rows.now pairs) out.old a b out.new }
 {
-    let mut j = lay_lowest(out, row, bits, s, d, rows, pairs, f, a, b, unseen, u);
-    while j < pairs {
+    let lowest = lay_lowest(out, row, bits, s, d, rows, pairs, f, a, b, unseen, u);
+    for j in lowest..pairs {
         layer_pair(out, row, bits, s, d, rows, pairs, j, a, b, u);
-        j += 1;
     }
 }

@@ -12,13 +12,12 @@ use lib.Dec.{eqb, ltb}
 use borrow.Author.Tests.{ne_eqb}
 use borrow.Author.Rules.{rules}
 use Rattle.laws.proofs.Cases.{clash}
-use Rattle.laws.proofs.Says.{says_eq, says_lt, says_le, says_and, says_else}
+use Rattle.laws.proofs.Says.{says_eq, says_lt, says_and, says_else}
 use Rattle.octets.specs.Octets.{put_at}
 use Rattle.octets.proofs.Laws.{put_length, put_get_d, put_get_d_after}
 use Rattle.sheet_rules.specs.declared.Colour.{Colour}
 use Rattle.pixel_rules.specs.declared.MainPos.{MainPos}
-use Rattle.pixel_rules.specs.declared.Sample.{Sample}
-use Rattle.pixel_rules.specs.declared.Sample.TheVariants.{Unknown}
+use Rattle.std.specs.Prelude.{Option, None}
 use Rattle.pixel_rules.specs.declared.Mask.TheVariants.{Zero, One, Hidden}
 use Rattle.pixel_rules.specs.Place.{scale}
 use Rattle.pixel_rules.specs.Samples.{bit_of}
@@ -69,13 +68,13 @@ mask_known d m x k e =
     (says_else (says_lt x m.to.0)))
     (says_else (says_lt x m.from.0))
 
+-- the pairs above f and below j are told
 pub record Telling (ns : List ℕ) (f pairs j : ℕ) : Type 0 where
-  pub from : f ≤ j
-  pub upto : j ≤ pairs
-  pub told : MasksTold ns f j
+  pub from : f < j
+  pub told : (i : ℕ) → f < i → i < j → ((row_at ns (i * 2)).read ≢ 0) ⊎ ((row_at ns (i * 2)).to.0 ≤ (row_at ns (i * 2)).from.0)
 
-pub telling_begun : (ns : List ℕ) (f pairs : ℕ) → f ≤ pairs → Telling ns f pairs f
-telling_begun ns f pairs h = record { from = omega arith; upto = h; told = record { told = λ i p q. absurd (omega arith) } }
+pub telling_begun : (ns : List ℕ) (f pairs : ℕ) → Telling ns f pairs (f + 1)
+telling_begun ns f pairs = record { from = omega arith; told = λ i p q. absurd (omega arith) }
 
 mask_told : (read from to : ℕ) → (eqb read 0 && ltb from to) ≡ false → (read ≢ 0) ⊎ (to ≤ from)
 mask_told read from to e =
@@ -88,34 +87,36 @@ mask_told read from to e =
     (λ (z : read ≡ 0 → ⊥). inl z)
     (says_else (says_eq read 0))
 
-pub telling_more : (ns : List ℕ) (f pairs j : ℕ) (m : Row) → Telling ns f pairs j → j < pairs → m ≡ row_at ns ((j + 1) * 2) → (eqb m.read 0 && ltb m.from.0 m.to.0) ≡ false → Telling ns f pairs (j + 1)
-telling_more ns f pairs j m c h em e =
+pub telling_more : (ns : List ℕ) (f pairs j : ℕ) (m : Row) → Telling ns f pairs j → m ≡ row_at ns (j * 2) → (eqb m.read 0 && ltb m.from.0 m.to.0) ≡ false → Telling ns f pairs (j + 1)
+telling_more ns f pairs j m c em e =
     let p = c.from in
     record {
       from = omega arith;
-      upto = omega arith;
-      told = record {
-        told = λ i a b. ⊎_elim
-            (λ (z : i ≤ j). c.told.told i a z)
-            (λ (z : i ≤ j → ⊥).
-            let y : j + 1 ≡ i = omega arith in
-            subst (λ (k : ℕ). ((row_at ns (k * 2)).read ≢ 0) ⊎ ((row_at ns (k * 2)).to.0 ≤ (row_at ns (k * 2)).from.0)) y
-            (subst (λ (w : Row). (w.read ≢ 0) ⊎ (w.to.0 ≤ w.from.0)) em (mask_told m.read m.from.0 m.to.0 e)))
-            (says_else (says_le i j));
-      };
+      told = λ i a b. ⊎_elim
+          (λ (z : i < j). c.told i a z)
+          (λ (z : i < j → ⊥).
+          let y : j ≡ i = omega arith in
+          subst (λ (k : ℕ). ((row_at ns (k * 2)).read ≢ 0) ⊎ ((row_at ns (k * 2)).to.0 ≤ (row_at ns (k * 2)).from.0)) y
+          (subst (λ (w : Row). (w.read ≢ 0) ⊎ (w.to.0 ≤ w.from.0)) em (mask_told m.read m.from.0 m.to.0 e)))
+          (says_else (says_lt i j));
     }
 
-pub telling_end : (ns : List ℕ) (f pairs j : ℕ) → Telling ns f pairs j → pairs ≤ j → false ≡ false → MasksTold ns f pairs
-telling_end ns f pairs j c h e = let k = c.upto in let z : j ≡ pairs = omega arith in subst (MasksTold ns f) z c.told
+pub telling_end : (ns : List ℕ) (f pairs j : ℕ) → Telling ns f pairs j → pairs < j → false ≡ false → MasksTold ns f pairs
+telling_end ns f pairs j c h e = record { told = λ i a b. c.told i a (omega arith) }
+
+-- with the highest pair's mask
+pub telling_last : (ns : List ℕ) (f pairs j : ℕ) (m : Row) → Telling ns f pairs j → pairs ≤ j → m ≡ row_at ns (j * 2) → (eqb m.read 0 && ltb m.from.0 m.to.0) ≡ false → false ≡ false
+    → MasksTold ns f pairs
+telling_last ns f pairs j m c h em e k = telling_end ns f pairs (j + 1) (telling_more ns f pairs j m c em e) (omega arith) k
 
 pub telling_not : (ns : List ℕ) (f pairs : ℕ) → true ≡ false → MasksTold ns f pairs
 telling_not ns f pairs e = absurd (false≢true (sym e))
 
-pub ruleset telling = (rules, telling_begun, telling_more, telling_end, telling_not)
+pub ruleset telling = (rules, telling_begun, telling_more, telling_end, telling_last, telling_not)
 
 -- ---- a part
 
-module _ (u : Colour) (s d ns : List ℕ) (pairs f a b : ℕ) (un : List ℕ) (eu : un ≡ four_of u Unknown) (few : pairs ≤ 7) where
+module _ (u : Colour) (s d ns : List ℕ) (pairs f a b : ℕ) (un : List ℕ) (eu : un ≡ four_of u None) (few : pairs ≤ 7) where
   -- the highest pair covers it all
   pub part_covered : (l e : List ℕ) → Starts s d ns pairs a b f → f ≡ pairs → Coated (over (moved a a (floor_from un s d ns f))) l a (a + (b - a)) e → a ≤ b → Coated (decided u s d ns pairs) l a b e
   unfolding over moved floor_from chosen decided
@@ -174,7 +175,7 @@ module _ (u : Colour) (s d ns : List ℕ) (pairs width : ℕ) (l : List ℕ) whe
   painting_more out new x e c p q g =
       record { upto = q; long = g.long ∙ c.long; done = coated_chain (decided u s d ns pairs) l out new 0 x e (omega arith) (omega arith) c.done g }
 
-  abbrev sample : MainPos → Sample
+  abbrev sample : MainPos → Option Colour
   sample x = decide (row_stack s d ns x) pairs
 
   pub painting_end : (out : List ℕ) (x : ℕ) → Painting u s d ns pairs width l out x → width ≤ x → width * 4 ≤ length l → out ≡ put_at l 0 (pixels u sample width)
@@ -196,6 +197,6 @@ module _ (u : Colour) (s d ns : List ℕ) (pairs width : ℕ) (l : List ℕ) whe
       (λ (y : i < width * 4 → ⊥). g.behind i (omega arith) ∙ sym (put_get_d_after l 0 (pixels u sample width) i (omega arith) (omega arith)))
       (says_else (says_lt i (width * 4))))
 
-pub unseen_word : (u : Colour) (w : ℕ) → octets_of w ≡ u.c0 ∷ u.c1 ∷ u.c2 ∷ 0 ∷ [] → octets_of w ≡ four_of u Unknown
+pub unseen_word : (u : Colour) (w : ℕ) → octets_of w ≡ u.c0 ∷ u.c1 ∷ u.c2 ∷ 0 ∷ [] → octets_of w ≡ four_of u None
 unfolding four_of
 unseen_word u w e = e

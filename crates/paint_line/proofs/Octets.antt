@@ -8,7 +8,7 @@ use lib.ListN.{length, get_or, take, drop}
 use Rattle.octets.proofs.Laws.{drop_octet}
 use Rattle.sheet_rules.specs.declared.Colour.{Colour}
 use Rattle.pixel_rules.specs.declared.MainPos.{MainPos}
-use Rattle.pixel_rules.specs.declared.Sample.{Sample}
+use Rattle.std.specs.Prelude.{Option}
 use Rattle.picture_rules.specs.Line.{four_of, pixels}
 use Rattle.picture_rules.specs.Demand.{four_at}
 use Rattle.picture_rules.proofs.Fours.{length_pixels, pixels_four}
@@ -34,5 +34,5 @@ four_taken v x h =
     sym (ap (take 4) (a ∙ ap (λ (r : List ℕ). get_or v (x * 4) 0 ∷ r) (b ∙ ap (λ (r : List ℕ). get_or v (x * 4 + 1) 0 ∷ r)
     (ap (λ (i : ℕ). drop i v) p ∙ c ∙ ap (λ (r : List ℕ). get_or v (x * 4 + 2) 0 ∷ r) (ap (λ (i : ℕ). drop i v) q ∙ d)))))
 
-pub four_pixels : (u : Colour) (f : MainPos → Sample) (n x : ℕ) → x < n → four_from (pixels u f n) (x * 4) ≡ four_of u (f (record { 0 = x }))
+pub four_pixels : (u : Colour) (f : MainPos → Option Colour) (n x : ℕ) → x < n → four_from (pixels u f n) (x * 4) ≡ four_of u (f (record { 0 = x }))
 four_pixels u f n x h = let l = length_pixels u f n in four_taken (pixels u f n) x (omega arith) ∙ pixels_four u f n x h

@@ -7,7 +7,7 @@ use mathlib.Core.Logic.{⊎_elim}
 use mathlib.Core.List.{List}
 use Rattle.laws.proofs.Says.{says_lt, says_else}
 use Rattle.sheet_rules.specs.declared.Colour.{Colour}
-use Rattle.pixel_rules.specs.declared.Sample.TheVariants.{Unknown}
+use Rattle.std.specs.Prelude.{None}
 use Rattle.picture_rules.specs.Line.{four_of}
 use Rattle.paint_coat.specs.Coat.{Coated, over, flat}
 use Rattle.paint_coat.proofs.Coats.{coated_none, coated_chain, coated_as}
@@ -16,7 +16,7 @@ use Rattle.paint_dark.specs.Dark.{Lost}
 use Rattle.paint_layers.specs.Layers.{decided}
 
 module _ (u : Colour) (s d ns : List ℕ) (pairs a b : ℕ) where
-  pub part_dark : (un l e : List ℕ) → un ≡ four_of u Unknown → Lost s d ns pairs a b → Coated (over (flat un)) l a b e → Coated (decided u s d ns pairs) l a b e
+  pub part_dark : (un l e : List ℕ) → un ≡ four_of u None → Lost s d ns pairs a b → Coated (over (flat un)) l a b e → Coated (decided u s d ns pairs) l a b e
   unfolding over flat decided
   part_dark un l e eu g c = coated_as (over (flat un)) (decided u s d ns pairs) l e a b (λ x o p q. eu ∙ ap (four_of u) (sym (g.lost x p q))) c
 

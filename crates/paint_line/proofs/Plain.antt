@@ -15,8 +15,7 @@ use Rattle.sheet_rules.specs.Record.{is_grey}
 use Rattle.sheet_rules.specs.StripeTable.{layer_record}
 use Rattle.sheet_rules.specs.Judge.{coded}
 use Rattle.pixel_rules.specs.declared.MainPos.{MainPos}
-use Rattle.pixel_rules.specs.declared.Start.{Start}
-use Rattle.pixel_rules.specs.declared.Start.TheVariants.{From, Unread}
+use Rattle.std.specs.Prelude.{Option, Some, None}
 use Rattle.pixel_rules.specs.Place.{ratio, top_of, covers}
 use Rattle.pixel_rules.specs.Planes.{PlaneList, plane_start}
 use Rattle.pixel_rules.specs.Samples.{Scene, record_of, main_of, depth, pairs_of}
@@ -35,12 +34,12 @@ depth_kind r n = by (eqb (r.layer % 2) 0 || is_grey r) n
     by false h = absurd (h refl)
 
 module _ (r : Record) (q : ℕ) (y : MainPos) (other : ℕ) (few : q ≤ 12) where
-  plain_in : (p : Start) → Plain (row_in r q y p other)
+  plain_in : (p : Option ℕ) → Plain (row_in r q y p other)
   unfolding row_in
-  plain_in Unread = record { few = few; one = λ n m. absurd (n refl) }
-  plain_in (From a) = record { few = few; one = λ n m. depth_kind r m }
+  plain_in None = record { few = few; one = λ n m. absurd (n refl) }
+  plain_in (Some a) = record { few = few; one = λ n m. depth_kind r m }
 
-  plain_by : (p : Start) → Plain (row_by r q y p other)
+  plain_by : (p : Option ℕ) → Plain (row_by r q y p other)
   unfolding row_by
   plain_by p =
       cond_with Plain (coded r && covers (top_of r) r.height q y) (λ t. plain_in p) (λ t. record { few = omega arith; one = λ n m. absurd (n refl) })

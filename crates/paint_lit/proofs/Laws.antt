@@ -12,7 +12,7 @@ use borrow.Author.Tests.{eqb-true}
 use borrow.Author.Rules.{rules}
 use Rattle.laws.proofs.Says.{says_lt, says_else}
 use Rattle.sheet_rules.specs.declared.Colour.{Colour}
-use Rattle.pixel_rules.specs.declared.Sample.TheVariants.{Unknown}
+use Rattle.std.specs.Prelude.{None}
 use Rattle.pixel_rules.specs.Decide.{decide}
 use Rattle.picture_rules.specs.Line.{four_of}
 use Rattle.line_fetch.specs.Rows.{row_size}
@@ -118,7 +118,7 @@ module _ (u : Colour) (s d ns : List ℕ) (pairs a n : ℕ) (l row₀ bits₀ : 
         }
 
     -- what is dark is unknown, whatever is painted
-    pub filling_dark : (f e : ℕ) (un sel new : List ℕ) → un ≡ four_of u Unknown → Sure s d ns f a n pairs sel → DarkUpTo sel i n e → Coated (over (flat un)) out (a + i) (a + e) new
+    pub filling_dark : (f e : ℕ) (un sel new : List ℕ) → un ≡ four_of u None → Sure s d ns f a n pairs sel → DarkUpTo sel i n e → Coated (over (flat un)) out (a + i) (a + e) new
         → Filling u s d ns pairs a n l row₀ bits₀ new row bits e
     unfolding over flat decided
     filling_dark f e un sel new eu g k p =
@@ -134,7 +134,7 @@ module _ (u : Colour) (s d ns : List ℕ) (pairs a n : ℕ) (l row₀ bits₀ : 
               (λ x o q r.
               let z : a + (x - a) ≡ x = omega arith in
               eu ∙ ap (four_of u)
-              (sym (subst (λ (y : ℕ). decide (row_stack s d ns (record { 0 = y })) pairs ≡ Unknown) z
+              (sym (subst (λ (y : ℕ). decide (row_stack s d ns (record { 0 = y })) pairs ≡ None) z
               ((g.held (x - a) (omega arith)).lost (k.dark.there (x - a) (omega arith) (omega arith)))))) p);
         }
 

@@ -2,8 +2,7 @@
 // layers are painted only between them.
 #![tactic(auto)]
 
-ghost use Rattle.std.specs.Prelude.{◌≡◌, true, ◌+◌, ◌-◌, ◌*◌, ◌<◌, ◌≤◌, length};
-ghost use Rattle.pixel_rules.specs.declared.Sample.TheVariants.{Unknown};
+ghost use Rattle.std.specs.Prelude.{◌≡◌, true, ◌+◌, ◌-◌, ◌*◌, ◌<◌, ◌≤◌, length, None};
 ghost use Rattle.picture_rules.specs.Line.{four_of};
 ghost use Rattle.line_pixel.specs.Rows.{RowsFit};
 ghost use Rattle.paint_rules.specs.Floor.{dark};
@@ -28,15 +27,13 @@ fn dark_block(sel: &[u8], i: usize) -> bool
     ensures { result ≡ true → Alike dark sel.now i (i + 64) }
 {
     let mut all = true;
-    let mut j = 0;
-    while j < BLOCK {
-        all = all & (sel[i + j] == DARK);
-        j += 1;
+    for j in 0..BLOCK {
+        all &= sel[i + j] == DARK;
     }
     all
 }
 
-// How far dark blocks go on from i.
+// How far dark blocks go on from i: a place that is answered, in steps of a block. As a search over chunks it is no plainer, and so are those below.
 fn dark_end(sel: &[u8], i: usize, n: usize) -> usize
     requires { (i ≤ n) × (n ≤ length sel.now) }
     ensures { DarkUpTo sel.now i n result }
@@ -100,7 +97,7 @@ fn lay_between(
     u: u32,
 )
     requires { RowsFit s.now d.now rows.now pairs × PlainRows rows.now pairs × Starts s.now d.now rows.now pairs a b f × (told ≡ true → Sure s.now d.now rows.now f a (b - a) pairs sel.now)
-        × (b - a ≤ length sel.now) × (f < pairs) × (pairs ≤ 7) × (a ≤ b) × (b < 65536) × (b * 4 ≤ length out.old) × (b - a + 24 ≤ length bits.old) × (2048 ≤ length row.old) × (octets_of u ≡ four_of unseen Unknown) }
+        × (b - a ≤ length sel.now) × (f < pairs) × (pairs ≤ 7) × (a ≤ b) × (b < 65536) × (b * 4 ≤ length out.old) × (b - a + 24 ≤ length bits.old) × (2048 ≤ length row.old) × (octets_of u ≡ four_of unseen None) }
     ensures { Coated (decided unseen s.now d.now rows.now pairs) out.old a b out.new }
 {
     let n = b - a;
@@ -136,9 +133,7 @@ fn mostly_dark(s: &[u8], d: &[u8], rows: &[usize], pairs: usize, f: usize) -> bo
     requires { RowsFit s.now d.now rows.now pairs × (f ≤ pairs) × (pairs ≤ 7) }
 {
     let mut count: usize = 0;
-    let mut j = f;
-    while j < pairs {
-        j += 1;
+    for j in f + 1..=pairs {
         let m = line_fetch::row_at(rows, j * 2);
         let r = line_fetch::row_at(rows, j * 2 + 1);
         if (m.read != 0) & (r.read == 0) {
@@ -226,7 +221,7 @@ pub fn lay_lit(
     u: u32,
 )
     requires { RowsFit s.now d.now rows.now pairs × PlainRows rows.now pairs × Starts s.now d.now rows.now pairs a b f × (f < pairs) × (pairs ≤ 7) × (a < b) × (b < 65536) × (b * 4 ≤ length out.old)
-        × (b - a ≤ length sel.old) × (b - a + 24 ≤ length bits.old) × (2048 ≤ length row.old) × (octets_of u ≡ four_of unseen Unknown) }
+        × (b - a ≤ length sel.old) × (b - a + 24 ≤ length bits.old) × (2048 ≤ length row.old) × (octets_of u ≡ four_of unseen None) }
     ensures { Coated (decided unseen s.now d.now rows.now pairs) out.old a b out.new }
 {
     let told = put_dark(sel, bits, s, d, rows, pairs, f, a, b);

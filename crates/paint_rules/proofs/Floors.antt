@@ -6,8 +6,8 @@ use mathlib.Core.Path.{◌≡◌, refl, sym, ap, subst, ◌∙◌}
 use mathlib.Core.Logic.{◌≢◌, ⊎_elim}
 use borrow.Author.Tests.{eq-eqb, ne_eqb, le-leb, lt-leb}
 use Rattle.laws.proofs.Says.{says_eq, says_le, says_lt, says_else}
-use Rattle.pixel_rules.specs.declared.Sample.{Sample}
-use Rattle.pixel_rules.specs.declared.Sample.TheVariants.{Known, Unknown}
+use Rattle.std.specs.Prelude.{Option, Some, None}
+use Rattle.sheet_rules.specs.declared.Colour.{Colour}
 use Rattle.pixel_rules.specs.declared.Mask.{Mask}
 use Rattle.pixel_rules.specs.declared.Mask.TheVariants.{Zero, One, Hidden}
 use Rattle.pixel_rules.specs.Decide.{Stack, agree, pair_step, decide}
@@ -15,18 +15,18 @@ use Rattle.paint_rules.specs.Floor.{dark, Settled, chosen, stage, Step, stays, t
 
 -- ---- what is not known stays so
 
-agree_lost : (p : Sample) → agree p Unknown ≡ Unknown
+agree_lost : (p : Option Colour) → agree p None ≡ None
 unfolding agree
-agree_lost (Known c) = refl
-agree_lost Unknown = refl
+agree_lost (Some c) = refl
+agree_lost None = refl
 
-step_lost : (m : Mask) (up : Sample) → m ≢ One → pair_step m Unknown up ≡ Unknown
+step_lost : (m : Mask) (up : Option Colour) → m ≢ One → pair_step m None up ≡ None
 unfolding pair_step agree
 step_lost Zero up n = refl
 step_lost One up n = absurd (n refl)
 step_lost Hidden up n = refl
 
-step_dark : (m : Mask) (low up : Sample) → m ≢ Zero → up ≡ Unknown → pair_step m low up ≡ Unknown
+step_dark : (m : Mask) (low up : Option Colour) → m ≢ Zero → up ≡ None → pair_step m low up ≡ None
 unfolding pair_step
 step_dark Zero low up n e = absurd (n refl)
 step_dark One low up n e = e
@@ -38,7 +38,7 @@ module _ (st : Stack) (f : ℕ) where
   pub settled_first : f ≢ dark → decide st f ≡ st.image f → Settled st f f f
   settled_first n e = record { least = λ d. omega arith; most = λ d. omega arith; sure = λ d. e; above = λ d p g h. absurd (omega arith); lost = λ d. absurd (n d) }
 
-  pub settled_dark : (j : ℕ) → decide st j ≡ Unknown → Settled st f dark j
+  pub settled_dark : (j : ℕ) → decide st j ≡ None → Settled st f dark j
   settled_dark j e =
       record { least = λ d. absurd (d refl); most = λ d. absurd (d refl); sure = λ d. absurd (d refl); above = λ d p g h. absurd (d refl); lost = λ d. e }
 
@@ -56,7 +56,7 @@ module _ (st : Stack) (f c j : ℕ) (g : Settled st f c j) where
             (λ (z : p < suc j). g.above d p a (omega arith))
             (λ (z : p < suc j → ⊥). let y : p ≡ suc j = omega arith in subst (λ (i : ℕ). st.mask i ≢ One) (sym y) n)
             (says_else (says_lt p (suc j)));
-        lost = λ d. ap (λ (low : Sample). pair_step (st.mask (suc j)) low (st.image (suc j))) (g.lost d) ∙ step_lost (st.mask (suc j)) (st.image (suc j)) n;
+        lost = λ d. ap (λ (low : Option Colour). pair_step (st.mask (suc j)) low (st.image (suc j))) (g.lost d) ∙ step_lost (st.mask (suc j)) (st.image (suc j)) n;
       }
 
   pub settled_step : (c' : ℕ) → f ≤ j → suc j ≢ dark → Step st (suc j) c c' → Settled st f c' (suc j)

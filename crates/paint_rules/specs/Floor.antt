@@ -7,9 +7,8 @@
 --   chosen st c      what is laid for a floor
 --   stage st c p     what the pixel shows once the pairs up to p have agreed: the first p pairs decided, where the floor is not above them
 --   Step st j c c'   what pair j makes of a floor
-use Rattle.std.specs.Prelude.{ℕ, ◌≤◌, ◌<◌, ◌≡◌, ◌≢◌, cond, eqb, leb}
-use Rattle.pixel_rules.specs.declared.Sample.{Sample}
-use Rattle.pixel_rules.specs.declared.Sample.TheVariants.{Unknown}
+use Rattle.std.specs.Prelude.{ℕ, ◌≤◌, ◌<◌, ◌≡◌, ◌≢◌, cond, eqb, leb, Option, None}
+use Rattle.sheet_rules.specs.declared.Colour.{Colour}
 use Rattle.pixel_rules.specs.declared.Mask.TheVariants.{Zero, One}
 use Rattle.pixel_rules.specs.Decide.{Stack, decide}
 
@@ -21,17 +20,17 @@ pub record Settled (st : Stack) (f c j : ℕ) : Type 0 where
   pub most : c ≢ dark → c ≤ j
   pub sure : c ≢ dark → decide st c ≡ st.image c
   pub above : c ≢ dark → (p : ℕ) → c < p → p ≤ j → st.mask p ≢ One
-  pub lost : c ≡ dark → decide st j ≡ Unknown
+  pub lost : c ≡ dark → decide st j ≡ None
 
-unfoldable pub chosen : Stack → ℕ → Sample
-chosen st c = cond (eqb c dark) Unknown (st.image c)
+unfoldable pub chosen : Stack → ℕ → Option Colour
+chosen st c = cond (eqb c dark) None (st.image c)
 
-unfoldable pub stage : Stack → ℕ → ℕ → Sample
+unfoldable pub stage : Stack → ℕ → ℕ → Option Colour
 unfolding decide
-stage st c p = cond (eqb c dark) Unknown (cond (leb c p) (decide st p) (st.image c))
+stage st c p = cond (eqb c dark) None (cond (leb c p) (decide st p) (st.image c))
 
 -- the floor stays, is taken, or is lost
 pub data Step (st : Stack) (j c c' : ℕ) : Type 0 where
   stays : st.mask j ≢ One → c' ≡ c → Step st j c c'
   taken : st.mask j ≡ One → c' ≡ j → Step st j c c'
-  lost : st.mask j ≢ Zero → st.image j ≡ Unknown → c' ≡ dark → Step st j c c'
+  lost : st.mask j ≢ Zero → st.image j ≡ None → c' ≡ dark → Step st j c c'

@@ -2,88 +2,37 @@
 -- Assumes nothing.
 use Prim.Native.Nat.{ℕ, ◌+◌, ◌-◌, ◌≤◌, ◌<◌}
 use native.Mathlib.Omega.{arith}
-use mathlib.Core.Path.{◌≡◌, refl, sym, ap, subst, ◌∙◌}
-use mathlib.Core.Logic.{◌≢◌, ⊎_elim}
-use mathlib.Core.Bool.{Bool, true, false, ◌&&◌, ◌||◌, false≢true}
+use mathlib.Core.Path.{◌≡◌, sym, ap, subst, ◌∙◌}
+use mathlib.Core.Logic.{⊎_elim}
+use mathlib.Core.Bool.{Bool, true, false, ◌&&◌, false≢true}
 use mathlib.Core.List.{List, [], ◌∷◌}
-use lib.ListN.{get_or}
+use lib.ListN.{length, get_or, take, drop, length-drop}
+use lib.Seq.{get_or-take, get_or-drop, length-take-le}
 use lib.Dec.{eqb}
 use borrow.Author.Rules.{rules}
+use Rattle.std.specs.List.{IsAnyAnswer, AllWithin}
 use Rattle.laws.proofs.Says.{says_eq, says_and, says_lt, says_else}
 use Rattle.paint_words.specs.Words.{octets_of, four_from}
 use Rattle.paint_show.specs.Show.{Alike, Absent, Runs}
 
--- ---- an octet that is there, or not
+-- ---- an octet that is not there
 
-absent_none : (v : ℕ) (s : List ℕ) (p q : ℕ) → q ≤ p → Absent v s p q
-absent_none v s p q h = record { none = λ i a b. absurd (omega arith) }
-
-absent_more : (v : ℕ) (s : List ℕ) (p i : ℕ) → get_or s i 0 ≢ v → Absent v s p i → Absent v s p (i + 1)
-absent_more v s p i h g =
+-- what the library's search answers of a part
+pub absent_told : (v p q : ℕ) (s : List ℕ) (r : Bool) → p ≤ q → q ≤ length s → IsAnyAnswer (λ (y : ℕ) (b : Bool). eqb y v ≡ b) (take (q - p) (drop p s)) r → r ≡ false
+    → Absent v s p q
+absent_told v p q s r h k a e =
+    let n = length-drop p s in
+    let l : length (take (q - p) (drop p s)) ≡ q - p = length-take-le (q - p) (drop p s) (omega arith) in
+    let t : AllWithin (λ (y : ℕ). eqb y v ≡ false) (take (q - p) (drop p s)) 0 (length (take (q - p) (drop p s))) =
+    subst (λ (z : Bool). IsAnyAnswer (λ (y : ℕ) (b : Bool). eqb y v ≡ b) (take (q - p) (drop p s)) z) e a in
     record {
-      none = λ k a b. ⊎_elim
-          (λ (z : k < i). g.none k a z)
-          (λ (z : k < i → ⊥). let y : i ≡ k = omega arith in subst (λ (m : ℕ). get_or s m 0 ≢ v) y h)
-          (says_else (says_lt k i));
+      none = λ i x y z.
+          let o : eqb (get_or (take (q - p) (drop p s)) (i - p) 0) v ≡ false = t (i - p) 0 (omega arith) (omega arith) in
+          let w : p + (i - p) ≡ i = omega arith in
+          let g : get_or (take (q - p) (drop p s)) (i - p) 0 ≡ get_or s i 0 =
+          get_or-take (q - p) (drop p s) (i - p) 0 (omega arith) ∙ get_or-drop p s (i - p) 0 ∙ ap (λ (m : ℕ). get_or s m 0) w in
+          false≢true (sym o ∙ (says_eq (get_or (take (q - p) (drop p s)) (i - p) 0) v).shown (g ∙ z));
     }
-
-absent_join : (v : ℕ) (s : List ℕ) (p i q : ℕ) → Absent v s p i → Absent v s i q → Absent v s p q
-absent_join v s p i q g h =
-    record { none = λ k a b. ⊎_elim (λ (z : k < i). g.none k a z) (λ (z : k < i → ⊥). h.none k (omega arith) b) (says_else (says_lt k i)) }
-
-pub record Looked (v : ℕ) (s : List ℕ) (p : ℕ) (any : Bool) (i : ℕ) : Type 0 where
-  pub few : i ≤ 64
-  pub none : any ≡ false → Absent v s p (p + i)
-
-or_none : (a b : Bool) → (a || b) ≡ false → (a ≡ false) × (b ≡ false)
-or_none true b e = absurd (false≢true (sym e))
-or_none false b e = (refl, e)
-
-pub looked_begun : (v : ℕ) (s : List ℕ) (p : ℕ) → Looked v s p false 0
-looked_begun v s p = record { few = omega arith; none = λ e. absent_none v s p (p + 0) (omega arith) }
-
-module _ (v : ℕ) (s : List ℕ) (p : ℕ) (any : Bool) (i : ℕ) (c : Looked v s p any i) where
-  pub looked_more : i < 64 → Looked v s p (any || eqb (get_or s (p + i) 0) v) (i + 1)
-  looked_more h =
-      record {
-        few = omega arith;
-        none = λ e.
-            let k = or_none any (eqb (get_or s (p + i) 0) v) e in
-            let z : p + i + 1 ≡ p + (i + 1) = omega arith in
-            subst (Absent v s p) z (absent_more v s p (p + i) (λ w. false≢true (sym k.1 ∙ (says_eq (get_or s (p + i) 0) v).shown w)) (c.none k.0));
-      }
-
-  pub looked_all : 64 ≤ i → any ≡ false → Absent v s p (p + 64)
-  looked_all h e = let f = c.few in let z : p + i ≡ p + 64 = omega arith in subst (Absent v s p) z (c.none e)
-
-pub ruleset looking = (rules, looked_begun, looked_more, looked_all)
-
-pub record Passing (v : ℕ) (s : List ℕ) (p q i : ℕ) : Type 0 where
-  pub from : p ≤ i
-  pub upto : i ≤ q
-  pub none : Absent v s p i
-
-module _ (v : ℕ) (s : List ℕ) (p q : ℕ) where
-  pub pass_begun : p ≤ q → Passing v s p q p
-  pass_begun h = record { from = omega arith; upto = h; none = absent_none v s p p (omega arith) }
-
-  pub pass_block : (i : ℕ) (r : Bool) → Passing v s p q i → 64 ≤ q - i → (r ≡ false → Absent v s i (i + 64)) → r ≡ false → Passing v s p q (i + 64)
-  pass_block i r c h g e = let a = c.from in let b = c.upto in record { from = omega arith; upto = omega arith; none = absent_join v s p i (i + 64) c.none (g e) }
-
-  pub pass_more : (i : ℕ) → Passing v s p q i → i < q → get_or s i 0 ≢ v → Passing v s p q (i + 1)
-  pass_more i c h n = let a = c.from in record { from = omega arith; upto = omega arith; none = absent_more v s p i n c.none }
-
-  pub pass_all : (i : ℕ) → Passing v s p q i → q ≤ i → false ≡ false → Absent v s p q
-  pass_all i c h e = let a = c.upto in let z : i ≡ q = omega arith in subst (Absent v s p) z c.none
-
-  -- the last 64 may begin before what is left
-  pub pass_last : (i : ℕ) (r : Bool) → Passing v s p q i → q - i < 64 → 64 ≤ q - p → (r ≡ false → Absent v s (q - 64) (q - 64 + 64)) → r ≡ false → Absent v s p q
-  pass_last i r c h k g e = absent_join v s p i q c.none (record { none = λ j a b. (g e).none j (omega arith) (omega arith) })
-
-  pub pass_some : true ≡ false → Absent v s p q
-  pass_some e = absurd (false≢true (sym e))
-
-pub ruleset passing = (rules, pass_begun, pass_block, pass_more, pass_all, pass_last, pass_some)
 
 -- ---- octets that are alike
 

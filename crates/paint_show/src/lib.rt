@@ -10,7 +10,7 @@ ghost use Rattle.paint_coat.specs.Coat.{Coated, over};
 ghost use Rattle.paint_image.specs.Image.{moved};
 ghost use Rattle.paint_floor.specs.Floors.{PlainRows};
 ghost use Rattle.paint_table.specs.Table.{Tabled};
-ghost use Rattle.paint_show.specs.Show.{floor_from, shows, picking, picking_other, is_floor, is_lit, Paired, Least, Alike, Absent, Begun, Runs};
+ghost use Rattle.paint_show.specs.Show.{floor_from, shows, picking, picking_other, is_floor, is_lit, Paired, Least, Alike, Begun, Runs};
 
 use paint_floor::DARK;
 
@@ -34,7 +34,7 @@ pub fn lay_floor(
         paint_coat::lay_flat(out, t, t + (b - a), u);
         return;
     }
-    let r = line_fetch::row_at(rows, c as usize * 2 + 1);
+    let r = line_fetch::row_at(rows, usize::from(c) * 2 + 1);
     paint_image::lay_image(out, t, s, d, r, a, b, u);
 }
 
@@ -49,61 +49,12 @@ fn pick_words(out: &mut [u8], sel: &[u8], i: usize, c: u8, row: &[u8], x: usize,
     requires { (x ≤ e) × (e * 4 ≤ length out.old) × (i + (e - x) ≤ length sel.now) × ((e - x) * 4 ≤ length row.now) }
     ensures { Coated (picking sel.now i c row.now x) out.old x e out.new }
 {
-    let mut p = x;
-    while p < e {
+    for p in x..e {
         let low = paint_words::word(out, p * 4);
         let up = paint_words::word(row, (p - x) * 4);
         let v = sel[i + (p - x)];
         paint_words::put_word(out, p * 4, either(v, c, up, low));
-        p += 1;
     }
-}
-
-// All 64 from i on are looked at, whatever is found: a fixed count without another way out is done sixteen octets at a time.
-fn any_64(s: &[u8], v: u8, i: usize) -> bool
-    requires { i + 64 ≤ length s.now }
-    ensures { result ≡ false → Absent v s.now i (i + 64) }
-{
-    let mut any = false;
-    let mut j = 0;
-    while j < 64 {
-        any = any | (s[i + j] == v);
-        j += 1;
-    }
-    any
-}
-
-// Some octet from p up to q is v: one by one.
-fn present_few(s: &[u8], v: u8, p: usize, q: usize) -> bool
-    requires { (p ≤ q) × (q ≤ length s.now) }
-    ensures { result ≡ false → Absent v s.now p q }
-{
-    let mut i = p;
-    while i < q {
-        if s[i] == v {
-            return true;
-        }
-        i += 1;
-    }
-    false
-}
-
-// 64 at a time, the last of which may have been looked at before.
-fn present(s: &[u8], v: u8, p: usize, q: usize) -> bool
-    requires { (p ≤ q) × (q ≤ length s.now) }
-    ensures { result ≡ false → Absent v s.now p q }
-{
-    if q - p < 64 {
-        return present_few(s, v, p, q);
-    }
-    let mut i = p;
-    while 64 <= q - i {
-        if any_64(s, v, i) {
-            return true;
-        }
-        i += 64;
-    }
-    any_64(s, v, q - 64)
 }
 
 // Where the floor is c, and not v, which is shown already, what it gives: the row is there to lay it in first.
@@ -129,7 +80,7 @@ fn pick_floor(
     if c == v {
         return;
     }
-    if present(sel, c, x - a, e - a) {
+    if sel[x - a..e - a].contains(&c) {
         lay_floor(row, 0, s, d, rows, pairs, c, x, e, u);
         pick_words(out, sel, x - a, c, row, x, e);
     }
@@ -156,10 +107,8 @@ fn pick_pairs(
         × Begun (octets_of u) s.now d.now rows.now sel.now a x e (is_floor v) out.old }
     ensures { Coated (shows (octets_of u) s.now d.now rows.now sel.now a) out.old x e out.new }
 {
-    let mut c = f;
-    while c <= pairs {
+    for c in f..=pairs {
         pick_floor(out, sel, row, s, d, rows, pairs, v, c as u8, a, x, e, u);
-        c += 1;
     }
 }
 
@@ -220,11 +169,9 @@ fn pick_unlit(
         × Begun (octets_of u) s.now d.now rows.now sel.now a x e (is_lit lit.now) out.old }
     ensures { Coated (shows (octets_of u) s.now d.now rows.now sel.now a) out.old x e out.new }
 {
-    let mut c = f;
-    while c <= pairs {
+    for c in f..=pairs {
         let v = skipped(lit[c], c as u8);
         pick_floor(out, sel, row, s, d, rows, pairs, v, c as u8, a, x, e, u);
-        c += 1;
     }
 }
 
@@ -309,17 +256,15 @@ fn run_few(s: &[u8], v: u8, from: usize, to: usize) -> usize
     requires { (from ≤ to) × (to ≤ length s.now) }
     ensures { Runs v s.now from to result }
 {
-    let mut i = from;
-    while i < to {
+    for i in from..to {
         if s[i] != v {
             return i;
         }
-        i += 1;
     }
-    i
+    to
 }
 
-// How far octets v go on from `from`, at most up to `to`.
+// How far octets v go on from `from`, at most up to `to`: by sixteens, which four words tell at once, so that no `for` by ones says it.
 fn run_on(s: &[u8], v: u8, from: usize, to: usize) -> usize
     requires { (from ≤ to) × (to ≤ length s.now) }
     ensures { Runs v s.now from to result }
@@ -345,7 +290,7 @@ fn ahead(i: usize, n: usize, to: usize) -> usize
     requires { (i ≤ to) × (0 < n) }
     ensures { (i ≤ result) × (result ≤ to) × (result ≤ i + n) × (i < to → i < result) }
 {
-    if to - i <= n { to } else { i + n }
+    i + n.min(to - i)
 }
 
 // Where a run begins that is worth a call of its own: looked for in steps, since one step is as good as another where floors change all the time.
@@ -387,12 +332,10 @@ fn all_gathered(lit: &[u8], pairs: usize, f: usize, step: usize, each: usize) ->
     if step != each * 12 {
         return false;
     }
-    let mut c = f;
-    while c <= pairs {
+    for c in f..=pairs {
         if lit[c] != 1 {
             return false;
         }
-        c += 1;
     }
     true
 }

@@ -2,7 +2,7 @@
 -- Assumes nothing.
 use Prim.Native.Nat.{ℕ, zero, suc, ◌+◌, ◌-◌, ◌*◌, ◌/◌, ◌%◌, ◌≤◌, ◌<◌}
 use native.Mathlib.Omega.{arith}
-use native.Mathlib.Nat.{mul-le-mul, mul-le-mul_right, add-mul, one-mul, div-add-mod', div-le_self, mod-lt}
+use native.Mathlib.Nat.{mul-le-mul_right, add-mul, one-mul, div-add-mod', mod-lt}
 use mathlib.Core.Path.{◌≡◌, refl, sym, ap, ap₂, subst, ◌∙◌}
 use mathlib.Core.Logic.{◌≢◌, ⊎_elim}
 use mathlib.Core.Bool.{Bool, true, false, cond}
@@ -22,7 +22,7 @@ use Rattle.line_pixel.specs.Rows.{RowsFit}
 use Rattle.paint_rules.specs.Floor.{dark}
 use Rattle.paint_image.specs.Image.{SampleAt}
 use Rattle.paint_gather.specs.Gather.{entry}
-use Rattle.paint_table.specs.Table.{place_of, Ready, Lined, Placed, FirstReady, row_for, Column, Tabled}
+use Rattle.paint_table.specs.Table.{place_of, Ready, Lined, Placed, row_for, Column, Tabled}
 
 -- ---- a row that is ready
 
@@ -150,23 +150,6 @@ module _ (s d ns : List ℕ) (pairs c : ℕ) (g : RowsFit s d ns pairs) (h : c �
   pub row_fits : (r : Row) → r ≡ row_at ns (c * 2 + 1) → ImageFits s d r
   row_fits r e = subst (ImageFits s d) (sym e) (there c h).1
 
-  pub row_turns : (r : Row) → r ≡ row_at ns (c * 2 + 1) → 0 < r.ratio
-  row_turns r e = (row_fits r e).turns.some
-
-module _ (each : ℕ) (d ns : List ℕ) (pairs f a b c : ℕ) where
-  pub first_none : f ≤ c → pairs < c → FirstReady each d ns pairs f a b c
-  first_none h k = record { from = h; ready = λ z. absurd (omega arith); divides = λ z. absurd (omega arith) }
-
-  pub first_here : (r : Row) (z : Bool) → f ≤ c → r ≡ row_at ns (c * 2 + 1) → 12 % r.ratio ≡ 0 → (z ≡ true → Ready each d r r.ratio a b) → z ≡ true → FirstReady each d ns pairs f a b c
-  first_here r z h e w k t =
-      record {
-        from = h;
-        ready = λ q. subst (λ (x : Row). Ready each d x x.ratio a b) e (k t);
-        divides = λ q. subst (λ (x : Row). 12 % x.ratio ≡ 0) e w;
-      }
-
-pub ruleset firsts = (rules, row_room, row_fits, row_turns, first_none, first_here)
-
 -- ---- a column
 
 module _ (each : ℕ) (d ns : List ℕ) (first : Row) (c a b : ℕ) (l lit t : List ℕ) (p : 16 ≤ length lit) (h : c < 16) where
@@ -265,27 +248,3 @@ module _ (each : ℕ) (d ns : List ℕ) (first : Row) (pairs f a b : ℕ) (l lit
         }
 
 pub ruleset tablings = (rules, tabling_begun, tabling_more, tabling_end)
-
-pub no_table : (each : ℕ) (d ns t lit : List ℕ) (pairs f a b : ℕ) → ◌≢◌ {A = ℕ} 0 0 → Tabled each d ns t lit pairs f a b 0
-no_table each d ns t lit pairs f a b n = absurd (n refl)
-
-pub table_made : (each : ℕ) (d ns t lit : List ℕ) (pairs f a b step : ℕ) → Tabled each d ns t lit pairs f a b step → step ≢ 0 → Tabled each d ns t lit pairs f a b step
-table_made each d ns t lit pairs f a b step g n = g
-
-module _ (each : ℕ) (d ns : List ℕ) (pairs f a b g : ℕ) (k : FirstReady each d ns pairs f a b g) (h : g ≤ pairs) (r : Row) (e : r ≡ row_at ns (g * 2 + 1)) where
-  pub chosen_ready : Ready each d r r.ratio a b
-  chosen_ready = subst (λ (x : Row). Ready each d x x.ratio a b) (sym e) (k.ready h)
-
-  pub chosen_divides : 12 % r.ratio ≡ 0
-  chosen_divides = subst (λ (x : Row). 12 % x.ratio ≡ 0) (sym e) (k.divides h)
-
-  pub chosen_some : 0 < r.ratio
-  chosen_some = chosen_ready.turns.some
-
-pub step_fits : (k each : ℕ) → each ≤ 3 → Fits w64 (12 / k * each)
-step_fits k each h = let m = div-le_self 12 k in let n = mul-le-mul {n₁ = 12 / k} {m₁ = each} {n₂ = 12} {m₂ = 3} m h in record { fits = omega arith }
-
-pub placed_line : (each : ℕ) (l t : List ℕ) (c : ℕ) (r : Row) (a : ℕ) → Placed each l c r a t → Lined each t c r a
-placed_line each l t c r a g = g.here
-
-pub ruleset making = (rules, no_table, table_made, row_room, chosen_ready, chosen_divides, chosen_some, step_fits, placed_line)

@@ -47,11 +47,9 @@ fn put_places(
     requires { Ready each d.now r k a b × (a + 12 ≤ b) × (b < 65536) × (c < 16) × (192 ≤ length t.old) }
     ensures { Placed each t.old c r a t.new }
 {
-    let mut j = 0;
-    while j < PIXELS {
+    for j in 0..PIXELS {
         let i = paint_image::sample_of(r, a + j);
         t[j * FLOORS + c] = r.at + i * each;
-        j += 1;
     }
 }
 
@@ -69,17 +67,15 @@ fn first_ready(
     requires { RowsFit s.now d.now rows.now pairs × (pairs ≤ 7) × (f ≤ pairs + 1) × (a < b) × (b < 65536) × (1 ≤ each) }
     ensures { FirstReady each d.now rows.now pairs f a b result }
 {
-    let mut c = f;
-    while c <= pairs {
+    for c in f..=pairs {
         let r = line_fetch::row_at(rows, c * 2 + 1);
         if 12 % r.ratio == 0 {
             if ready(s, d, r, each, r.ratio, a, b) {
                 return c;
             }
         }
-        c += 1;
     }
-    c
+    pairs + 1
 }
 
 // Floor c: its own places if its layer is ready, and else those of the first, which are painted over later.
@@ -149,10 +145,8 @@ fn put_columns(
         × (192 ≤ length t.old) × (16 ≤ length lit.old) × Lined each t.old dark first a × (1 ≤ each) × (each ≤ 3) }
     ensures { Tabled each d.now rows.now t.new lit.new pairs f a b (12 / first.ratio * each) }
 {
-    let mut c = f;
-    while c <= pairs {
+    for c in f..=pairs {
         put_column(t, lit, s, d, rows, pairs, first, each, c, a, b);
-        c += 1;
     }
 }
 
@@ -161,13 +155,11 @@ pub fn sample_size(s: &[u8], d: &[u8], rows: &[usize], pairs: usize, f: usize) -
     requires { RowsFit s.now d.now rows.now pairs × (pairs ≤ 7) }
     ensures { (1 ≤ result) × (result ≤ 3) }
 {
-    let mut c = f;
-    while c <= pairs {
+    for c in f..=pairs {
         let r = line_fetch::row_at(rows, c * 2 + 1);
         if r.read == 3 {
             return 3;
         }
-        c += 1;
     }
     1
 }

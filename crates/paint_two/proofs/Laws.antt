@@ -8,17 +8,16 @@ use mathlib.Core.Bool.{Bool, true, false, cond}
 use mathlib.Core.List.{List}
 use lib.ListN.{length, get_or}
 use lib.Dec.{eqb}
-use borrow.Author.Rules.{rules}
 use borrow.Author.Tests.{eq-eqb, ne_eqb}
 use Rattle.laws.proofs.Says.{says_lt, says_else}
 use Rattle.octets.specs.Octets.{put_at}
 use Rattle.paint_words.specs.Words.{octets_of, four_from, seen_from}
 use Rattle.paint_blocks.specs.Blocks.{Alike}
 use Rattle.paint_coat.specs.Coat.{Coated, over, flat, four_in, samples_by, chosen_by}
-use Rattle.paint_coat.proofs.Coats.{four_same, coated_none, coated_chain, coated_put, coated_as}
-use Rattle.paint_coat.proofs.Laws.{Coating, coat_begun, coat_more, coat_end}
+use Rattle.paint_coat.proofs.Coats.{four_same, coated_chain, coated_put, coated_as}
+use Rattle.paint_coat.proofs.Laws.{Coating, coat_more}
 use Rattle.paint_choice.specs.Choice.{bits_from}
-use Rattle.paint_two.specs.Two.{Stepped}
+use Rattle.paint_two.specs.Two.{shown, Stepped}
 
 -- ---- samples of three octets, a pixel each
 
@@ -26,10 +25,6 @@ use Rattle.paint_two.specs.Two.{Stepped}
 pub image_word : (d : List ℕ) (a i x v : ℕ) → octets_of v ≡ seen_from d (i + x * 3) → octets_of v ≡ samples_by 3 1 d a i (a + x)
 unfolding samples_by four_in
 image_word d a i x v e = let z : x * 3 ≡ (a + x - a) / 1 * 3 = omega arith in e ∙ ap (λ (m : ℕ). seen_from d (i + m)) z
-
-pub flat_word : (w y : ℕ) → octets_of w ≡ flat (octets_of w) y
-unfolding flat
-flat_word w y = refl
 
 -- the n-th pixel and its place are as good a start as the first
 samples_moved : (d : List ℕ) (t i u j n p q : ℕ) (l e : List ℕ) → u ≡ t + n → j ≡ i + n * 3 → u ≤ p → Coated (over (samples_by 3 1 d u j)) l p q e → Coated (over (samples_by 3 1 d t i)) l p q e
@@ -126,29 +121,15 @@ chosen_word m a below above x low up v o p q e =
     ∙ ap₂ (λ (n k : List ℕ). cond (eqb (get_or m (0 + (a + x - a)) 0) 0) n k) p q
 
 module _ (f : ℕ → List ℕ → List ℕ) (l : List ℕ) (a p q : ℕ) where
-  pub mix_begun : p ≤ q → (a + q) * 4 ≤ length l → Coating f l (a + p) (a + q) l (a + p)
-  mix_begun h r = coat_begun f l (a + p) (a + q) (omega arith) r
-
   pub mix_more : (out new : List ℕ) (x v : ℕ) → new ≡ put_at out ((a + x) * 4) (octets_of v) → octets_of v ≡ f (a + x) (four_from out ((a + x) * 4)) → x < q → Coating f l (a + p) (a + q) out (a + x)
       → Coating f l (a + p) (a + q) new (a + (x + 1))
   mix_more out new x v e k h c =
       let z : a + x + 1 ≡ a + (x + 1) = omega arith in
       subst (Coating f l (a + p) (a + q) new) z (coat_more f l (a + p) (a + q) out new (a + x) v e k (omega arith) c)
 
-  pub mix_end : (out : List ℕ) (x : ℕ) → Coating f l (a + p) (a + q) out (a + x) → q ≤ x → Coated f l (a + p) (a + q) out
-  mix_end out x c h = coat_end f l (a + p) (a + q) out (a + x) c (omega arith)
-
-pub ruleset mixing = (rules, mix_begun, mix_end)
-
 -- ---- a step
 
 module _ (f : ℕ → List ℕ → List ℕ) (a x n : ℕ) (l e : List ℕ) where
-  pub step_rest : x < n → Coated f l (a + x) (a + n) e → Stepped f a x n l n e
-  step_rest h g = record { more = h; most = omega arith; done = g }
-
-  pub step_mixed : (r : ℕ) → (x < r) × (r ≤ n) → Coated f l (a + x) (a + r) e → Stepped f a x n l r e
-  step_mixed r h g = record { more = h.0; most = h.1; done = g }
-
   step_block : 16 ≤ n - x → Coated f l (a + x) (a + x + 16) e → Stepped f a x n l (x + 16) e
   step_block h g =
       let z : a + x + 16 ≡ a + (x + 16) = omega arith in
@@ -173,10 +154,6 @@ module _ (m : List ℕ) (a x n : ℕ) (below above : ℕ → List ℕ) (l e : Li
       let z = k.there (0 + (y - a)) (omega arith) (omega arith) in
       sym (ap (λ (b : Bool). cond b (over below y o) (over above y o)) (ne_eqb (get_or m (0 + (y - a)) 0) 0 (λ (w : get_or m (0 + (y - a)) 0 ≡ 0). omega arith)))) g)
 
--- a block of samples from the x-th pixel on
-pub block_moved : (d : List ℕ) (a i x : ℕ) (l e : List ℕ) → Coated (over (samples_by 3 1 d (a + x) (i + x * 3))) l (a + x) (a + x + 16) e → Coated (over (samples_by 3 1 d a i)) l (a + x) (a + x + 16) e
-block_moved d a i x l e g = samples_moved d a i (a + x) (i + x * 3) x (a + x) (a + x + 16) l e refl refl (omega arith) g
-
 -- ---- step by step
 
 pub record Stepping (f : ℕ → List ℕ → List ℕ) (a n : ℕ) (l out : List ℕ) (x : ℕ) : Type 0 where
@@ -184,21 +161,59 @@ pub record Stepping (f : ℕ → List ℕ → List ℕ) (a n : ℕ) (l out : Lis
   pub long : length out ≡ length l
   pub done : Coated f l a (a + x) out
 
-module _ (f : ℕ → List ℕ → List ℕ) (a n : ℕ) (l : List ℕ) where
-  pub stepping_begun : Stepping f a n l l 0
-  stepping_begun = record { upto = omega arith; long = refl; done = coated_none f l a (a + 0) (omega arith) }
+module _ (f : ℕ → List ℕ → List ℕ) (a n : ℕ) (l out : List ℕ) (x : ℕ) (c : Stepping f a n l out x) where
+  pub stepping_more : (r : ℕ) (new : List ℕ) → Stepped f a x n out r new → Stepping f a n l new r
+  stepping_more r new g =
+      let h = g.more in
+      record {
+        upto = g.most;
+        long = g.done.long ∙ c.long;
+        done = coated_chain f l out new a (a + x) (a + r) (omega arith) (omega arith) c.done g.done;
+      }
 
-  module _ (out : List ℕ) (x : ℕ) (c : Stepping f a n l out x) where
-    pub stepping_more : (r : ℕ) (new : List ℕ) → Stepped f a x n out r new → Stepping f a n l new r
-    stepping_more r new g =
-        let h = g.more in
-        record {
-          upto = g.most;
-          long = g.done.long ∙ c.long;
-          done = coated_chain f l out new a (a + x) (a + r) (omega arith) (omega arith) c.done g.done;
-        }
+-- ---- what a layer shows, told from the part's first pixel or from its own
 
-    pub stepping_end : n ≤ x → Coated f l a (a + n) out
-    stepping_end h = let u = c.upto in let z : a + x ≡ a + n = omega arith in subst (λ (m : ℕ). Coated f l a m out) z c.done
+pub image_at : (d : List ℕ) (i x v : ℕ) → octets_of v ≡ seen_from d (i + x * 3) → octets_of v ≡ samples_by 3 1 d 0 i x
+unfolding samples_by four_in
+image_at d i x v e = let z : x * 3 ≡ (x - 0) / 1 * 3 = omega arith in e ∙ ap (λ (m : ℕ). seen_from d (i + m)) z
 
-pub ruleset stepping = (rules, stepping_begun, stepping_more, stepping_end)
+pub flat_at : (w x : ℕ) → octets_of w ≡ flat (octets_of w) x
+unfolding flat
+flat_at w x = refl
+
+module _ (l e : List ℕ) (t b x : ℕ) where
+  pub image_laid : (d : List ℕ) (i : ℕ) → Coated (over (samples_by 3 1 d t (i + x * 3))) l t b e → Coated (over (shown (samples_by 3 1 d 0 i) x t)) l t b e
+  unfolding over samples_by shown
+  image_laid d i g =
+      coated_as (over (samples_by 3 1 d t (i + x * 3))) (over (shown (samples_by 3 1 d 0 i) x t)) l e t b
+      (λ y o r s. let z : i + x * 3 + (y - t) / 1 * 3 ≡ i + (x + (y - t) - 0) / 1 * 3 = omega arith in ap (four_in 3 d) z) g
+
+  pub flat_laid : (v : List ℕ) → Coated (over (flat v)) l t b e → Coated (over (shown (flat v) x t)) l t b e
+  unfolding over flat shown
+  flat_laid v g = coated_as (over (flat v)) (over (shown (flat v) x t)) l e t b (λ y o r s. refl) g
+
+module _ (f : ℕ → List ℕ) (a x : ℕ) where
+  pub shown_word : (v : ℕ) → octets_of v ≡ f x → octets_of v ≡ shown f 0 a (a + x)
+  unfolding shown
+  shown_word v e = let z : x ≡ 0 + (a + x - a) = omega arith in e ∙ ap f z
+
+  pub shown_moved : (l e : List ℕ) (b : ℕ) → Coated (over (shown f x (a + x))) l (a + x) b e → Coated (over (shown f 0 a)) l (a + x) b e
+  unfolding over shown
+  shown_moved l e b g =
+      coated_as (over (shown f x (a + x))) (over (shown f 0 a)) l e (a + x) b
+      (λ y o r s. let z : x + (y - (a + x)) ≡ 0 + (y - a) = omega arith in ap f z) g
+
+pub image_shown : (d : List ℕ) (a i y : ℕ) → shown (samples_by 3 1 d 0 i) 0 a y ≡ samples_by 3 1 d a i y
+unfolding shown samples_by
+image_shown d a i y = let z : i + (0 + (y - a) - 0) / 1 * 3 ≡ i + (y - a) / 1 * 3 = omega arith in ap (four_in 3 d) z
+
+pub flat_shown : (v : List ℕ) (a y : ℕ) → shown (flat v) 0 a y ≡ flat v y
+unfolding shown flat
+flat_shown v a y = refl
+
+pub both_as : (m : List ℕ) (a : ℕ) (f g f' g' : ℕ → List ℕ) (l e : List ℕ) (p q : ℕ) → ((y : ℕ) → f y ≡ f' y) → ((y : ℕ) → g y ≡ g' y) → Coated (both m a f g) l p q e
+    → Coated (both m a f' g') l p q e
+unfolding chosen_by over
+both_as m a f g f' g' l e p q h k c =
+    coated_as (both m a f g) (both m a f' g') l e p q
+    (λ y o r s. ap₂ (λ (u w : List ℕ). cond (eqb (bits_from m a 0 y) 0) u w) (h y) (k y)) c

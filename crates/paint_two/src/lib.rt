@@ -2,11 +2,12 @@
 // pixels at a time where the mask is all 0 or all 1 there.
 #![tactic(auto)]
 
-ghost use Rattle.std.specs.Prelude.{◌+◌, ◌-◌, ◌*◌, ◌<◌, ◌≤◌, length};
+ghost use Rattle.std.specs.Prelude.{◌≡◌, ℕ, ◌+◌, ◌-◌, ◌*◌, ◌<◌, ◌≤◌, List, length};
+ghost use Rattle.std.proofs.Common.{arith};
 ghost use Rattle.paint_words.specs.Words.{octets_of};
 ghost use Rattle.paint_coat.specs.Coat.{Coated, over, flat, samples_by, chosen_by};
 ghost use Rattle.paint_choice.specs.Choice.{bits_from};
-ghost use Rattle.paint_two.specs.Two.{Stepped};
+ghost use Rattle.paint_two.specs.Two.{shown, Stepped};
 
 use paint_blocks::BLOCK;
 
@@ -40,148 +41,142 @@ fn flat_block(out: &mut [u8], t: usize, w: u32)
     paint_coat::lay_flat(out, t, t + 4, w);
 }
 
-// ---- pixel by pixel, from the p-th up to the q-th of those from a on
+// What a layer shows over a part of a row, pixel by pixel; `reach` is how many octets the first n pixels take.
+pub trait Source: Copy {
+    ghost shows: { Self → List ℕ → ℕ → List ℕ };
 
-fn mix_images(out: &mut [u8], a: usize, m: &[u8], d: &[u8], i: usize, j: usize, p: usize, q: usize)
-    requires { (p ≤ q) × ((a + q) * 4 ≤ length out.old) × (q ≤ length m.now) × (i + q * 3 + 1 ≤ length d.now) × (j + q * 3 + 1 ≤ length d.now) }
-    ensures { Coated (chosen_by (bits_from m.now a 0) (over (samples_by 3 1 d.now a i)) (over (samples_by 3 1 d.now a j))) out.old (a + p) (a + q) out.new }
-{
-    let mut x = p;
-    while x < q {
-        let low = paint_words::seen_wide(d, i + x * 3);
-        let up = paint_words::seen_wide(d, j + x * 3);
-        paint_words::put_word(out, (a + x) * 4, paint_words::either(m[x], low, up));
-        x += 1;
-    }
+    ghost reach: { Self → ℕ → ℕ };
+
+    fn at(self, d: &[u8], x: usize) -> u32
+        requires { reach self (x + 1) ≤ length d.now }
+        ensures { octets_of result ≡ shows self d.now x };
+
+    // Sixteen pixels, the x-th first.
+    fn lay(self, out: &mut [u8], t: usize, d: &[u8], x: usize)
+        requires { ((t + 16) * 4 ≤ length out.old) × (reach self (x + 16) ≤ length d.now) }
+        ensures { Coated (over (shown (shows self d.now) x t)) out.old t (t + 16) out.new };
+
+    ghost grows: { (s : Self) (m n : ℕ) → m ≤ n → reach s m ≤ reach s n };
 }
 
-fn mix_below(out: &mut [u8], a: usize, m: &[u8], d: &[u8], i: usize, w: u32, p: usize, q: usize)
-    requires { (p ≤ q) × ((a + q) * 4 ≤ length out.old) × (q ≤ length m.now) × (i + q * 3 + 1 ≤ length d.now) }
-    ensures { Coated (chosen_by (bits_from m.now a 0) (over (samples_by 3 1 d.now a i)) (over (flat (octets_of w)))) out.old (a + p) (a + q) out.new }
-{
-    let mut x = p;
-    while x < q {
-        let low = paint_words::seen_wide(d, i + x * 3);
-        paint_words::put_word(out, (a + x) * 4, paint_words::either(m[x], low, w));
-        x += 1;
+// Samples of three octets, a pixel each, the first at this place.
+#[derive(Clone, Copy)]
+pub struct Image(pub usize);
+
+impl Source for Image {
+    ghost shows = { λ s d. samples_by 3 1 d 0 s.0 };
+
+    ghost reach = { λ s n. s.0 + n * 3 + 1 };
+
+    fn at(self, d: &[u8], x: usize) -> u32 {
+        paint_words::seen_wide(d, self.0 + x * 3)
     }
+
+    fn lay(self, out: &mut [u8], t: usize, d: &[u8], x: usize) {
+        lay_block(out, t, d, self.0 + x * 3);
+    }
+
+    ghost grows = { λ s m n h. Prim.omega arith };
 }
 
-fn mix_above(out: &mut [u8], a: usize, m: &[u8], w: u32, d: &[u8], j: usize, p: usize, q: usize)
-    requires { (p ≤ q) × ((a + q) * 4 ≤ length out.old) × (q ≤ length m.now) × (j + q * 3 + 1 ≤ length d.now) }
-    ensures { Coated (chosen_by (bits_from m.now a 0) (over (flat (octets_of w))) (over (samples_by 3 1 d.now a j))) out.old (a + p) (a + q) out.new }
-{
-    let mut x = p;
-    while x < q {
-        let up = paint_words::seen_wide(d, j + x * 3);
-        paint_words::put_word(out, (a + x) * 4, paint_words::either(m[x], w, up));
-        x += 1;
+// One colour.
+#[derive(Clone, Copy)]
+pub struct Flat(pub u32);
+
+impl Source for Flat {
+    ghost shows = { λ s d. flat (octets_of s.0) };
+
+    ghost reach = { λ s n. 0 };
+
+    fn at(self, _d: &[u8], _x: usize) -> u32 {
+        self.0
     }
+
+    fn lay(self, out: &mut [u8], t: usize, _d: &[u8], _x: usize) {
+        flat_block(out, t, self.0);
+    }
+
+    ghost grows = { λ s m n h. Prim.omega arith };
 }
 
-// ---- a step from the x-th on: a block, or what is mixed, or the rest
-
-fn step_images(
+// Pixel by pixel, from the p-th up to the q-th of those from a on. The place is worked out behind both pixels: before them, masks at random take 1.18 of
+// the time.
+fn mix<L: Source, U: Source>(
     out: &mut [u8],
     a: usize,
     m: &[u8],
     d: &[u8],
-    i: usize,
-    j: usize,
-    x: usize,
-    n: usize,
-) -> usize
-    requires { (x < n) × ((a + n) * 4 ≤ length out.old) × (n ≤ length m.now) × (i + n * 3 + 1 ≤ length d.now) × (j + n * 3 + 1 ≤ length d.now) }
-    ensures { Stepped (chosen_by (bits_from m.now a 0) (over (samples_by 3 1 d.now a i)) (over (samples_by 3 1 d.now a j))) a x n out.old result out.new }
+    low: L,
+    up: U,
+    p: usize,
+    q: usize,
+)
+    requires { (p ≤ q) × ((a + q) * 4 ≤ length out.old) × (q ≤ length m.now) × (L.reach low q ≤ length d.now) × (U.reach up q ≤ length d.now) }
+    ensures { Coated (chosen_by (bits_from m.now a 0) (over (shown (L.shows low d.now) 0 a)) (over (shown (U.shows up d.now) 0 a))) out.old (a + p) (a + q) out.new }
 {
-    if n - x < BLOCK {
-        mix_images(out, a, m, d, i, j, x, n);
-        return n;
+    for x in p..q {
+        let below = low.at(d, x);
+        let above = up.at(d, x);
+        paint_words::put_word(out, (a + x) * 4, paint_words::either(m[x], below, above));
     }
-    if paint_blocks::zeros(m, x) {
-        lay_block(out, a + x, d, i + x * 3);
-        return x + BLOCK;
-    }
-    if paint_blocks::ones(m, x) {
-        lay_block(out, a + x, d, j + x * 3);
-        return x + BLOCK;
-    }
-    let e = paint_blocks::mixed_end(m, x, n);
-    mix_images(out, a, m, d, i, j, x, e);
-    e
 }
 
-fn step_below(
+// A step from the x-th on: a block, or what is mixed, or the rest.
+fn step<L: Source, U: Source>(
     out: &mut [u8],
     a: usize,
     m: &[u8],
     d: &[u8],
-    i: usize,
-    w: u32,
+    low: L,
+    up: U,
     x: usize,
     n: usize,
 ) -> usize
-    requires { (x < n) × ((a + n) * 4 ≤ length out.old) × (n ≤ length m.now) × (i + n * 3 + 1 ≤ length d.now) }
-    ensures { Stepped (chosen_by (bits_from m.now a 0) (over (samples_by 3 1 d.now a i)) (over (flat (octets_of w)))) a x n out.old result out.new }
+    requires { (x < n) × ((a + n) * 4 ≤ length out.old) × (n ≤ length m.now) × (L.reach low n ≤ length d.now) × (U.reach up n ≤ length d.now) }
+    ensures { Stepped (chosen_by (bits_from m.now a 0) (over (shown (L.shows low d.now) 0 a)) (over (shown (U.shows up d.now) 0 a))) a x n out.old result out.new }
 {
     if n - x < BLOCK {
-        mix_below(out, a, m, d, i, w, x, n);
+        mix(out, a, m, d, low, up, x, n);
         return n;
     }
     if paint_blocks::zeros(m, x) {
-        lay_block(out, a + x, d, i + x * 3);
+        low.lay(out, a + x, d, x);
         return x + BLOCK;
     }
     if paint_blocks::ones(m, x) {
-        flat_block(out, a + x, w);
+        up.lay(out, a + x, d, x);
         return x + BLOCK;
     }
     let e = paint_blocks::mixed_end(m, x, n);
-    mix_below(out, a, m, d, i, w, x, e);
+    mix(out, a, m, d, low, up, x, e);
     e
 }
 
-fn step_above(
+// n pixels from a on, whose mask's octets are those of m from the first on.
+pub fn two_layers<L: Source, U: Source>(
     out: &mut [u8],
     a: usize,
     m: &[u8],
-    w: u32,
     d: &[u8],
-    j: usize,
-    x: usize,
+    low: L,
+    up: U,
     n: usize,
-) -> usize
-    requires { (x < n) × ((a + n) * 4 ≤ length out.old) × (n ≤ length m.now) × (j + n * 3 + 1 ≤ length d.now) }
-    ensures { Stepped (chosen_by (bits_from m.now a 0) (over (flat (octets_of w))) (over (samples_by 3 1 d.now a j))) a x n out.old result out.new }
+)
+    requires { ((a + n) * 4 ≤ length out.old) × (n ≤ length m.now) × (L.reach low n ≤ length d.now) × (U.reach up n ≤ length d.now) }
+    ensures { Coated (chosen_by (bits_from m.now a 0) (over (shown (L.shows low d.now) 0 a)) (over (shown (U.shows up d.now) 0 a))) out.old a (a + n) out.new }
 {
-    if n - x < BLOCK {
-        mix_above(out, a, m, w, d, j, x, n);
-        return n;
+    let mut x = 0;
+    while x < n {
+        x = step(out, a, m, d, low, up, x, n);
     }
-    if paint_blocks::zeros(m, x) {
-        flat_block(out, a + x, w);
-        return x + BLOCK;
-    }
-    if paint_blocks::ones(m, x) {
-        lay_block(out, a + x, d, j + x * 3);
-        return x + BLOCK;
-    }
-    let e = paint_blocks::mixed_end(m, x, n);
-    mix_above(out, a, m, w, d, j, x, e);
-    e
 }
-
-// ---- n pixels from a on, whose mask's octets are those of m from the first on
 
 // The image at i below, that at j above.
 pub fn two_images(out: &mut [u8], a: usize, m: &[u8], d: &[u8], i: usize, j: usize, n: usize)
     requires { ((a + n) * 4 ≤ length out.old) × (n ≤ length m.now) × (i + n * 3 + 1 ≤ length d.now) × (j + n * 3 + 1 ≤ length d.now) }
     ensures { Coated (chosen_by (bits_from m.now a 0) (over (samples_by 3 1 d.now a i)) (over (samples_by 3 1 d.now a j))) out.old a (a + n) out.new }
 {
-    let mut x = 0;
-    while x < n {
-        x = step_images(out, a, m, d, i, j, x, n);
-    }
+    two_layers(out, a, m, d, Image(i), Image(j), n);
 }
 
 // The image at i below, one colour above.
@@ -189,10 +184,7 @@ pub fn image_below(out: &mut [u8], a: usize, m: &[u8], d: &[u8], i: usize, w: u3
     requires { ((a + n) * 4 ≤ length out.old) × (n ≤ length m.now) × (i + n * 3 + 1 ≤ length d.now) }
     ensures { Coated (chosen_by (bits_from m.now a 0) (over (samples_by 3 1 d.now a i)) (over (flat (octets_of w)))) out.old a (a + n) out.new }
 {
-    let mut x = 0;
-    while x < n {
-        x = step_below(out, a, m, d, i, w, x, n);
-    }
+    two_layers(out, a, m, d, Image(i), Flat(w), n);
 }
 
 // One colour below, the image at j above.
@@ -200,8 +192,5 @@ pub fn image_above(out: &mut [u8], a: usize, m: &[u8], w: u32, d: &[u8], j: usiz
     requires { ((a + n) * 4 ≤ length out.old) × (n ≤ length m.now) × (j + n * 3 + 1 ≤ length d.now) }
     ensures { Coated (chosen_by (bits_from m.now a 0) (over (flat (octets_of w))) (over (samples_by 3 1 d.now a j))) out.old a (a + n) out.new }
 {
-    let mut x = 0;
-    while x < n {
-        x = step_above(out, a, m, w, d, j, x, n);
-    }
+    two_layers(out, a, m, d, Flat(w), Image(j), n);
 }

@@ -9,21 +9,16 @@ use mathlib.Core.List.{List, [], ◌∷◌}
 use lib.ListN.{length}
 use lib.Dec.{ltb}
 use Rattle.octets.specs.Octets.{put_at}
-use Rattle.answers.specs.declared.Answer.{Answer}
-use Rattle.answers.specs.declared.Answer.TheVariants.{BadLine}
+use Rattle.answers.specs.Answers.{Answer}
+use Rattle.answers.specs.declared.Refusal.TheVariants.{BadLine}
 use Rattle.sheet_rules.specs.declared.Colour.{Colour}
-use Rattle.sheet_rules.specs.declared.FoundStripe.{FoundStripe}
-use Rattle.sheet_rules.specs.declared.FoundStripe.TheVariants.{Has, NoStripe}
-use Rattle.sheet_rules.specs.declared.Verdict.{Verdict}
-use Rattle.sheet_rules.specs.declared.Verdict.TheVariants.{Good}
+use Rattle.std.specs.Prelude.{Option, Some, None, Result, Ok, Err, ⊤}
+use Rattle.sheet_rules.specs.declared.Counts.{Counts}
+use Rattle.sheet_rules.specs.declared.Extent.{Extent}
 use Rattle.sheet_rules.specs.Judge.{judge_of}
 use Rattle.sheet_rules.specs.StripeTable.{find_stripe}
 use Rattle.pixel_rules.specs.declared.MainPos.{MainPos}
 use Rattle.pixel_rules.specs.declared.Plane.{Plane}
-use Rattle.picture_rules.specs.declared.ListVerdict.{ListVerdict}
-use Rattle.picture_rules.specs.declared.ListVerdict.TheVariants.{Fine}
-use Rattle.pixel_rules.specs.declared.Sample.{Sample}
-use Rattle.pixel_rules.specs.declared.Sample.TheVariants.{Known, Unknown}
 use Rattle.pixel_rules.specs.Planes.{PlaneList}
 use Rattle.pixel_rules.specs.Samples.{Scene, width_of}
 use Rattle.pixel_rules.specs.Decide.{pixel_at}
@@ -36,12 +31,12 @@ noughts = record { c0 = 0; c1 = 0; c2 = 0 }
 
 -- ---- the octets
 
-four_before : (p : Sample) → four_of noughts p ≡ base_four p
+four_before : (p : Option Colour) → four_of noughts p ≡ base_four p
 unfolding four_of base_four
-four_before (Known c) = refl
-four_before Unknown = refl
+four_before (Some c) = refl
+four_before None = refl
 
-pixels_before : (f : MainPos → Sample) (n : ℕ) → pixels noughts f n ≡ base_pixels f n
+pixels_before : (f : MainPos → Option Colour) (n : ℕ) → pixels noughts f n ≡ base_pixels f n
 unfolding pixels base_pixels
 pixels_before f zero = refl
 pixels_before f (suc n) = rw (pixels_before f n, four_before (f (record { 0 = n }))) refl
@@ -57,24 +52,24 @@ unfolding planes_judged base_planes_judged
 judged_before v part last i [] = refl
 judged_before v part last i (p ∷ ps) = rw (ok_before v last p, judged_before v part p.layer (i + 1) ps) refl
 
-plane_before : (v : Scene) (r : ListVerdict) → plane_ruling v r ≡ base_plane_ruling v r
+plane_before : (v : Scene) (r : Result ⊤ ℕ) → plane_ruling v r ≡ base_plane_ruling v r
 unfolding base_plane_ruling
-plane_before v Fine = refl
-plane_before v (ListVerdict.Refused i) = refl
+plane_before v (Ok _) = refl
+plane_before v (Err i) = refl
 
 module _ (s : List ℕ) (pl : PlaneList) (d : List ℕ) (k y : ℕ) where
-  stripe_before : (f : FoundStripe) → stripe_ruling s pl d y f ≡ base_stripe_ruling s pl d y f
+  stripe_before : (f : Option Extent) → stripe_ruling s pl d y f ≡ base_stripe_ruling s pl d y f
   unfolding stripe_ruling scene_ruling base_stripe_ruling
-  stripe_before NoStripe = refl
-  stripe_before (Has extent) =
+  stripe_before None = refl
+  stripe_before (Some extent) =
       let v : Scene = record { sheet = s; extent = extent; planes = pl.entries; samples = d } in
       ap (λ (r : Ruling). cond (ltb y extent.height) r (refused BadLine))
       (ap (plane_ruling v) (judged_before v pl.part 0 0 pl.entries) ∙ plane_before v (base_planes_judged v pl.part 0 0 pl.entries))
 
-  sheet_before : (r : Verdict) → sheet_ruling s pl d k y r ≡ base_sheet_ruling s pl d k y r
+  sheet_before : (r : Result Counts ℕ) → sheet_ruling s pl d k y r ≡ base_sheet_ruling s pl d k y r
   unfolding sheet_ruling base_sheet_ruling
-  sheet_before (Verdict.Refused i) = refl
-  sheet_before (Good n m) = stripe_before (find_stripe s k)
+  sheet_before (Err i) = refl
+  sheet_before (Ok c) = stripe_before (find_stripe s k)
 
   ruling_before : ruling_of s pl d k y ≡ base_ruling s pl d k y
   unfolding ruling_of base_ruling

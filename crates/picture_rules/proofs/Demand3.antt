@@ -13,11 +13,9 @@ use borrow.Author.Tests.{ltb-false, le-ltb}
 use Rattle.laws.proofs.Cases.{cond_with, cond_both, clash}
 use Rattle.octets.specs.Octets.{put_at}
 use Rattle.octets.proofs.Laws.{put_rest, put_length}
-use Rattle.answers.specs.declared.Answer.{Answer}
-use Rattle.answers.specs.declared.Answer.TheVariants.{Done}
+use Rattle.answers.specs.Answers.{Answer}
 use Rattle.sheet_rules.specs.declared.Colour.{Colour}
-use Rattle.pixel_rules.specs.declared.Sample.{Sample}
-use Rattle.pixel_rules.specs.declared.Sample.TheVariants.{Known, Unknown}
+use Rattle.std.specs.Prelude.{Option, Some, None, Ok}
 use Rattle.pixel_rules.specs.Planes.{PlaneList}
 use Rattle.pixel_rules.specs.Samples.{Scene, width_of}
 use Rattle.pixel_rules.specs.Content.{SeenAs}
@@ -46,9 +44,9 @@ four_tells u v y x =
       either = one (pixel_at v (at x) (at y));
     }
   where
-    one : (p : Sample) → ((c : Colour) × (four_of u p ≡ seen_in c)) ⊎ (four_of u p ≡ unseen_in u)
-    one (Known c) = inl (c, known_four u (Known c) c refl)
-    one Unknown = inr (unknown_four u Unknown refl)
+    one : (p : Option Colour) → ((c : Colour) × (four_of u p ≡ seen_in c)) ⊎ (four_of u p ≡ unseen_in u)
+    one (Some c) = inl (c, known_four u (Some c) c refl)
+    one None = inr (unknown_four u None refl)
 
 -- ---- what four octets tell
 
@@ -88,7 +86,7 @@ recoloured {u} {u'} {v} {y} {x} {four} {other} t t' = go t.either
     go (inl s) = inl (s.0, s.1, (t'.seen s.0).1 ((t.seen s.0).0 s.1))
     go (inr e) = inr (e, t'.unseen.1 (t.unseen.0 e))
 
--- ---- a call that answers Done
+-- ---- a call that answers Ok
 
 put_front : (e v : List ℕ) (n : ℕ) → length v ≡ n → take n (put_at e 0 v) ≡ v
 unfolding put_at
@@ -104,16 +102,16 @@ pub record DoneLine (s : List ℕ) (pl : PlaneList) (d : List ℕ) (k y : ℕ) (
   pub into : line_into s pl d k y u out ≡ put_at out 0 (line_pixels u (scene_of s pl d k) y)
 
 module _ (s : List ℕ) (pl : PlaneList) (d : List ℕ) (k y : ℕ) (u : Colour) (out : List ℕ) where
-  pub done_line : (n : ℕ) → line_of s pl d k y (length out) ≡ Done n → DoneLine s pl d k y u out n
+  pub done_line : (n : ℕ) → line_of s pl d k y (length out) ≡ Ok n → DoneLine s pl d k y u out n
   unfolding line_of line_answer line_into line_holds
   done_line n =
-      ruling_cases s pl d k y (λ r. ruling_of s pl d k y ≡ r → line_answer (length out) r ≡ Done n → DoneLine s pl d k y u out n)
+      ruling_cases s pl d k y (λ r. ruling_of s pl d k y ≡ r → line_answer (length out) r ≡ Ok n → DoneLine s pl d k y u out n)
       (λ i b e q. clash cc)
       (λ a b e q. clash cc)
       (λ a b i f e q. clash cc)
       (λ a b f e.
       let v : Scene = scene_of s pl d k in
-      cond_both (λ x z. line_holds u out y (shows v) ≡ z → x ≡ Done n → DoneLine s pl d k y u out n) (ltb (length out) (width_of v * 4))
+      cond_both (λ x z. line_holds u out y (shows v) ≡ z → x ≡ Ok n → DoneLine s pl d k y u out n) (ltb (length out) (width_of v * 4))
       (λ t h q. clash cc)
       (λ t h q.
       let z : width_of v * 4 ≡ n = cc in
@@ -122,13 +120,13 @@ module _ (s : List ℕ) (pl : PlaneList) (d : List ℕ) (k y : ℕ) (u : Colour)
       refl)
       refl
 
-  pub done_four : (n : ℕ) → line_of s pl d k y (length out) ≡ Done n → (x : ℕ) → x < width_of (scene_of s pl d k)
+  pub done_four : (n : ℕ) → line_of s pl d k y (length out) ≡ Ok n → (x : ℕ) → x < width_of (scene_of s pl d k)
       → four_at (line_into s pl d k y u out) x ≡ four_of u (pixel_at (scene_of s pl d k) (at x) (at y))
   done_four n q x h = ap (λ (e : List ℕ). four_at e x) (done_line n q).into ∙ put_four u (scene_of s pl d k) y out x h
 
   -- ---- the theorem
 
-  pub demand_3 : (n : ℕ) → line_of s pl d k y (length out) ≡ Done n → Shown s pl d k y u out (line_into s pl d k y u out) n
+  pub demand_3 : (n : ℕ) → line_of s pl d k y (length out) ≡ Ok n → Shown s pl d k y u out (line_into s pl d k y u out) n
   demand_3 n q =
       let b = done_line n q in
       let v : Scene = scene_of s pl d k in
@@ -148,13 +146,13 @@ module _ (s : List ℕ) (pl : PlaneList) (d : List ℕ) (k y : ℕ) (u : Colour)
       }
 
   -- a refusal changes nothing
-  pub refused_line : ((n : ℕ) → line_of s pl d k y (length out) ≡ Done n → ⊥) → line_into s pl d k y u out ≡ out
+  pub refused_line : ((n : ℕ) → line_of s pl d k y (length out) ≡ Ok n → ⊥) → line_into s pl d k y u out ≡ out
   unfolding line_of line_answer line_into line_holds
   refused_line = by (ruling_of s pl d k y)
     where
-      by : (r : Ruling) → ((n : ℕ) → line_answer (length out) r ≡ Done n → ⊥) → line_holds u out y r ≡ out
+      by : (r : Ruling) → ((n : ℕ) → line_answer (length out) r ≡ Ok n → ⊥) → line_holds u out y r ≡ out
       by (shows v) =
-          cond_both (λ x z. ((n : ℕ) → x ≡ Done n → ⊥) → z ≡ out) (ltb (length out) (width_of v * 4)) (λ t h. refl) (λ t h. absurd (h (width_of v * 4) refl))
+          cond_both (λ x z. ((n : ℕ) → x ≡ Ok n → ⊥) → z ≡ out) (ltb (length out) (width_of v * 4)) (λ t h. refl) (λ t h. absurd (h (width_of v * 4) refl))
       by (refused a) = λ h. refl
 
   -- the buffer's length stays
@@ -170,8 +168,8 @@ module _ (s : List ℕ) (pl : PlaneList) (d : List ℕ) (k y : ℕ) (u : Colour)
 
 -- ---- a line does not depend on what the buffer held, nor on how much more it holds
 
-pub line_anywhere : (s : List ℕ) (pl : PlaneList) (d : List ℕ) (k y : ℕ) (u : Colour) (out put : List ℕ) (n : ℕ) → line_of s pl d k y (length out) ≡ Done n → n ≤ length put
-    → (line_of s pl d k y (length put) ≡ Done n) × (take n (line_into s pl d k y u put) ≡ take n (line_into s pl d k y u out))
+pub line_anywhere : (s : List ℕ) (pl : PlaneList) (d : List ℕ) (k y : ℕ) (u : Colour) (out put : List ℕ) (n : ℕ) → line_of s pl d k y (length out) ≡ Ok n → n ≤ length put
+    → (line_of s pl d k y (length put) ≡ Ok n) × (take n (line_into s pl d k y u put) ≡ take n (line_into s pl d k y u out))
 unfolding line_of line_answer line_into line_holds
 line_anywhere s pl d k y u out put n q h =
     let b = done_line s pl d k y u out n q in
@@ -180,7 +178,7 @@ line_anywhere s pl d k y u out put n q h =
     let l = length_line u v y in
     let t : ltb (length put) (width_of v * 4) ≡ false = le-ltb (length put) (width_of v * 4) (omega arith) in
     let i : line_into s pl d k y u put ≡ put_at put 0 (line_pixels u v y) = ap (line_holds u put y) b.ruling ∙ simp t in (
-      ap (line_answer (length put)) b.ruling ∙ simp t (ap Done (sym m)),
+      ap (line_answer (length put)) b.ruling ∙ simp t (ap Ok (sym m)),
       ap (take n) i ∙ front put ∙ sym (ap (take n) b.into ∙ front out),
     )
   where

@@ -34,15 +34,12 @@ use Rattle.sheet_rules.specs.Sentences.{Coded}
 use Rattle.pixel_rules.specs.declared.MainPos.{MainPos}
 use Rattle.pixel_rules.specs.declared.SamplePos.{SamplePos}
 use Rattle.pixel_rules.specs.declared.Plane.{Plane}
-use Rattle.pixel_rules.specs.declared.Start.{Start}
-use Rattle.pixel_rules.specs.declared.Start.TheVariants.{From, Unread}
+use Rattle.std.specs.Prelude.{Option, Some, None, Ok, Err}
 use Rattle.pixel_rules.specs.Place.{left_of, ratio, inside, along_of, down_of}
 use Rattle.pixel_rules.specs.Planes.{PlaneList, whole_list, plane_start}
 use Rattle.pixel_rules.specs.Samples.{Scene, record_of, main_of, index_of, depth, plane_span}
 use Rattle.pixel_rules.specs.Content.{Content, CanHold, shade, three, Possible}
 use Rattle.pixel_rules.proofs.Division.{says_inside, scale_within, sample_within}
-use Rattle.picture_rules.specs.declared.ListVerdict.{ListVerdict}
-use Rattle.picture_rules.specs.declared.ListVerdict.TheVariants.{Fine}
 use Rattle.picture_rules.specs.Line.{plane_ok, planes_judged}
 use Rattle.picture_rules.specs.Sentences.{AllFine}
 use Rattle.picture_rules.specs.Demand.{Reread, AllRead}
@@ -184,9 +181,9 @@ abbrev pub behind : Scene → Content → ℕ → ℕ
 behind v w l = length v.samples + length (stacked (plane_of v w) l)
 
 -- where it starts in the samples lent, or else behind them
-abbrev start_else : Start → ℕ → ℕ
-start_else (From a) b = a
-start_else Unread b = b
+abbrev start_else : Option ℕ → ℕ → ℕ
+start_else (Some a) b = a
+start_else None b = b
 
 abbrev entry_of : Scene → Content → ℕ → Plane
 entry_of v w l = record { layer = l; start = start_else (plane_start v.planes l) (behind v w l) }
@@ -242,44 +239,44 @@ module _ (v : Scene) (w : Content) where
     entry_room : (l : ℕ) → l ≤ v.extent.layers → (entry_of v w l).start + plane_span (record_of v l) ≤ length (filled_samples v w)
     entry_room l a = by (plane_start v.planes l) refl
       where
-        by : (z : Start) → plane_start v.planes l ≡ z → start_else z (behind v w l) + plane_span (record_of v l) ≤ length (filled_samples v w)
-        by (From b) e =
+        by : (z : Option ℕ) → plane_start v.planes l ≡ z → start_else z (behind v w l) + plane_span (record_of v l) ≤ length (filled_samples v w)
+        by (Some b) e =
             let r = (start_read_lem v (whole_list v.planes) fine l b e).room in
             let n = length-append v.samples (stacked (plane_of v w) (v.extent.layers + 1)) in
             omega arith
-        by Unread e =
+        by None e =
             let m = plane_long l in
             let i = stacked_within (plane_of v w) l (v.extent.layers + 1) (omega arith) in
             let n = length-append v.samples (stacked (plane_of v w) (v.extent.layers + 1)) in
             omega arith
 
-    entries_judged : (n l last i : ℕ) → last < l → l + n ≤ v.extent.layers + 1 → planes_judged (filled v w) false last i (entries_up v w n l) ≡ Fine
+    entries_judged : (n l last i : ℕ) → last < l → l + n ≤ v.extent.layers + 1 → planes_judged (filled v w) false last i (entries_up v w n l) ≡ Ok tt
     unfolding entries_up planes_judged
     entries_judged zero l last i a b = refl
     entries_judged (suc n) l last i a b =
-        cond_with (λ (ps : List Plane). planes_judged (filled v w) false last i ps ≡ Fine) (coded (record_of v l))
+        cond_with (λ (ps : List Plane). planes_judged (filled v w) false last i ps ≡ Ok tt) (coded (record_of v l))
         (λ t.
         let c = (says_not (says_eq (record_of v l).len 0)).told t in
         let k : plane_ok (filled v w) last (entry_of v w l) ≡ true =
         (says_plane (filled v w) last (entry_of v w l)).shown (((a, omega arith), c), entry_room l (omega arith)) in
-        ap (λ (q : Bool). cond q (planes_judged (filled v w) false l (i + 1) (entries_up v w n (l + 1))) (ListVerdict.Refused i)) k
+        ap (λ (q : Bool). cond q (planes_judged (filled v w) false l (i + 1) (entries_up v w n (l + 1))) (Err i)) k
         ∙ entries_judged n (l + 1) l (i + 1) (omega arith) (omega arith))
         (λ t. entries_judged n (l + 1) last i (omega arith) (omega arith))
 
     pub filled_fine : AllFine (filled v w) (filled_list v w)
     filled_fine =
-        planes_answers (filled v w) (filled_list v w) (λ j. j ≡ Fine → AllFine (filled v w) (filled_list v w)) (λ f e. f) (λ i f e. clash cc)
+        planes_answers (filled v w) (filled_list v w) (λ j. j ≡ Ok tt → AllFine (filled v w) (filled_list v w)) (λ f e. f) (λ i f e. clash cc)
         (entries_judged v.extent.layers 1 0 0 (omega arith) (omega arith))
 
     layer_among : (l : ℕ) → 1 ≤ l → l ≤ v.extent.layers → Coded (record_of v l) → Memᴰ (entry_of v w l) (filled_list v w).entries
     layer_among l a b c = entry_among v.extent.layers 1 l a (omega arith) c
 
     -- a layer that was not read starts behind the samples lent, and the octets of a place's sample are those of the content there
-    module _ (l : ℕ) (least : 1 ≤ l) (most : l ≤ v.extent.layers) (c : Coded (record_of v l)) (e : plane_start v.planes l ≡ Unread) where
-      pub unread_start : plane_start (filled_list v w).entries l ≡ From (behind v w l)
+    module _ (l : ℕ) (least : 1 ≤ l) (most : l ≤ v.extent.layers) (c : Coded (record_of v l)) (e : plane_start v.planes l ≡ None) where
+      pub unread_start : plane_start (filled_list v w).entries l ≡ Some (behind v w l)
       unread_start =
           start_entry (filled v w) (filled_list v w) filled_fine (entry_of v w l) (layer_among l least most c)
-          ∙ ap (λ (q : Start). From (start_else q (behind v w l))) e
+          ∙ ap (λ (q : Option ℕ). Some (start_else q (behind v w l))) e
 
       pub unread_octet : (x z : MainPos) → inside (main_of v) (record_of v l) x z ≡ true → (j : ℕ) → j < depth (record_of v l)
           → get_or (filled_samples v w) (behind v w l + index_of (main_of v) (record_of v l) x z * depth (record_of v l) + j) 0

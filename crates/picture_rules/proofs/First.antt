@@ -11,21 +11,17 @@ use lib.ListN.{length, take}
 use lib.Seq.{take_all}
 use Rattle.laws.proofs.Says.{says_and, says_lt, says_le, says_true, says_else}
 use Rattle.laws.proofs.Cases.{cond_with, cond_both, clash}
-use Rattle.answers.specs.declared.Answer.{Answer}
+use Rattle.answers.specs.Answers.{Answer}
 use Rattle.sheet_rules.specs.declared.Colour.{Colour}
 use Rattle.sheet_rules.specs.declared.Extent.{Extent}
-use Rattle.sheet_rules.specs.declared.FoundStripe.{FoundStripe}
-use Rattle.sheet_rules.specs.declared.FoundStripe.TheVariants.{Has, NoStripe}
-use Rattle.sheet_rules.specs.declared.Verdict.{Verdict}
-use Rattle.sheet_rules.specs.declared.Verdict.TheVariants.{Good}
+use Rattle.std.specs.Prelude.{Option, Some, None, Result, Ok, Err, ⊤}
+use Rattle.sheet_rules.specs.declared.Counts.{Counts}
 use Rattle.sheet_rules.specs.Record.{records}
 use Rattle.sheet_rules.specs.Judge.{judge_of}
 use Rattle.sheet_rules.specs.StripeTable.{extent_of, find_stripe, layer_record}
 use Rattle.sheet_rules.proofs.Theorems.{sheet_accepted}
 use Rattle.sheet_rules.proofs.Table.{sheet_table, stripe_found_lem, stripe_missing}
 use Rattle.pixel_rules.specs.declared.Plane.{Plane}
-use Rattle.picture_rules.specs.declared.ListVerdict.{ListVerdict}
-use Rattle.picture_rules.specs.declared.ListVerdict.TheVariants.{Fine}
 use Rattle.pixel_rules.specs.Planes.{PlaneList}
 use Rattle.pixel_rules.specs.Samples.{Scene}
 use Rattle.picture_rules.specs.Line.{plane_ok, planes_judged, shows, plane_ruling, scene_ruling, stripe_ruling, sheet_ruling, ruling_of, line_answer, line_of, line_holds, line_into, Lines}
@@ -57,21 +53,21 @@ module _ (s d : List ℕ) (extent : Extent) (part : Bool) where
     judged_first zero last i ts h g = absurd (omega arith)
     judged_first (suc m) last i [] h g = refl
     judged_first (suc m) last i (t ∷ ts) h g =
-        cond_both (λ (a b : ListVerdict). a ≡ b) (plane_ok (scene ps) last t)
+        cond_both (λ (a b : Result ⊤ ℕ). a ≡ b) (plane_ok (scene ps) last t)
         (λ e. let r = ok_rises last t e in judged_first m t.layer (i + 1) ts r.1 (omega arith))
         (λ e. refl)
 
-    fine_short : (last i : ℕ) (ts : List Plane) → last ≤ extent.layers → planes_judged (scene ps) part last i ts ≡ Fine → last + length ts ≤ extent.layers
+    fine_short : (last i : ℕ) (ts : List Plane) → last ≤ extent.layers → planes_judged (scene ps) part last i ts ≡ Ok tt → last + length ts ≤ extent.layers
     unfolding planes_judged
     fine_short last i [] h = λ e. omega arith
     fine_short last i (t ∷ ts) h =
-        cond_with (λ (a : ListVerdict). a ≡ Fine → last + suc (length ts) ≤ extent.layers) (plane_ok (scene ps) last t)
+        cond_with (λ (a : Result ⊤ ℕ). a ≡ Ok tt → last + suc (length ts) ≤ extent.layers) (plane_ok (scene ps) last t)
         (λ k e. let r = ok_rises last t k in let f = fine_short t.layer (i + 1) ts r.1 e in omega arith)
         (λ k e. clash cc)
 
-  same_if : extent.layers ≤ 15 → (ps : List Plane) (j : ListVerdict) → planes_judged (scene ps) part 0 0 ps ≡ j → plane_ruling (scene (take 16 ps)) j ≡ plane_ruling (scene ps) j
-  same_if h ps Fine e = let f = fine_short ps 0 0 ps (omega arith) e in ap (λ (qs : List Plane). shows (scene qs)) (take_all 16 ps (omega arith))
-  same_if h ps (ListVerdict.Refused i) e = refl
+  same_if : extent.layers ≤ 15 → (ps : List Plane) (j : Result ⊤ ℕ) → planes_judged (scene ps) part 0 0 ps ≡ j → plane_ruling (scene (take 16 ps)) j ≡ plane_ruling (scene ps) j
+  same_if h ps (Ok tt) e = let f = fine_short ps 0 0 ps (omega arith) e in ap (λ (qs : List Plane). shows (scene qs)) (take_all 16 ps (omega arith))
+  same_if h ps (Err i) e = refl
 
   scene_first : extent.layers ≤ 15 → (ps : List Plane) → scene_ruling (scene (take 16 ps)) part ≡ scene_ruling (scene ps) part
   unfolding scene_ruling
@@ -81,11 +77,11 @@ module _ (s d : List ℕ) (extent : Extent) (part : Bool) where
 
 -- ---- a stripe of a good sheet has at most 15 layers
 
-row_in : FoundStripe → Extent → Extent
-row_in (Has r) z = r
-row_in NoStripe z = z
+row_in : Option Extent → Extent → Extent
+row_in (Some r) z = r
+row_in None z = z
 
-layers_few : (s : List ℕ) (n m k : ℕ) (extent : Extent) → judge_of s ≡ Good n m → find_stripe s k ≡ Has extent → extent.layers ≤ 15
+layers_few : (s : List ℕ) (n m k : ℕ) (extent : Extent) → judge_of s ≡ Ok (record { records = n; stripes = m }) → find_stripe s k ≡ Some extent → extent.layers ≤ 15
 unfolding row_in
 layers_few s n m k extent e f =
     ⊎_elim
@@ -93,7 +89,7 @@ layers_few s n m k extent e f =
     let g = (sheet_accepted s n m).0 e in
     let st = g.stripes in
     let c = (sheet_table (records s) g.sheet).layers k (omega arith) in
-    let q : extent ≡ extent_of k (records s) = ap (λ (x : FoundStripe). row_in x extent) (sym f ∙ stripe_found_lem s n m e k h) in
+    let q : extent ≡ extent_of k (records s) = ap (λ (x : Option Extent). row_in x extent) (sym f ∙ stripe_found_lem s n m e k h) in
     let b : extent.layers ≡ (extent_of k (records s)).layers = ap (λ (r : Extent). r.layers) q in
     omega arith)
     (λ (h : k < m → ⊥). let w = stripe_missing s n m e k (omega arith) in clash cc)
@@ -108,15 +104,15 @@ module _ (s d : List ℕ) (k y : ℕ) (ps : List Plane) (part : Bool) where
   abbrev all : PlaneList
   all = record { entries = ps; part = part }
 
-  in_stripe : (n m : ℕ) → judge_of s ≡ Good n m → (x : FoundStripe) → find_stripe s k ≡ x → stripe_ruling s first d y x ≡ stripe_ruling s all d y x
+  in_stripe : (n m : ℕ) → judge_of s ≡ Ok (record { records = n; stripes = m }) → (x : Option Extent) → find_stripe s k ≡ x → stripe_ruling s first d y x ≡ stripe_ruling s all d y x
   unfolding stripe_ruling
-  in_stripe n m e NoStripe f = refl
-  in_stripe n m e (Has extent) f = rw (scene_first s d extent part (layers_few s n m k extent e f) ps) refl
+  in_stripe n m e None f = refl
+  in_stripe n m e (Some extent) f = rw (scene_first s d extent part (layers_few s n m k extent e f) ps) refl
 
-  in_sheet : (v : Verdict) → judge_of s ≡ v → sheet_ruling s first d k y v ≡ sheet_ruling s all d k y v
+  in_sheet : (v : Result Counts ℕ) → judge_of s ≡ v → sheet_ruling s first d k y v ≡ sheet_ruling s all d k y v
   unfolding sheet_ruling
-  in_sheet (Verdict.Refused i) e = refl
-  in_sheet (Good n m) e = in_stripe n m e (find_stripe s k) refl
+  in_sheet (Err i) e = refl
+  in_sheet (Ok c) e = in_stripe c.records c.stripes e (find_stripe s k) refl
 
   pub ruling_first : ruling_of s first d k y ≡ ruling_of s all d k y
   unfolding ruling_of

@@ -12,8 +12,7 @@ use Rattle.laws.proofs.Says.{says_lt, says_else}
 use Rattle.octets.specs.Octets.{put_at}
 use Rattle.pixel_rules.specs.declared.MainPos.{MainPos}
 use Rattle.sheet_rules.specs.declared.Colour.{Colour}
-use Rattle.pixel_rules.specs.declared.Sample.{Sample}
-use Rattle.pixel_rules.specs.declared.Sample.TheVariants.{Known, Unknown}
+use Rattle.std.specs.Prelude.{Option, Some, None}
 use Rattle.pixel_rules.specs.Samples.{Scene, width_of}
 use Rattle.pixel_rules.specs.Decide.{pixel_at}
 use Rattle.picture_rules.specs.Line.{four_of, pixels, line_pixels}
@@ -21,39 +20,39 @@ use Rattle.picture_rules.specs.Demand.{four_at, seen_in, unseen_in, at}
 
 -- ---- the four octets of a decided pixel
 
-pub length_four : (u : Colour) (p : Sample) → length (four_of u p) ≡ 4
+pub length_four : (u : Colour) (p : Option Colour) → length (four_of u p) ≡ 4
 unfolding four_of
-length_four u (Known c) = refl
-length_four u Unknown = refl
+length_four u (Some c) = refl
+length_four u None = refl
 
-pub four_known : (u : Colour) (p : Sample) (c : Colour) → four_of u p ≡ seen_in c → p ≡ Known c
+pub four_known : (u : Colour) (p : Option Colour) (c : Colour) → four_of u p ≡ seen_in c → p ≡ Some c
 unfolding four_of
-four_known u (Known d) c e = ap Known (λ i. record { c0 = get_or (e i) 0 0; c1 = get_or (e i) 1 0; c2 = get_or (e i) 2 0 })
-four_known u Unknown c e = clash (ap (λ (l : List ℕ). get_or l 3 0) e)
+four_known u (Some d) c e = ap Some (λ i. record { c0 = get_or (e i) 0 0; c1 = get_or (e i) 1 0; c2 = get_or (e i) 2 0 })
+four_known u None c e = clash (ap (λ (l : List ℕ). get_or l 3 0) e)
 
-pub known_four : (u : Colour) (p : Sample) (c : Colour) → p ≡ Known c → four_of u p ≡ seen_in c
+pub known_four : (u : Colour) (p : Option Colour) (c : Colour) → p ≡ Some c → four_of u p ≡ seen_in c
 unfolding four_of
 known_four u p c e = rw e
 
-pub four_unknown : (u : Colour) (p : Sample) → four_of u p ≡ unseen_in u → p ≡ Unknown
+pub four_unknown : (u : Colour) (p : Option Colour) → four_of u p ≡ unseen_in u → p ≡ None
 unfolding four_of
-four_unknown u (Known d) e = clash (sym (ap (λ (l : List ℕ). get_or l 3 0) e))
-four_unknown u Unknown e = refl
+four_unknown u (Some d) e = clash (sym (ap (λ (l : List ℕ). get_or l 3 0) e))
+four_unknown u None e = refl
 
-pub unknown_four : (u : Colour) (p : Sample) → p ≡ Unknown → four_of u p ≡ unseen_in u
+pub unknown_four : (u : Colour) (p : Option Colour) → p ≡ None → four_of u p ≡ unseen_in u
 unfolding four_of
 unknown_four u p e = rw e
 
 -- ---- a line of them
 
-pub length_pixels : (u : Colour) (f : MainPos → Sample) (n : ℕ) → length (pixels u f n) ≡ n * 4
+pub length_pixels : (u : Colour) (f : MainPos → Option Colour) (n : ℕ) → length (pixels u f n) ≡ n * 4
 unfolding pixels
 length_pixels u f zero = refl
 length_pixels u f (suc n) =
     let l = length_pixels u f n in let m = length_four u (f (at n)) in let a = length-append (pixels u f n) (four_of u (f (at n))) in omega arith
 
 -- pixel x has the octets 4x to 4x + 3
-pub pixels_four : (u : Colour) (f : MainPos → Sample) (n x : ℕ) → x < n → four_at (pixels u f n) x ≡ four_of u (f (at x))
+pub pixels_four : (u : Colour) (f : MainPos → Option Colour) (n x : ℕ) → x < n → four_at (pixels u f n) x ≡ four_of u (f (at x))
 unfolding pixels
 pixels_four u f zero x h = absurd (omega arith)
 pixels_four u f (suc n) x h =

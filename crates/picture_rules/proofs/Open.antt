@@ -17,19 +17,15 @@ use lib.Dec.{eqb}
 use Rattle.laws.proofs.Cases.{cond_with, cond_both, clash}
 use Rattle.laws.proofs.Says.{says_and, says_true, says_not, says_eq}
 use Rattle.octets.specs.Octets.{Octets}
-use Rattle.answers.specs.declared.Answer.TheVariants.{Done}
 use Rattle.sheet_rules.specs.declared.Colour.{Colour}
 use Rattle.sheet_rules.specs.declared.Record.{Record}
 use Rattle.sheet_rules.specs.StripeTable.{layer_record}
 use Rattle.sheet_rules.specs.Judge.{coded}
 use Rattle.sheet_rules.specs.Sentences.{Coded}
 use Rattle.pixel_rules.specs.declared.MainPos.{MainPos}
-use Rattle.pixel_rules.specs.declared.Sample.{Sample}
-use Rattle.pixel_rules.specs.declared.Sample.TheVariants.{Known, Unknown}
+use Rattle.std.specs.Prelude.{Option, Some, None, Ok}
 use Rattle.pixel_rules.specs.declared.Mask.{Mask}
 use Rattle.pixel_rules.specs.declared.Mask.TheVariants.{Zero, One, Hidden}
-use Rattle.pixel_rules.specs.declared.Start.{Start}
-use Rattle.pixel_rules.specs.declared.Start.TheVariants.{From, Unread}
 use Rattle.pixel_rules.specs.Place.{inside, along_of, down_of}
 use Rattle.pixel_rules.specs.Planes.{PlaneList, whole_list, plane_start}
 use Rattle.pixel_rules.specs.Samples.{Scene, record_of, main_of, width_of, pairs_of, depth, index_of, bit_of, virtual, colour_in, grey_of, mask_read, image_read, mask_at, image_at}
@@ -56,7 +52,7 @@ pub record ReadWhole (s : List ℕ) (pl : PlaneList) (d : List ℕ) (k y room n 
   pub list : PlaneList
   pub samples : List ℕ
   pub octets : Octets d → Octets samples
-  pub done : line_of s list samples k y room ≡ Done n
+  pub done : line_of s list samples k y room ≡ Ok n
   pub again : Reread (scene_of s pl d k) (scene_of s list samples k)
   pub all : AllRead (scene_of s list samples k)
 
@@ -76,18 +72,18 @@ abbrev bit_mask : Bool → Mask
 bit_mask true = One
 bit_mask false = Zero
 
-pair_known : (b : Bool) (low up : Colour) → pair_step (bit_mask b) (Known low) (Known up) ≡ Known (cond b up low)
+pair_known : (b : Bool) (low up : Colour) → pair_step (bit_mask b) (Some low) (Some up) ≡ Some (cond b up low)
 unfolding pair_step
 pair_known true low up = refl
 pair_known false low up = refl
 
 decide_known : (t : Stack) (mask : ℕ → Bool) (image : ℕ → Colour) (n : ℕ) → ((k : ℕ) → 1 ≤ k → k ≤ n → t.mask k ≡ bit_mask (mask (k * 2)))
-    → ((k : ℕ) → k ≤ n → t.image k ≡ Known (image (k * 2 + 1))) → decide t n ≡ Known (colour_from mask image n)
+    → ((k : ℕ) → k ≤ n → t.image k ≡ Some (image (k * 2 + 1))) → decide t n ≡ Some (colour_from mask image n)
 unfolding decide colour_from
 decide_known t mask image zero m i = i 0 (omega arith)
 decide_known t mask image (suc n) m i =
     ap (λ (b : Mask). pair_step b (decide t n) (t.image (suc n))) (m (suc n) (omega arith) (omega arith))
-    ∙ ap₂ (λ (low up : Sample). pair_step (bit_mask (mask (suc n * 2))) low up)
+    ∙ ap₂ (λ (low up : Option Colour). pair_step (bit_mask (mask (suc n * 2))) low up)
     (decide_known t mask image n (λ k a b. m k a (omega arith)) (λ k a. i k (omega arith)))
     (i (suc n) (omega arith))
     ∙ pair_known (mask (suc n * 2)) (colour_from mask image n) (image (suc n * 2 + 1))
@@ -98,9 +94,9 @@ mask_filled Zero t b g h = g
 mask_filled One t b g h = g
 mask_filled Hidden t b g h = h refl
 
-image_filled : (p t : Sample) (c : Colour) → ImageGrows p t → (p ≡ Unknown → t ≡ Known c) → t ≡ Known (image_with p c)
-image_filled (Known a) t c g h = g
-image_filled Unknown t c g h = h refl
+image_filled : (p t : Option Colour) (c : Colour) → ImageGrows p t → (p ≡ None → t ≡ Some c) → t ≡ Some (image_with p c)
+image_filled (Some a) t c g h = g
+image_filled None t c g h = h refl
 
 -- ---- the octets of a content are read as its values
 
@@ -155,11 +151,11 @@ module _ (s : List ℕ) (pl : PlaneList) (d : List ℕ) (k y : ℕ) (g : Stage s
     abbrev index : ℕ
     index = index_of (main_of old) r x z
 
-    hidden_read : l % 2 ≡ 0 → Coded r → inside (main_of old) r x z ≡ true → (q : Start) → plane_start pl.entries l ≡ q → mask_read d q index ≡ Hidden
+    hidden_read : l % 2 ≡ 0 → Coded r → inside (main_of old) r x z ≡ true → (q : Option ℕ) → plane_start pl.entries l ≡ q → mask_read d q index ≡ Hidden
         → mask_read new.samples (plane_start new.planes l) index ≡ bit_mask (w.bit l (along_of (main_of old) r x) (down_of (main_of old) r z))
     unfolding mask_read
-    hidden_read even c u (From a) e h = absurd (bit_seen (get_or d (a + index) 0) h)
-    hidden_read even c u Unread e h =
+    hidden_read even c u (Some a) e h = absurd (bit_seen (get_or d (a + index) 0) h)
+    hidden_read even c u None e h =
         let b : Bool = w.bit l (along_of (main_of old) r x) (down_of (main_of old) r z) in
         let one : depth r ≡ 1 = depth_mask r (ap (λ (n : ℕ). n % 2) (stage_placed g l least most).layer ∙ even) in
         let here : behind old w l + index ≡ behind old w l + index * 1 + 0 = omega arith in
@@ -167,7 +163,7 @@ module _ (s : List ℕ) (pl : PlaneList) (d : List ℕ) (k y : ℕ) (g : Stage s
         ap (λ (i : ℕ). get_or new.samples i 0) (here ∙ ap (λ (n : ℕ). behind old w l + index * n + 0) (sym one))
         ∙ unread_octet old w fine l least most c e x z u 0 (omega arith)
         ∙ value_mask w l (along_of (main_of old) r x) (down_of (main_of old) r z) 0 even in
-        ap (λ (q : Start). mask_read new.samples q index) (unread_start old w fine l least most c e) ∙ ap bit_of octet ∙ bit_read b
+        ap (λ (q : Option ℕ). mask_read new.samples q index) (unread_start old w fine l least most c e) ∙ ap bit_of octet ∙ bit_read b
 
     mask_new : l % 2 ≡ 0 → mask_at new l x z ≡ bit_mask (mask_under old w l x z)
     unfolding mask_at layer_record virtual
@@ -182,34 +178,34 @@ module _ (s : List ℕ) (pl : PlaneList) (d : List ℕ) (k y : ℕ) (g : Stage s
         (λ u e. clash cc))
         (λ c e. absurd (virtual_seen old l e)))
 
-    unknown_read : l % 2 ≡ 1 → Coded r → inside (main_of old) r x z ≡ true → (q : Start) → plane_start pl.entries l ≡ q
-        → image_read d (depth r) q index ≡ Unknown
+    unknown_read : l % 2 ≡ 1 → Coded r → inside (main_of old) r x z ≡ true → (q : Option ℕ) → plane_start pl.entries l ≡ q
+        → image_read d (depth r) q index ≡ None
         → image_read new.samples (depth r) (plane_start new.planes l) index
-        ≡ Known (w.colour l (along_of (main_of old) r x) (down_of (main_of old) r z))
+        ≡ Some (w.colour l (along_of (main_of old) r x) (down_of (main_of old) r z))
     unfolding image_read
-    unknown_read odd c u (From a) e h = clash cc
-    unknown_read odd c u Unread e h =
+    unknown_read odd c u (Some a) e h = clash cc
+    unknown_read odd c u None e h =
         let p = along_of (main_of old) r x in
         let q = down_of (main_of old) r z in
-        ap (λ (b : Start). image_read new.samples (depth r) b index) (unread_start old w fine l least most c e)
-        ∙ ap Known
+        ap (λ (b : Option ℕ). image_read new.samples (depth r) b index) (unread_start old w fine l least most c e)
+        ∙ ap Some
         (held_read r (w.colour l p q) (can l p q) (ap (λ (n : ℕ). n % 2) (stage_placed g l least most).layer ∙ odd) new.samples
         (behind old w l + index * depth r)
         (λ j t. unread_octet old w fine l least most c e x z u j t ∙ value_image w l p q j odd))
 
-    image_new : l % 2 ≡ 1 → image_at new l x z ≡ Known (image_under old w l x z)
+    image_new : l % 2 ≡ 1 → image_at new l x z ≡ Some (image_under old w l x z)
     unfolding image_at layer_record
     image_new odd =
         let c : Colour = w.colour l (along_of (main_of old) r x) (down_of (main_of old) r z) in
         image_filled (image_at old l x z) (image_at new l x z) c
         (image_grows s k y pl (filled_list old w) d (filled_samples old w) g (filled_fine old w fine) (filled_again old w fine) x z l least most odd)
-        (cond_both (λ (p t : Sample). p ≡ Unknown → t ≡ Known c) (coded r && inside (main_of old) r x z)
+        (cond_both (λ (p t : Option Colour). p ≡ None → t ≡ Some c) (coded r && inside (main_of old) r x z)
         (λ t.
         let a = (says_and (says_true (coded r)) (says_true (inside (main_of old) r x z))).told t in
         unknown_read odd ((says_not (says_eq r.len 0)).told a.0) a.1 (plane_start pl.entries l) refl)
         (λ t e. clash cc))
 
-  pixel_new : pixel_at new x z ≡ Known (colour_under old w x z)
+  pixel_new : pixel_at new x z ≡ Some (colour_under old w x z)
   unfolding pixel_at colour_under
   pixel_new =
       let c = stage_layers g in
@@ -220,9 +216,9 @@ module _ (s : List ℕ) (pl : PlaneList) (d : List ℕ) (k y : ℕ) (g : Stage s
 -- ---- the theorem
 
 seen_once : (u c c' : Colour) → seen_in c ≡ seen_in c' → c ≡ c'
-seen_once u c c' e = let k = four_known u (Known c) c' (known_four u (Known c) c refl ∙ e) in cc
+seen_once u c c' e = let k = four_known u (Some c) c' (known_four u (Some c) c refl ∙ e) in cc
 
-module _ (s : List ℕ) (pl : PlaneList) (d : List ℕ) (k y : ℕ) (u : Colour) (out : List ℕ) (n : ℕ) (q : line_of s pl d k y (length out) ≡ Done n) (x : ℕ)
+module _ (s : List ℕ) (pl : PlaneList) (d : List ℕ) (k y : ℕ) (u : Colour) (out : List ℕ) (n : ℕ) (q : line_of s pl d k y (length out) ≡ Ok n) (x : ℕ)
     (h : x < width_of (scene_of s pl d k)) where
   abbrev v : Scene
   v = scene_of s pl d k
@@ -239,7 +235,7 @@ module _ (s : List ℕ) (pl : PlaneList) (d : List ℕ) (k y : ℕ) (u : Colour)
           samples = filled_samples v w;
           octets = filled_octets v w can;
           done =
-              (line_exactly s (filled_list v w) (filled_samples v w) k y (length out) (Done n)).1
+              (line_exactly s (filled_list v w) (filled_samples v w) k y (length out) (Ok n)).1
               (lined b.accepted b.line (filled_fine v w entries_fine) b.size b.room);
           again = filled_again v w entries_fine;
           all = filled_all v w entries_fine;

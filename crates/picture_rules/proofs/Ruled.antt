@@ -11,10 +11,9 @@ use lib.Dec.{ltb}
 use borrow.Author.Tests.{ltb-true, ltb-false}
 use Rattle.laws.proofs.Cases.{cond_with}
 use Rattle.laws.proofs.Says.{Says, says_eq, says_le, says_lt, says_and, says_not, says_else}
-use Rattle.answers.specs.declared.Answer.TheVariants.{BadSheet, BadLine, BadPlane}
-use Rattle.sheet_rules.specs.declared.FoundStripe.TheVariants.{Has}
-use Rattle.sheet_rules.specs.declared.Verdict.{Verdict}
-use Rattle.sheet_rules.specs.declared.Verdict.TheVariants.{Good}
+use Rattle.answers.specs.declared.Refusal.TheVariants.{BadSheet, BadLine, BadPlane}
+use Rattle.std.specs.Prelude.{Some, Result, Ok, Err, ⊤}
+use Rattle.sheet_rules.specs.declared.Counts.{Counts}
 use Rattle.sheet_rules.specs.Record.{records}
 use Rattle.sheet_rules.specs.Judge.{judge_of, answer_of}
 use Rattle.sheet_rules.specs.Sentences.{Coded, BadSheetAt}
@@ -22,8 +21,6 @@ use Rattle.sheet_rules.specs.StripeTable.{extent_of, find_stripe}
 use Rattle.sheet_rules.proofs.Theorems.{sheet_accepted, sheet_refused}
 use Rattle.sheet_rules.proofs.Table.{stripe_found_lem, stripe_missing}
 use Rattle.pixel_rules.specs.declared.Plane.{Plane}
-use Rattle.picture_rules.specs.declared.ListVerdict.{ListVerdict}
-use Rattle.picture_rules.specs.declared.ListVerdict.TheVariants.{Fine}
 use Rattle.pixel_rules.specs.Planes.{PlaneList}
 use Rattle.pixel_rules.specs.Samples.{Scene, record_of, plane_span}
 use Rattle.picture_rules.specs.Line.{plane_ok, planes_judged, Ruling, shows, refused, plane_ruling, scene_ruling, stripe_ruling, sheet_ruling, ruling_of}
@@ -73,15 +70,15 @@ all_more v last p ps n k f (suc j) h = later v last p ps j (f j (omega arith))
 
 -- the list is fine where every entry is and no part follows; else it is at fault at the first that is not, or at the part
 module _ (v : Scene) (part : Bool) where
-  planes_cases : (last i : ℕ) (ps : List Plane) (P : ListVerdict → Type 0)
-      → (((j : ℕ) → j < length ps → FineAt v last ps j) → part ≡ false → P Fine)
-      → ((j : ℕ) → BreaksAt v last ps j → P (ListVerdict.Refused (i + j)))
-      → (((j : ℕ) → j < length ps → FineAt v last ps j) → part ≡ true → P (ListVerdict.Refused (i + length ps)))
+  planes_cases : (last i : ℕ) (ps : List Plane) (P : Result ⊤ ℕ → Type 0)
+      → (((j : ℕ) → j < length ps → FineAt v last ps j) → part ≡ false → P (Ok tt))
+      → ((j : ℕ) → BreaksAt v last ps j → P (Err (i + j)))
+      → (((j : ℕ) → j < length ps → FineAt v last ps j) → part ≡ true → P (Err (i + length ps)))
       → P (planes_judged v part last i ps)
   unfolding planes_judged
   planes_cases last i [] P good bad stop =
       let z : i + 0 ≡ i = omega arith in
-      cond_with P part (λ t. subst (λ (n : ℕ). P (ListVerdict.Refused n)) z (stop (λ j h. absurd (omega arith)) t)) (λ t. good (λ j h. absurd (omega arith)) t)
+      cond_with P part (λ t. subst (λ (n : ℕ). P (Err n)) z (stop (λ j h. absurd (omega arith)) t)) (λ t. good (λ j h. absurd (omega arith)) t)
   planes_cases last i (p ∷ ps) P good bad stop =
       cond_with P (plane_ok v last p)
       (λ t.
@@ -91,14 +88,14 @@ module _ (v : Scene) (part : Bool) where
       (λ j b.
       let z : i + suc j ≡ i + 1 + j = omega arith in
       let w = b.within in
-      subst (λ (n : ℕ). P (ListVerdict.Refused n)) z
+      subst (λ (n : ℕ). P (Err n)) z
       (bad (suc j) (record { within = omega arith; first = all_more v last p ps j k b.first; broken = λ q. b.broken (sooner v last p ps j q) })))
       (λ f n.
       let z : i + suc (length ps) ≡ i + 1 + length ps = omega arith in
-      subst (λ (m : ℕ). P (ListVerdict.Refused m)) z (stop (all_more v last p ps (length ps) k f) n)))
+      subst (λ (m : ℕ). P (Err m)) z (stop (all_more v last p ps (length ps) k f) n)))
       (λ t.
       let z : i + 0 ≡ i = omega arith in
-      subst (λ (n : ℕ). P (ListVerdict.Refused n)) z
+      subst (λ (n : ℕ). P (Err n)) z
       (bad 0 (record { within = omega arith; first = λ j h. absurd (omega arith); broken = λ k. false≢true (sym t ∙ (says_plane v last p).shown k) })))
 
 -- ---- the same in the words of the sentences
@@ -111,18 +108,18 @@ fine_out : (v : Scene) (ps : List Plane) (i : ℕ) → FineEntry v ps i → Fine
 fine_out v ps zero k = (((k.rises, k.present), k.coded), k.within)
 fine_out v ps (suc i) k = (((k.rises, k.present), k.coded), k.within)
 
-pub planes_answers : (v : Scene) (pl : PlaneList) (P : ListVerdict → Type 0) → (AllFine v pl → P Fine) → ((i : ℕ) → PlaneAt v pl i → P (ListVerdict.Refused i))
+pub planes_answers : (v : Scene) (pl : PlaneList) (P : Result ⊤ ℕ → Type 0) → (AllFine v pl → P (Ok tt)) → ((i : ℕ) → PlaneAt v pl i → P (Err i))
     → P (planes_judged v pl.part 0 0 pl.entries)
 planes_answers v pl P good bad =
     planes_cases v pl.part 0 0 pl.entries P
     (λ f n. good (record { entries = λ i h. fine_in v pl.entries i (f i h); whole = n }))
     (λ j b.
     let z : j ≡ 0 + j = omega arith in
-    subst (λ (n : ℕ). P (ListVerdict.Refused n)) z
+    subst (λ (n : ℕ). P (Err n)) z
     (bad j (inl (record { within = b.within; before = λ i h. fine_in v pl.entries i (b.first i h); broken = λ k. b.broken (fine_out v pl.entries j k) }))))
     (λ f n.
     let z : length pl.entries ≡ 0 + length pl.entries = omega arith in
-    subst (λ (m : ℕ). P (ListVerdict.Refused m)) z (bad (length pl.entries) (inr (record { due = refl; before = λ i h. fine_in v pl.entries i (f i h); part = n }))))
+    subst (λ (m : ℕ). P (Err m)) z (bad (length pl.entries) (inr (record { due = refl; before = λ i h. fine_in v pl.entries i (f i h); part = n }))))
 
 -- one entry is at fault at most, and none where all are fine
 pub plane_once : (v : Scene) (pl : PlaneList) (i j : ℕ) → PlaneAt v pl i → PlaneAt v pl j → i ≡ j
@@ -151,7 +148,7 @@ module _ (s : List ℕ) (pl : PlaneList) (d : List ℕ) (k y : ℕ) where
   unfolding ruling_of sheet_ruling stripe_ruling scene_ruling answer_of
   ruling_cases P sheet line planes good = by (judge_of s) refl
     where
-      of_line : (n m : ℕ) → judge_of s ≡ Good n m → k < m → P (stripe_ruling s pl d y (Has (extent_of k (records s))))
+      of_line : (n m : ℕ) → judge_of s ≡ Ok (record { records = n; stripes = m }) → k < m → P (stripe_ruling s pl d y (Some (extent_of k (records s))))
       of_line n m e h =
           let a = (sheet_accepted s n m).0 e in
           let c = a.stripes in
@@ -163,7 +160,7 @@ module _ (s : List ℕ) (pl : PlaneList) (d : List ℕ) (k y : ℕ) where
           (λ i f. planes (a.sheet, a.whole) has i f))
           (λ t. let f = ltb-false y (extent_of k (records s)).height t in line (a.sheet, a.whole) (λ q. let l = q.line in omega arith))
 
-      of_stripe : (n m : ℕ) → judge_of s ≡ Good n m → P (stripe_ruling s pl d y (find_stripe s k))
+      of_stripe : (n m : ℕ) → judge_of s ≡ Ok (record { records = n; stripes = m }) → P (stripe_ruling s pl d y (find_stripe s k))
       of_stripe n m e =
           ⊎_elim (λ (h : k < m). subst (λ x. P (stripe_ruling s pl d y x)) (sym (stripe_found_lem s n m e k h)) (of_line n m e h))
           (λ (h : k < m → ⊥).
@@ -173,6 +170,6 @@ module _ (s : List ℕ) (pl : PlaneList) (d : List ℕ) (k y : ℕ) where
           (line (a.sheet, a.whole) (λ q. let l = q.stripe in omega arith)))
           (says_else (says_lt k m))
 
-      by : (x : Verdict) → judge_of s ≡ x → P (sheet_ruling s pl d k y x)
-      by (Good n m) e = of_stripe n m e
-      by (Verdict.Refused i) e = sheet i ((sheet_refused s i).0 e)
+      by : (x : Result Counts ℕ) → judge_of s ≡ x → P (sheet_ruling s pl d k y x)
+      by (Ok c) e = of_stripe c.records c.stripes e
+      by (Err i) e = sheet i ((sheet_refused s i).0 e)

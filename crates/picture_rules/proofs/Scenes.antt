@@ -13,12 +13,10 @@ use Rattle.laws.proofs.Cases.{cond_with, clash}
 use Rattle.laws.proofs.Says.{Says, says_eq, says_lt, says_or, says_else}
 use Rattle.sheet_rules.specs.declared.Record.{Record}
 use Rattle.sheet_rules.specs.declared.Extent.{Extent}
-use Rattle.sheet_rules.specs.declared.FoundStripe.{FoundStripe}
-use Rattle.sheet_rules.specs.declared.FoundStripe.TheVariants.{Has, NoStripe}
-use Rattle.sheet_rules.specs.declared.Verdict.{Verdict}
-use Rattle.sheet_rules.specs.declared.Verdict.TheVariants.{Good}
+use Rattle.std.specs.Prelude.{Option, Some, None, Result, Ok, Err, ⊤}
+use Rattle.sheet_rules.specs.declared.Counts.{Counts}
 use Rattle.sheet_rules.specs.Record.{record_at, records, nth}
-use Rattle.sheet_rules.specs.Judge.{judge_of, divides}
+use Rattle.sheet_rules.specs.Judge.{judge_of}
 use Rattle.sheet_rules.specs.Sentences.{Among, Listed, Sheet}
 use Rattle.sheet_rules.specs.StripeTable.{extent_of, find_stripe, layer_record}
 use Rattle.sheet_rules.proofs.Among.{nth_among}
@@ -27,8 +25,6 @@ use Rattle.sheet_rules.proofs.Extents.{LayerCount}
 use Rattle.sheet_rules.proofs.Theorems.{sheet_accepted}
 use Rattle.sheet_rules.proofs.Table.{sheet_table, stripe_found_lem, stripe_missing, layer_found_lem}
 use Rattle.pixel_rules.specs.Place.{ratio}
-use Rattle.picture_rules.specs.declared.ListVerdict.{ListVerdict}
-use Rattle.picture_rules.specs.declared.ListVerdict.TheVariants.{Fine}
 use Rattle.pixel_rules.specs.Planes.{PlaneList}
 use Rattle.pixel_rules.specs.Samples.{Scene, record_of, main_of, width_of}
 use Rattle.picture_rules.specs.Line.{planes_judged, shows, plane_ruling, scene_ruling, stripe_ruling, sheet_ruling, ruling_of}
@@ -37,13 +33,13 @@ use Rattle.picture_rules.specs.Line.{planes_judged, shows, plane_ruling, scene_r
 pub record Stage (s : List ℕ) (pl : PlaneList) (d : List ℕ) (k y : ℕ) (v : Scene) : Type 0 where
   pub records : ℕ
   pub stripes : ℕ
-  pub good : judge_of s ≡ Good records stripes
-  pub found : find_stripe s k ≡ Has v.extent
+  pub good : judge_of s ≡ Ok (record { records = records; stripes = stripes })
+  pub found : find_stripe s k ≡ Some v.extent
   pub line : y < v.extent.height
   pub sheet : v.sheet ≡ s
   pub planes : v.planes ≡ pl.entries
   pub samples : v.samples ≡ d
-  pub judged : planes_judged v pl.part 0 0 v.planes ≡ Fine
+  pub judged : planes_judged v pl.part 0 0 v.planes ≡ Ok tt
 
 module _ (s : List ℕ) (pl : PlaneList) (d : List ℕ) (k y : ℕ) where
   abbrev staged : Extent → Scene
@@ -53,30 +49,30 @@ module _ (s : List ℕ) (pl : PlaneList) (d : List ℕ) (k y : ℕ) where
   unfolding ruling_of sheet_ruling stripe_ruling scene_ruling
   shows_stage v = by (judge_of s) refl
     where
-      of_planes : (n m : ℕ) → judge_of s ≡ Good n m → (extent : Extent) → find_stripe s k ≡ Has extent → y < extent.height
-          → (j : ListVerdict) → planes_judged (staged extent) pl.part 0 0 pl.entries ≡ j → plane_ruling (staged extent) j ≡ shows v → Stage s pl d k y v
-      of_planes n m g extent f l Fine e q =
+      of_planes : (n m : ℕ) → judge_of s ≡ Ok (record { records = n; stripes = m }) → (extent : Extent) → find_stripe s k ≡ Some extent → y < extent.height
+          → (j : Result ⊤ ℕ) → planes_judged (staged extent) pl.part 0 0 pl.entries ≡ j → plane_ruling (staged extent) j ≡ shows v → Stage s pl d k y v
+      of_planes n m g extent f l (Ok tt) e q =
           let z : staged extent ≡ v = cc in
           subst (Stage s pl d k y) z
           (record { records = n; stripes = m; good = g; found = f; line = l; sheet = refl; planes = refl; samples = refl; judged = e })
-      of_planes n m g extent f l (ListVerdict.Refused i) e q = clash cc
+      of_planes n m g extent f l (Err i) e q = clash cc
 
-      of_stripe : (n m : ℕ) → judge_of s ≡ Good n m → (x : FoundStripe) → find_stripe s k ≡ x → stripe_ruling s pl d y x ≡ shows v → Stage s pl d k y v
-      of_stripe n m g (Has extent) f =
+      of_stripe : (n m : ℕ) → judge_of s ≡ Ok (record { records = n; stripes = m }) → (x : Option Extent) → find_stripe s k ≡ x → stripe_ruling s pl d y x ≡ shows v → Stage s pl d k y v
+      of_stripe n m g (Some extent) f =
           cond_with (λ x. x ≡ shows v → Stage s pl d k y v) (ltb y extent.height)
           (λ t q. of_planes n m g extent f (ltb-true y extent.height t) (planes_judged (staged extent) pl.part 0 0 pl.entries) refl q)
           (λ t q. clash cc)
-      of_stripe n m g NoStripe f = λ q. clash cc
+      of_stripe n m g None f = λ q. clash cc
 
-      by : (x : Verdict) → judge_of s ≡ x → sheet_ruling s pl d k y x ≡ shows v → Stage s pl d k y v
-      by (Good n m) g q = of_stripe n m g (find_stripe s k) refl q
-      by (Verdict.Refused i) g q = clash cc
+      by : (x : Result Counts ℕ) → judge_of s ≡ x → sheet_ruling s pl d k y x ≡ shows v → Stage s pl d k y v
+      by (Ok c) g q = of_stripe c.records c.stripes g (find_stripe s k) refl q
+      by (Err i) g q = clash cc
 
   pub stage_shows : (v : Scene) → Stage s pl d k y v → ruling_of s pl d k y ≡ shows v
   unfolding ruling_of sheet_ruling stripe_ruling scene_ruling
   stage_shows v g =
       let same : staged v.extent ≡ v = sym (λ i. record { sheet = g.sheet i; extent = v.extent; planes = g.planes i; samples = g.samples i }) in
-      let j : planes_judged (staged v.extent) pl.part 0 0 pl.entries ≡ Fine =
+      let j : planes_judged (staged v.extent) pl.part 0 0 pl.entries ≡ (Ok tt) =
       ap (λ (w : Scene). planes_judged w pl.part 0 0 w.planes) same ∙ g.judged in
       simp (g.good, g.found, lt-ltb y v.extent.height g.line, j) (ap shows same)
 

@@ -6,7 +6,7 @@ use mathlib.Core.Path.{◌≡◌}
 use mathlib.Core.List.{List, [], ◌∷◌, Memᴰ}
 use lib.ListN.{length}
 use Rattle.pixel_rules.specs.declared.Plane.{Plane}
-use Rattle.pixel_rules.specs.declared.Start.TheVariants.{From}
+use Rattle.std.specs.Prelude.{Some}
 use Rattle.pixel_rules.specs.Planes.{PlaneList, plane_start}
 use Rattle.pixel_rules.specs.Samples.{Scene}
 use Rattle.pixel_rules.proofs.Starts.{Rises, rises_start}
@@ -29,5 +29,5 @@ fine_last : (v : Scene) (ps : List Plane) (i : ℕ) → FineEntry v ps i → las
 fine_last v ps zero k = k.rises
 fine_last v ps (suc i) k = k.rises
 
-pub start_entry : (v : Scene) (pl : PlaneList) → AllFine v pl → (p : Plane) → Memᴰ p pl.entries → plane_start pl.entries p.layer ≡ From p.start
+pub start_entry : (v : Scene) (pl : PlaneList) → AllFine v pl → (p : Plane) → Memᴰ p pl.entries → plane_start pl.entries p.layer ≡ Some p.start
 start_entry v pl f p m = rises_start pl.entries 0 p (rises_from pl.entries 0 (λ i h. fine_last v pl.entries i (f.entries i h))) m

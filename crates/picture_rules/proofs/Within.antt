@@ -12,8 +12,7 @@ use Rattle.laws.proofs.Cases.{clash}
 use Rattle.sheet_rules.specs.Sentences.{Coded}
 use Rattle.pixel_rules.specs.declared.MainPos.{MainPos}
 use Rattle.pixel_rules.specs.declared.Plane.{Plane}
-use Rattle.picture_rules.specs.declared.ListVerdict.TheVariants.{Fine}
-use Rattle.pixel_rules.specs.declared.Start.TheVariants.{From}
+use Rattle.std.specs.Prelude.{Some, Ok}
 use Rattle.pixel_rules.specs.Place.{inside}
 use Rattle.pixel_rules.specs.Planes.{PlaneList, plane_start}
 use Rattle.pixel_rules.specs.Samples.{Scene, record_of, main_of, index_of, depth, plane_span}
@@ -41,7 +40,7 @@ pub record Read (v : Scene) (l a : ℕ) : Type 0 where
   pub coded : Coded (record_of v l)
   pub room : a + plane_span (record_of v l) ≤ length v.samples
 
-pub start_read_lem : (v : Scene) (pl : PlaneList) → AllFine v pl → (l a : ℕ) → plane_start pl.entries l ≡ From a → Read v l a
+pub start_read_lem : (v : Scene) (pl : PlaneList) → AllFine v pl → (l a : ℕ) → plane_start pl.entries l ≡ Some a → Read v l a
 start_read_lem v pl f l a e =
     let n = start_among pl.entries l a e in
     let i = among_plane pl.entries n.p n.among in
@@ -60,10 +59,10 @@ start_read_lem v pl f l a e =
 module _ {s : List ℕ} {pl : PlaneList} {d : List ℕ} {k y : ℕ} {v : Scene} (g : Stage s pl d k y v) where
   pub stage_fine : AllFine v pl
   stage_fine =
-      planes_answers v pl (λ j. j ≡ Fine → AllFine v pl) (λ f e. f) (λ i f e. clash cc)
+      planes_answers v pl (λ j. j ≡ Ok tt → AllFine v pl) (λ f e. f) (λ i f e. clash cc)
       (ap (λ (ps : List Plane). planes_judged v pl.part 0 0 ps) (sym g.planes) ∙ g.judged)
 
-  module _ (l a : ℕ) (e : plane_start v.planes l ≡ From a) (x z : MainPos) (o : inside (main_of v) (record_of v l) x z ≡ true) where
+  module _ (l a : ℕ) (e : plane_start v.planes l ≡ Some a) (x z : MainPos) (o : inside (main_of v) (record_of v l) x z ≡ true) where
     stage_read : Read v l a
     stage_read = start_read_lem v pl stage_fine l a (ap (λ (ps : List Plane). plane_start ps l) (sym g.planes) ∙ e)
 

@@ -11,22 +11,17 @@
 --   base_of            what the call answered: after those NoRoom
 --   base_into          what the buffer held afterwards
 --   BaseLines         the call's promise
-use Rattle.std.specs.Prelude.{ℕ, zero, suc, ◌+◌, ◌*◌, ◌≡◌, Bool, ◌&&◌, cond, List, [], ◌∷◌, ◌++◌, length, leb, ltb}
+use Rattle.std.specs.Prelude.{ℕ, zero, suc, ◌+◌, ◌*◌, ◌≡◌, Bool, ◌&&◌, cond, List, [], ◌∷◌, ◌++◌, length, leb, ltb, Option, Some, None, Result, Ok, Err, ⊤}
 use Rattle.octets.specs.Octets.{put_at}
-use Rattle.answers.specs.declared.Answer.{Answer}
-use Rattle.answers.specs.declared.Answer.TheVariants.{Done, NoRoom, BadPlane, BadLine}
-use Rattle.sheet_rules.specs.declared.FoundStripe.{FoundStripe}
-use Rattle.sheet_rules.specs.declared.FoundStripe.TheVariants.{Has, NoStripe}
-use Rattle.sheet_rules.specs.declared.Verdict.{Verdict}
-use Rattle.sheet_rules.specs.declared.Verdict.TheVariants.{Good}
-use Rattle.sheet_rules.specs.Judge.{coded, judge_of, answer_of}
+use Rattle.answers.specs.Answers.{Answer}
+use Rattle.answers.specs.declared.Refusal.TheVariants.{NoRoom, BadSheet, BadPlane, BadLine}
+use Rattle.sheet_rules.specs.declared.Colour.{Colour}
+use Rattle.sheet_rules.specs.declared.Counts.{Counts}
+use Rattle.sheet_rules.specs.declared.Extent.{Extent}
+use Rattle.sheet_rules.specs.Judge.{coded, judge_of}
 use Rattle.sheet_rules.specs.StripeTable.{find_stripe}
 use Rattle.pixel_rules.specs.declared.MainPos.{MainPos}
 use Rattle.pixel_rules.specs.declared.Plane.{Plane}
-use Rattle.picture_rules.specs.declared.ListVerdict.{ListVerdict}
-use Rattle.picture_rules.specs.declared.ListVerdict.TheVariants.{Fine}
-use Rattle.pixel_rules.specs.declared.Sample.{Sample}
-use Rattle.pixel_rules.specs.declared.Sample.TheVariants.{Known, Unknown}
 use Rattle.pixel_rules.specs.Planes.{PlaneList}
 use Rattle.pixel_rules.specs.Samples.{Scene, record_of, width_of, plane_span}
 use Rattle.pixel_rules.specs.Decide.{pixel_at}
@@ -34,11 +29,11 @@ use Rattle.picture_rules.specs.Line.{Ruling, shows, refused}
 
 -- ---- the octets
 
-unfoldable pub base_four : Sample → List ℕ
-base_four (Known c) = c.c0 ∷ c.c1 ∷ c.c2 ∷ 1 ∷ []
-base_four Unknown = 0 ∷ 0 ∷ 0 ∷ 0 ∷ []
+unfoldable pub base_four : Option Colour → List ℕ
+base_four (Some c) = c.c0 ∷ c.c1 ∷ c.c2 ∷ 1 ∷ []
+base_four None = 0 ∷ 0 ∷ 0 ∷ 0 ∷ []
 
-unfoldable pub base_pixels : (MainPos → Sample) → ℕ → List ℕ
+unfoldable pub base_pixels : (MainPos → Option Colour) → ℕ → List ℕ
 unfolding base_four
 base_pixels f zero = []
 base_pixels f (suc x) = base_pixels f x ++ base_four (f (record { 0 = x }))
@@ -51,26 +46,26 @@ base_plane_ok v last p =
     && coded (record_of v p.layer)
     && leb (p.start + plane_span (record_of v p.layer)) (length v.samples)
 
-unfoldable pub base_planes_judged : Scene → Bool → ℕ → ℕ → List Plane → ListVerdict
+unfoldable pub base_planes_judged : Scene → Bool → ℕ → ℕ → List Plane → Result ⊤ ℕ
 unfolding base_plane_ok
-base_planes_judged v part last i [] = cond part (ListVerdict.Refused i) Fine
-base_planes_judged v part last i (p ∷ ps) = cond (base_plane_ok v last p) (base_planes_judged v part p.layer (i + 1) ps) (ListVerdict.Refused i)
+base_planes_judged v part last i [] = cond part (Err i) (Ok tt)
+base_planes_judged v part last i (p ∷ ps) = cond (base_plane_ok v last p) (base_planes_judged v part p.layer (i + 1) ps) (Err i)
 
-unfoldable pub base_plane_ruling : Scene → ListVerdict → Ruling
-base_plane_ruling v Fine = shows v
-base_plane_ruling v (ListVerdict.Refused i) = refused (BadPlane i)
+unfoldable pub base_plane_ruling : Scene → Result ⊤ ℕ → Ruling
+base_plane_ruling v (Ok _) = shows v
+base_plane_ruling v (Err i) = refused (BadPlane i)
 
-unfoldable pub base_stripe_ruling : List ℕ → PlaneList → List ℕ → ℕ → FoundStripe → Ruling
+unfoldable pub base_stripe_ruling : List ℕ → PlaneList → List ℕ → ℕ → Option Extent → Ruling
 unfolding base_planes_judged base_plane_ruling
-base_stripe_ruling s pl d y NoStripe = refused BadLine
-base_stripe_ruling s pl d y (Has extent) =
+base_stripe_ruling s pl d y None = refused BadLine
+base_stripe_ruling s pl d y (Some extent) =
     let v : Scene = record { sheet = s; extent = extent; planes = pl.entries; samples = d } in
     cond (ltb y extent.height) (base_plane_ruling v (base_planes_judged v pl.part 0 0 pl.entries)) (refused BadLine)
 
-unfoldable pub base_sheet_ruling : List ℕ → PlaneList → List ℕ → ℕ → ℕ → Verdict → Ruling
+unfoldable pub base_sheet_ruling : List ℕ → PlaneList → List ℕ → ℕ → ℕ → Result Counts ℕ → Ruling
 unfolding base_stripe_ruling
-base_sheet_ruling s pl d k y (Verdict.Refused i) = refused (answer_of (Verdict.Refused i))
-base_sheet_ruling s pl d k y (Good n m) = base_stripe_ruling s pl d y (find_stripe s k)
+base_sheet_ruling s pl d k y (Err i) = refused (BadSheet i)
+base_sheet_ruling s pl d k y (Ok c) = base_stripe_ruling s pl d y (find_stripe s k)
 
 unfoldable pub base_ruling : List ℕ → PlaneList → List ℕ → ℕ → ℕ → Ruling
 unfolding base_sheet_ruling
@@ -79,8 +74,8 @@ base_ruling s pl d k y = base_sheet_ruling s pl d k y (judge_of s)
 -- ---- the call
 
 unfoldable pub base_answer : ℕ → Ruling → Answer
-base_answer room (shows v) = cond (ltb room (width_of v * 4)) NoRoom (Done (width_of v * 4))
-base_answer room (refused a) = a
+base_answer room (shows v) = cond (ltb room (width_of v * 4)) (Err NoRoom) (Ok (width_of v * 4))
+base_answer room (refused r) = Err r
 
 unfoldable pub base_holds : List ℕ → ℕ → Ruling → List ℕ
 unfolding base_pixels pixel_at

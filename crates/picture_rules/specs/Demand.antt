@@ -5,7 +5,7 @@
 --   unseen_in u         the unseen colour, and 0
 --   at x               the place x along a line, or down a stripe
 --   Tells u v y x four   the four octets are what is seen of pixel x of line y: a colour if every possible content gives it, and else none
---   Shown ..           what a call that answers Done n was lent, and what it leaves: each pixel of the line, and the octets past it
+--   Shown ..           what a call that answers Ok n was lent, and what it leaves: each pixel of the line, and the octets past it
 --   Reread v w         all that was read in v was read in w, the same
 --   AllRead v          every coded layer of the stripe was read
 use Rattle.std.specs.Prelude.{ℕ, ◌+◌, ◌*◌, ◌<◌, ◌≤◌, ◌≡◌, ◌↔◌, ◌⊎◌, length, get_or, take, drop}
@@ -40,7 +40,7 @@ pub record Tells (u : Colour) (v : Scene) (y x : ℕ) (four : List ℕ) : Type 0
   -- and there is no third
   pub either : ((c : Colour) × (four ≡ seen_in c)) ⊎ (four ≡ unseen_in u)
 
--- the call answered Done n; the buffer was `out` and is `e`
+-- the call answered Ok n; the buffer was `out` and is `e`
 pub record Shown (s : List ℕ) (pl : PlaneList) (d : List ℕ) (k y : ℕ) (u : Colour) (out e : List ℕ) (n : ℕ) : Type 0 where
   -- a sheet with this line, and a plane list without fault
   pub accepted : Accepted s

@@ -12,23 +12,18 @@
 --   line_of             what the call answers, where the buffer holds so many octets: after those NoRoom
 --   line_into           what the buffer holds afterwards
 --   Lines              the call's promise: it answers a, and the buffer is then e
-use Rattle.std.specs.Prelude.{ℕ, zero, suc, ◌+◌, ◌*◌, ◌≡◌, Bool, ◌&&◌, cond, List, [], ◌∷◌, ◌++◌, length, leb, ltb}
+use Rattle.std.specs.Prelude.{ℕ, zero, suc, ◌+◌, ◌*◌, ◌≡◌, Bool, ◌&&◌, cond, List, [], ◌∷◌, ◌++◌, length, leb, ltb, Option, Some, None, Result, Ok, Err, ⊤}
 use Rattle.octets.specs.Octets.{put_at}
-use Rattle.answers.specs.declared.Answer.{Answer}
-use Rattle.answers.specs.declared.Answer.TheVariants.{Done, NoRoom, BadPlane, BadLine}
-use Rattle.sheet_rules.specs.declared.FoundStripe.{FoundStripe}
-use Rattle.sheet_rules.specs.declared.FoundStripe.TheVariants.{Has, NoStripe}
-use Rattle.sheet_rules.specs.declared.Verdict.{Verdict}
-use Rattle.sheet_rules.specs.declared.Verdict.TheVariants.{Good}
-use Rattle.sheet_rules.specs.Judge.{coded, judge_of, answer_of}
+use Rattle.answers.specs.Answers.{Answer}
+use Rattle.answers.specs.declared.Refusal.{Refusal}
+use Rattle.answers.specs.declared.Refusal.TheVariants.{NoRoom, BadSheet, BadPlane, BadLine}
+use Rattle.sheet_rules.specs.declared.Counts.{Counts}
+use Rattle.sheet_rules.specs.declared.Extent.{Extent}
+use Rattle.sheet_rules.specs.Judge.{coded, judge_of}
 use Rattle.sheet_rules.specs.StripeTable.{find_stripe}
 use Rattle.pixel_rules.specs.declared.MainPos.{MainPos}
 use Rattle.pixel_rules.specs.declared.Plane.{Plane}
-use Rattle.picture_rules.specs.declared.ListVerdict.{ListVerdict}
-use Rattle.picture_rules.specs.declared.ListVerdict.TheVariants.{Fine}
 use Rattle.sheet_rules.specs.declared.Colour.{Colour}
-use Rattle.pixel_rules.specs.declared.Sample.{Sample}
-use Rattle.pixel_rules.specs.declared.Sample.TheVariants.{Known, Unknown}
 use Rattle.pixel_rules.specs.Planes.{PlaneList}
 use Rattle.pixel_rules.specs.Samples.{Scene, record_of, width_of, plane_span}
 use Rattle.pixel_rules.specs.Decide.{pixel_at}
@@ -39,11 +34,11 @@ abbrev pub unseen_grey : Colour
 unseen_grey = record { c0 = 128; c1 = 128; c2 = 96 }
 
 -- the colour and 1 for seen, or the unseen colour and 0
-unfoldable pub four_of : Colour → Sample → List ℕ
-four_of u (Known c) = c.c0 ∷ c.c1 ∷ c.c2 ∷ 1 ∷ []
-four_of u Unknown = u.c0 ∷ u.c1 ∷ u.c2 ∷ 0 ∷ []
+unfoldable pub four_of : Colour → Option Colour → List ℕ
+four_of u (Some c) = c.c0 ∷ c.c1 ∷ c.c2 ∷ 1 ∷ []
+four_of u None = u.c0 ∷ u.c1 ∷ u.c2 ∷ 0 ∷ []
 
-unfoldable pub pixels : Colour → (MainPos → Sample) → ℕ → List ℕ
+unfoldable pub pixels : Colour → (MainPos → Option Colour) → ℕ → List ℕ
 unfolding four_of
 pixels u f zero = []
 pixels u f (suc x) = pixels u f x ++ four_of u (f (record { 0 = x }))
@@ -63,38 +58,38 @@ plane_ok v last p =
     && leb (p.start + plane_span (record_of v p.layer)) (length v.samples)
 
 -- entry i on, after an entry of layer `last`
-unfoldable pub planes_judged : Scene → Bool → ℕ → ℕ → List Plane → ListVerdict
+unfoldable pub planes_judged : Scene → Bool → ℕ → ℕ → List Plane → Result ⊤ ℕ
 unfolding plane_ok
-planes_judged v part last i [] = cond part (ListVerdict.Refused i) Fine
-planes_judged v part last i (p ∷ ps) = cond (plane_ok v last p) (planes_judged v part p.layer (i + 1) ps) (ListVerdict.Refused i)
+planes_judged v part last i [] = cond part (Err i) (Ok tt)
+planes_judged v part last i (p ∷ ps) = cond (plane_ok v last p) (planes_judged v part p.layer (i + 1) ps) (Err i)
 
 -- ---- the call
 
 pub data Ruling : Type 0 where
   shows : Scene → Ruling
-  refused : Answer → Ruling
+  refused : Refusal → Ruling
 
-abbrev pub plane_ruling : Scene → ListVerdict → Ruling
-plane_ruling v Fine = shows v
-plane_ruling v (ListVerdict.Refused i) = refused (BadPlane i)
+abbrev pub plane_ruling : Scene → Result ⊤ ℕ → Ruling
+plane_ruling v (Ok _) = shows v
+plane_ruling v (Err i) = refused (BadPlane i)
 
 -- no layer is listed before the first entry
 unfoldable pub scene_ruling : Scene → Bool → Ruling
 unfolding planes_judged
 scene_ruling v part = plane_ruling v (planes_judged v part 0 0 v.planes)
 
-unfoldable pub stripe_ruling : List ℕ → PlaneList → List ℕ → ℕ → FoundStripe → Ruling
+unfoldable pub stripe_ruling : List ℕ → PlaneList → List ℕ → ℕ → Option Extent → Ruling
 unfolding scene_ruling
-stripe_ruling s pl d y NoStripe = refused BadLine
-stripe_ruling s pl d y (Has extent) =
+stripe_ruling s pl d y None = refused BadLine
+stripe_ruling s pl d y (Some extent) =
     cond (ltb y extent.height)
     (scene_ruling (record { sheet = s; extent = extent; planes = pl.entries; samples = d }) pl.part)
     (refused BadLine)
 
-unfoldable pub sheet_ruling : List ℕ → PlaneList → List ℕ → ℕ → ℕ → Verdict → Ruling
+unfoldable pub sheet_ruling : List ℕ → PlaneList → List ℕ → ℕ → ℕ → Result Counts ℕ → Ruling
 unfolding stripe_ruling
-sheet_ruling s pl d k y (Verdict.Refused i) = refused (answer_of (Verdict.Refused i))
-sheet_ruling s pl d k y (Good n m) = stripe_ruling s pl d y (find_stripe s k)
+sheet_ruling s pl d k y (Err i) = refused (BadSheet i)
+sheet_ruling s pl d k y (Ok c) = stripe_ruling s pl d y (find_stripe s k)
 
 -- line y of stripe k
 unfoldable pub ruling_of : List ℕ → PlaneList → List ℕ → ℕ → ℕ → Ruling
@@ -103,8 +98,8 @@ ruling_of s pl d k y = sheet_ruling s pl d k y (judge_of s)
 
 -- four octets a pixel
 unfoldable pub line_answer : ℕ → Ruling → Answer
-line_answer room (shows v) = cond (ltb room (width_of v * 4)) NoRoom (Done (width_of v * 4))
-line_answer room (refused a) = a
+line_answer room (shows v) = cond (ltb room (width_of v * 4)) (Err NoRoom) (Ok (width_of v * 4))
+line_answer room (refused r) = Err r
 
 unfoldable pub line_of : List ℕ → PlaneList → List ℕ → ℕ → ℕ → ℕ → Answer
 unfolding ruling_of line_answer

@@ -8,9 +8,9 @@
 --   PlaneAt v pl i      the entry at fault: the first that is not fine, or a part entry after fine ones
 --   AllFine v pl        no entry is at fault
 --   Gives .. room a     the call answers a, where the buffer holds so many octets
-use Rattle.std.specs.Prelude.{ℕ, zero, suc, ◌+◌, ◌*◌, ◌≤◌, ◌<◌, ◌≡◌, ◌⊎◌, true, false, List, length, get_or}
-use Rattle.answers.specs.declared.Answer.{Answer}
-use Rattle.answers.specs.declared.Answer.TheVariants.{Done, NoRoom, BadSheet, BadPlane, BadLine}
+use Rattle.std.specs.Prelude.{ℕ, zero, suc, ◌+◌, ◌*◌, ◌≤◌, ◌<◌, ◌≡◌, ◌⊎◌, true, false, List, length, get_or, Ok, Err}
+use Rattle.answers.specs.Answers.{Answer}
+use Rattle.answers.specs.declared.Refusal.TheVariants.{NoRoom, BadSheet, BadPlane, BadLine}
 use Rattle.sheet_rules.specs.Record.{records}
 use Rattle.sheet_rules.specs.Sentences.{Coded, stripe_count, Accepted, BadSheetAt}
 use Rattle.sheet_rules.specs.StripeTable.{extent_of}
@@ -64,9 +64,9 @@ PlaneAt v pl i = PlaneBreaks v pl.entries i ⊎ PlaneStops v pl i
 
 -- one line for each answer that a line call gives; it gives no other
 pub data Gives (s : List ℕ) (pl : PlaneList) (d : List ℕ) (k y room : ℕ) : Answer → Type 0 where
-  no_sheet : {i : ℕ} → BadSheetAt s i → Gives s pl d k y room (BadSheet i)
-  no_line : Accepted s → (HasLine s k y → ⊥) → Gives s pl d k y room BadLine
-  no_plane_lem : {i : ℕ} → Accepted s → HasLine s k y → PlaneAt (scene_of s pl d k) pl i → Gives s pl d k y room (BadPlane i)
-  no_room : Accepted s → HasLine s k y → AllFine (scene_of s pl d k) pl → room < width_of (scene_of s pl d k) * 4 → Gives s pl d k y room NoRoom
+  no_sheet : {i : ℕ} → BadSheetAt s i → Gives s pl d k y room (Err (BadSheet i))
+  no_line : Accepted s → (HasLine s k y → ⊥) → Gives s pl d k y room (Err BadLine)
+  no_plane_lem : {i : ℕ} → Accepted s → HasLine s k y → PlaneAt (scene_of s pl d k) pl i → Gives s pl d k y room (Err (BadPlane i))
+  no_room : Accepted s → HasLine s k y → AllFine (scene_of s pl d k) pl → room < width_of (scene_of s pl d k) * 4 → Gives s pl d k y room (Err NoRoom)
   lined : {n : ℕ} → Accepted s → HasLine s k y → AllFine (scene_of s pl d k) pl → n ≡ width_of (scene_of s pl d k) * 4 → n ≤ room
-      → Gives s pl d k y room (Done n)
+      → Gives s pl d k y room (Ok n)

@@ -1,9 +1,2 @@
 // A line of the picture: what the call of a line answers. Its definitions stand in specs/, the theorems about them in proofs/.
 #![tactic(auto)]
-
-// A plane list judged: fine, or the entry at fault.
-#[derive(Clone, Copy)]
-pub enum ListVerdict {
-    Fine,
-    Refused(u32),
-}

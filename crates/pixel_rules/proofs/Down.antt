@@ -9,8 +9,7 @@ use Rattle.laws.proofs.Cases.{clash}
 use Rattle.laws.proofs.Says.{says_eq, says_else}
 use Rattle.sheet_rules.specs.declared.Colour.{Colour}
 use Rattle.pixel_rules.specs.declared.MainPos.{MainPos}
-use Rattle.pixel_rules.specs.declared.Sample.{Sample}
-use Rattle.pixel_rules.specs.declared.Sample.TheVariants.{Known, Unknown}
+use Rattle.std.specs.Prelude.{Option, Some, None}
 use Rattle.pixel_rules.specs.declared.Mask.{Mask}
 use Rattle.pixel_rules.specs.declared.Mask.TheVariants.{Zero, One, Hidden}
 use Rattle.pixel_rules.specs.Samples.{Scene, pairs_of}
@@ -22,7 +21,7 @@ use Rattle.pixel_rules.proofs.Seen.{seen_known_as}
 
 -- ---- the same pixel
 
-pair_down : (m : Mask) (image : ℕ → Sample) (j : ℕ) (w : Way) → all_agree image (passing m j w) ≡ pair_step m (all_agree image w) (image j)
+pair_down : (m : Mask) (image : ℕ → Option Colour) (j : ℕ) (w : Way) → all_agree image (passing m j w) ≡ pair_step m (all_agree image w) (image j)
 unfolding all_agree passing pair_step
 pair_down Zero image j w = refl
 pair_down One image j w = refl
@@ -33,7 +32,7 @@ unfolding down
 down_is_decide s zero = sym (decide_none s)
 down_is_decide s (suc n) =
     pair_down (s.mask (suc n)) s.image (suc n) (candidates s.mask n)
-    ∙ ap (λ (low : Sample). pair_step (s.mask (suc n)) low (s.image (suc n))) (down_is_decide s n) ∙ sym (decide_highest s n)
+    ∙ ap (λ (low : Option Colour). pair_step (s.mask (suc n)) low (s.image (suc n))) (down_is_decide s n) ∙ sym (decide_highest s n)
 
 -- ---- the candidates are the image layers that may show
 
@@ -80,20 +79,20 @@ candidates_told mask (suc n) j = among_pair mask n j (mask (suc n)) (candidates 
 
 -- ---- known exactly if all that may show are known in one colour
 
-left_known : (p q : Sample) (c : Colour) → agree p q ≡ Known c → p ≡ Known c
+left_known : (p q : Option Colour) (c : Colour) → agree p q ≡ Some c → p ≡ Some c
 unfolding agree
-left_known (Known d) (Known e) c h = go (same_colour d e) h
+left_known (Some d) (Some e) c h = go (same_colour d e) h
   where
-    go : (b : Bool) → cond b (Known d) Unknown ≡ Known c → Known d ≡ Known c
+    go : (b : Bool) → cond b (Some d) None ≡ Some c → Some d ≡ Some c
     go true k = k
     go false k = clash cc
-left_known (Known d) Unknown c h = clash cc
-left_known Unknown q c h = clash cc
+left_known (Some d) None c h = clash cc
+left_known None q c h = clash cc
 
-both_known : (p q : Sample) (c : Colour) → agree p q ≡ Known c ↔ (p ≡ Known c) × (q ≡ Known c)
-both_known p q c = (λ e. (left_known p q c e, left_known q p c (agree_comm q p ∙ e)), λ h. rw (h.0, h.1) (agree_self (Known c)))
+both_known : (p q : Option Colour) (c : Colour) → agree p q ≡ Some c ↔ (p ≡ Some c) × (q ≡ Some c)
+both_known p q c = (λ e. (left_known p q c e, left_known q p c (agree_comm q p ∙ e)), λ h. rw (h.0, h.1) (agree_self (Some c)))
 
-pub all_known : (image : ℕ → Sample) (w : Way) (c : Colour) → all_agree image w ≡ Known c ↔ ((j : ℕ) → Among j w → image j ≡ Known c)
+pub all_known : (image : ℕ → Option Colour) (w : Way) (c : Colour) → all_agree image w ≡ Some c ↔ ((j : ℕ) → Among j w → image j ≡ Some c)
 unfolding all_agree Among
 all_known image (last i) c = (λ e j a. ap image a ∙ e, λ h. h i refl)
 all_known image (more i w) c = (
@@ -101,7 +100,7 @@ all_known image (more i w) c = (
   λ h. (both_known (image i) (all_agree image w) c).1 (h i (inl refl), (all_known image w c).1 (λ j a. h j (inr a))),
 )
 
-pub decide_told : (s : Stack) (n : ℕ) (c : Colour) → decide s n ≡ Known c ↔ ((j : ℕ) → MayShow s.mask n j → s.image j ≡ Known c)
+pub decide_told : (s : Stack) (n : ℕ) (c : Colour) → decide s n ≡ Some c ↔ ((j : ℕ) → MayShow s.mask n j → s.image j ≡ Some c)
 unfolding down
 decide_told s n c = (
   λ e j h. (all_known s.image (candidates s.mask n) c).0 (down_is_decide s n ∙ e) j ((candidates_told s.mask n j).1 h),
@@ -110,7 +109,7 @@ decide_told s n c = (
 
 -- ---- demand 3 from the highest pair down
 
-pub down_seen : (v : Scene) (x y : MainPos) (c : Colour) → down (stack_at v x y) (pairs_of v) ≡ Known c ↔ SeenAs v x y c
+pub down_seen : (v : Scene) (x y : MainPos) (c : Colour) → down (stack_at v x y) (pairs_of v) ≡ Some c ↔ SeenAs v x y c
 unfolding pixel_at
 down_seen v x y c = (
   λ e. (seen_known_as v x y c).0 (sym (down_is_decide (stack_at v x y) (pairs_of v)) ∙ e),

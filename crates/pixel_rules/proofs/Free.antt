@@ -15,7 +15,7 @@ use Rattle.sheet_rules.specs.declared.Colour.{Colour}
 use Rattle.sheet_rules.specs.Sentences.{Coded}
 use Rattle.pixel_rules.specs.declared.MainPos.{MainPos}
 use Rattle.pixel_rules.specs.declared.SamplePos.{SamplePos}
-use Rattle.pixel_rules.specs.declared.Start.TheVariants.{Unread}
+use Rattle.std.specs.Prelude.{None}
 use Rattle.pixel_rules.specs.Place.{scale, inside}
 use Rattle.pixel_rules.specs.Planes.{plane_start}
 use Rattle.pixel_rules.specs.Samples.{Scene, record_of, main_of}
@@ -91,7 +91,7 @@ module _ (v : Scene) (w : Content) (ok : Possible v w) (l : ℕ) (i j : SamplePo
 -- ---- at a place of an unread layer's area: the content at the place's sample (i, j), which is told in numbers
 
 module _ (v : Scene) (w : Content) (l : ℕ) (x y : MainPos) (h : Coded (record_of v l)) (o : inside (main_of v) (record_of v l) x y ≡ true)
-    (e : plane_start v.planes l ≡ Unread) where
+    (e : plane_start v.planes l ≡ None) where
   module _ (i j : SamplePos) (along : i.0 ≡ (x.0 - (record_of v l).x) / (main_of v / (record_of v l).res))
       (down : j.0 ≡ (y.0 - (record_of v l).y) / (main_of v / (record_of v l).res)) where
     pub image_open : image_under v w l x y ≡ w.colour l i j

@@ -7,8 +7,7 @@ use borrow.Author.Tests.{eq-eqb}
 use Rattle.laws.proofs.Cases.{clash}
 use Rattle.laws.proofs.Says.{Says, says_eq, says_and}
 use Rattle.sheet_rules.specs.declared.Colour.{Colour}
-use Rattle.pixel_rules.specs.declared.Sample.{Sample}
-use Rattle.pixel_rules.specs.declared.Sample.TheVariants.{Known, Unknown}
+use Rattle.std.specs.Prelude.{Option, Some, None}
 use Rattle.pixel_rules.specs.declared.Mask.TheVariants.{Zero, One, Hidden}
 use Rattle.pixel_rules.specs.Decide.{same_colour, agree, pair_step, Stack, decide}
 
@@ -33,69 +32,69 @@ says_same c d = record { told = same_true c d; shown = λ p. ap (same_colour c) 
 
 -- ---- what two samples agree on
 
-pub agree_self : (s : Sample) → agree s s ≡ s
+pub agree_self : (s : Option Colour) → agree s s ≡ s
 unfolding agree
-agree_self (Known c) = simp (same_self c)
-agree_self Unknown = refl
+agree_self (Some c) = simp (same_self c)
+agree_self None = refl
 
-pub agree_unknown : (s : Sample) → agree s Unknown ≡ Unknown
+pub agree_unknown : (s : Option Colour) → agree s None ≡ None
 unfolding agree
-agree_unknown (Known c) = refl
-agree_unknown Unknown = refl
+agree_unknown (Some c) = refl
+agree_unknown None = refl
 
-pub agree_differ : (c d : Colour) → (c ≡ d → ⊥) → agree (Known c) (Known d) ≡ Unknown
+pub agree_differ : (c d : Colour) → (c ≡ d → ⊥) → agree (Some c) (Some d) ≡ None
 unfolding agree
 agree_differ c d h = go (same_colour c d) refl
   where
-    go : (b : Bool) → same_colour c d ≡ b → cond b (Known c) Unknown ≡ Unknown
+    go : (b : Bool) → same_colour c d ≡ b → cond b (Some c) None ≡ None
     go true e = absurd (h (same_true c d e))
     go false e = refl
 
-pub agree_comm : (s t : Sample) → agree s t ≡ agree t s
+pub agree_comm : (s t : Option Colour) → agree s t ≡ agree t s
 unfolding agree
-agree_comm (Known c) (Known d) = go (same_colour c d) refl
+agree_comm (Some c) (Some d) = go (same_colour c d) refl
   where
-    go : (b : Bool) → same_colour c d ≡ b → agree (Known c) (Known d) ≡ agree (Known d) (Known c)
-    go true e = ap (λ x. agree (Known c) (Known x)) (sym (same_true c d e)) ∙ ap (λ x. agree (Known x) (Known c)) (same_true c d e)
+    go : (b : Bool) → same_colour c d ≡ b → agree (Some c) (Some d) ≡ agree (Some d) (Some c)
+    go true e = ap (λ x. agree (Some c) (Some x)) (sym (same_true c d e)) ∙ ap (λ x. agree (Some x) (Some c)) (same_true c d e)
     go false e = agree_differ c d (same_false c d e) ∙ sym (agree_differ d c (λ p. same_false c d e (sym p)))
-agree_comm (Known c) Unknown = refl
-agree_comm Unknown (Known d) = refl
-agree_comm Unknown Unknown = refl
+agree_comm (Some c) None = refl
+agree_comm None (Some d) = refl
+agree_comm None None = refl
 
-pub agree_assoc : (s t u : Sample) → agree (agree s t) u ≡ agree s (agree t u)
+pub agree_assoc : (s t u : Option Colour) → agree (agree s t) u ≡ agree s (agree t u)
 unfolding agree
-agree_assoc Unknown t u = refl
-agree_assoc (Known c) Unknown u = refl
-agree_assoc (Known c) (Known d) Unknown = agree_unknown (agree (Known c) (Known d))
-agree_assoc (Known c) (Known d) (Known e) = go (same_colour c d) refl (same_colour d e) refl
+agree_assoc None t u = refl
+agree_assoc (Some c) None u = refl
+agree_assoc (Some c) (Some d) None = agree_unknown (agree (Some c) (Some d))
+agree_assoc (Some c) (Some d) (Some e) = go (same_colour c d) refl (same_colour d e) refl
   where
-    go : (a : Bool) → same_colour c d ≡ a → (b : Bool) → same_colour d e ≡ b → agree (agree (Known c) (Known d)) (Known e) ≡ agree (Known c) (agree (Known d) (Known e))
+    go : (a : Bool) → same_colour c d ≡ a → (b : Bool) → same_colour d e ≡ b → agree (agree (Some c) (Some d)) (Some e) ≡ agree (Some c) (agree (Some d) (Some e))
     go true p b q =
         let z = same_true c d p in
-        ap (λ x. agree (agree (Known c) (Known x)) (Known e)) (sym z) ∙ ap (λ x. agree x (Known e)) (agree_self (Known c))
-        ∙ rest (same_colour c e) refl ∙ ap (λ x. agree (Known c) (agree (Known x) (Known e))) z
+        ap (λ x. agree (agree (Some c) (Some x)) (Some e)) (sym z) ∙ ap (λ x. agree x (Some e)) (agree_self (Some c))
+        ∙ rest (same_colour c e) refl ∙ ap (λ x. agree (Some c) (agree (Some x) (Some e))) z
       where
-        rest : (x : Bool) → same_colour c e ≡ x → agree (Known c) (Known e) ≡ agree (Known c) (agree (Known c) (Known e))
-        rest true r = rw (← same_true c e r, agree_self (Known c), agree_self (Known c))
-        rest false r = rw (agree_differ c e (same_false c e r)) (sym (agree_unknown (Known c)))
+        rest : (x : Bool) → same_colour c e ≡ x → agree (Some c) (Some e) ≡ agree (Some c) (agree (Some c) (Some e))
+        rest true r = rw (← same_true c e r, agree_self (Some c), agree_self (Some c))
+        rest false r = rw (agree_differ c e (same_false c e r)) (sym (agree_unknown (Some c)))
     go false p true q =
         let z = same_true d e q in
-        ap (λ x. agree (agree (Known c) (Known d)) (Known x)) (sym z) ∙ ap (λ x. agree x (Known d)) (agree_differ c d (same_false c d p))
-        ∙ sym (agree_differ c d (same_false c d p)) ∙ ap (λ x. agree (Known c) x) (sym (agree_self (Known d))) ∙ ap (λ x. agree (Known c) (agree (Known d) (Known x))) z
+        ap (λ x. agree (agree (Some c) (Some d)) (Some x)) (sym z) ∙ ap (λ x. agree x (Some d)) (agree_differ c d (same_false c d p))
+        ∙ sym (agree_differ c d (same_false c d p)) ∙ ap (λ x. agree (Some c) x) (sym (agree_self (Some d))) ∙ ap (λ x. agree (Some c) (agree (Some d) (Some x))) z
     go false p false q =
-        ap (λ x. agree x (Known e)) (agree_differ c d (same_false c d p)) ∙ sym (ap (λ x. agree (Known c) x) (agree_differ d e (same_false d e q)) ∙ agree_unknown (Known c))
+        ap (λ x. agree x (Some e)) (agree_differ c d (same_false c d p)) ∙ sym (ap (λ x. agree (Some c) x) (agree_differ d e (same_false d e q)) ∙ agree_unknown (Some c))
 
 -- ---- a pair over what lies below
 
-pub step_zero : (low up : Sample) → pair_step Zero low up ≡ low
+pub step_zero : (low up : Option Colour) → pair_step Zero low up ≡ low
 unfolding pair_step
 step_zero low up = refl
 
-pub step_one : (low up : Sample) → pair_step One low up ≡ up
+pub step_one : (low up : Option Colour) → pair_step One low up ≡ up
 unfolding pair_step
 step_one low up = refl
 
-pub step_hidden : (low up : Sample) → pair_step Hidden low up ≡ agree low up
+pub step_hidden : (low up : Option Colour) → pair_step Hidden low up ≡ agree low up
 unfolding pair_step
 step_hidden low up = refl
 
@@ -111,7 +110,7 @@ unfolding decide
 decide_highest s n = refl
 
 -- layer 1, mask 2 and layer 3 taken as one lowest layer; the pairs above them come down by one
-abbrev merged_image : Stack → ℕ → Sample
+abbrev merged_image : Stack → ℕ → Option Colour
 merged_image s zero = pair_step (s.mask 1) (s.image 0) (s.image 1)
 merged_image s (suc k) = s.image (suc (suc k))
 

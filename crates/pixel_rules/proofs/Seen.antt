@@ -13,8 +13,7 @@ use Rattle.pixel_rules.specs.declared.MainPos.{MainPos}
 use Rattle.sheet_rules.specs.declared.Colour.{Colour}
 use Rattle.sheet_rules.specs.declared.Record.{Record}
 use Rattle.sheet_rules.specs.Record.{is_grey}
-use Rattle.pixel_rules.specs.declared.Sample.{Sample}
-use Rattle.pixel_rules.specs.declared.Sample.TheVariants.{Known, Unknown}
+use Rattle.std.specs.Prelude.{Option, Some, None}
 use Rattle.pixel_rules.specs.declared.Mask.{Mask}
 use Rattle.pixel_rules.specs.declared.Mask.TheVariants.{Zero, One, Hidden}
 use Rattle.pixel_rules.specs.Place.{along_of, down_of}
@@ -38,33 +37,33 @@ pub record DifferIn (Can : ℕ → Colour → Type 0) (v : Scene) (x y : MainPos
 -- ---- the rule never says what a content denies
 
 -- d is what the sample says, if it says anything
-abbrev pub Allows : Sample → Colour → Type 0
-Allows (Known c) d = d ≡ c
-Allows Unknown d = Unit
+abbrev pub Allows : Option Colour → Colour → Type 0
+Allows (Some c) d = d ≡ c
+Allows None d = Unit
 
-allows_image : (s : Sample) (d : Colour) → Allows s (image_with s d)
-allows_image (Known c) d = refl
-allows_image Unknown d = tt
+allows_image : (s : Option Colour) (d : Colour) → Allows s (image_with s d)
+allows_image (Some c) d = refl
+allows_image None d = tt
 
-allows_same : (t : Bool) (c d : Colour) → (t ≡ true → c ≡ d) → (b : Bool) (x y : Colour) → x ≡ c → y ≡ d → Allows (cond t (Known c) Unknown) (cond b y x)
+allows_same : (t : Bool) (c d : Colour) → (t ≡ true → c ≡ d) → (b : Bool) (x y : Colour) → x ≡ c → y ≡ d → Allows (cond t (Some c) None) (cond b y x)
 allows_same false c d h b x y p q = tt
 allows_same true c d h false x y p q = p
 allows_same true c d h true x y p q = q ∙ sym (h refl)
 
-allows_agree : (low up : Sample) (b : Bool) (x y : Colour) → Allows low x → Allows up y → Allows (agree low up) (cond b y x)
+allows_agree : (low up : Option Colour) (b : Bool) (x y : Colour) → Allows low x → Allows up y → Allows (agree low up) (cond b y x)
 unfolding agree
-allows_agree (Known c) (Known d) b x y p q = allows_same (same_colour c d) c d (same_true c d) b x y p q
-allows_agree (Known c) Unknown b x y p q = tt
-allows_agree Unknown up b x y p q = tt
+allows_agree (Some c) (Some d) b x y p q = allows_same (same_colour c d) c d (same_true c d) b x y p q
+allows_agree (Some c) None b x y p q = tt
+allows_agree None up b x y p q = tt
 
-allows_step : (m : Mask) (low up : Sample) (b : Bool) (x y : Colour) → Allows low x → Allows up y → Allows (pair_step m low up) (cond (mask_with m b) y x)
+allows_step : (m : Mask) (low up : Option Colour) (b : Bool) (x y : Colour) → Allows low x → Allows up y → Allows (pair_step m low up) (cond (mask_with m b) y x)
 unfolding pair_step
 allows_step Zero low up b x y p q = p
 allows_step One low up b x y p q = q
 allows_step Hidden low up b x y p q = allows_agree low up b x y p q
 
 -- a pixel's samples by layer, and a value for each layer
-module _ (masks : ℕ → Mask) (images : ℕ → Sample) where
+module _ (masks : ℕ → Mask) (images : ℕ → Option Colour) where
   abbrev stack : Stack
   stack = record { mask = λ k. masks (k * 2); image = λ k. images (k * 2 + 1) }
 
@@ -86,16 +85,16 @@ module _ (masks : ℕ → Mask) (images : ℕ → Sample) where
   further bit colour n b e = rw e
 
   -- a mask with bit 1 shows the image layer above
-  shown : (bit : ℕ → Bool) (colour : ℕ → Colour) (n : ℕ) (up : Sample) → mask_with (masks (suc n * 2)) (bit (suc n * 2)) ≡ true → images (suc n * 2 + 1) ≡ up
+  shown : (bit : ℕ → Bool) (colour : ℕ → Colour) (n : ℕ) (up : Option Colour) → mask_with (masks (suc n * 2)) (bit (suc n * 2)) ≡ true → images (suc n * 2 + 1) ≡ up
       → under bit colour (suc n) ≡ image_with up (colour (suc n * 2 + 1))
   shown bit colour n up h e = rw (further bit colour n true h, e)
 
   -- a mask with bit 0 shows what the rule says of what lies below
-  beneath : (bit : ℕ → Bool) (colour : ℕ → Colour) (n : ℕ) (a : Colour) → mask_with (masks (suc n * 2)) (bit (suc n * 2)) ≡ false → decide stack n ≡ Known a
+  beneath : (bit : ℕ → Bool) (colour : ℕ → Colour) (n : ℕ) (a : Colour) → mask_with (masks (suc n * 2)) (bit (suc n * 2)) ≡ false → decide stack n ≡ Some a
       → under bit colour (suc n) ≡ a
   beneath bit colour n a h e = further bit colour n false h ∙ (rw e at (allows bit colour n))
 
-same_unknown : (t : Bool) (a : Colour) → cond t (Known a) Unknown ≡ Unknown → t ≡ false
+same_unknown : (t : Bool) (a : Colour) → cond t (Some a) None ≡ None → t ≡ false
 same_unknown false a e = refl
 same_unknown true a e = clash cc
 
@@ -120,13 +119,13 @@ module _ (Can : ℕ → Colour → Type 0) where
   abbrev spot : (n : ℕ) (x : ℕ → Colour) → ((l : ℕ) → Can l (x l)) → Low Can n
   spot n x can = record { bit = λ l. eqb l (n * 2); colour = x; can = can; low = λ k h. ne_eqb (k * 2) (n * 2) (λ e. omega arith) }
 
-record Two (Can : ℕ → Colour → Type 0) (masks : ℕ → Mask) (images : ℕ → Sample) (n : ℕ) : Type 0 where
+record Two (Can : ℕ → Colour → Type 0) (masks : ℕ → Mask) (images : ℕ → Option Colour) (n : ℕ) : Type 0 where
   v : Low Can n
   w : Low Can n
   apart : under masks images v.bit v.colour n ≡ under masks images w.bit w.colour n → ⊥
 
 module _ (Can : ℕ → Colour → Type 0) (x y : ℕ → Colour) (can_x : (l : ℕ) → Can l (x l)) (can_y : (l : ℕ) → Can l (y l)) (x≢y : (l : ℕ) → x l ≡ y l → ⊥) where
-  module _ (masks : ℕ → Mask) (images : ℕ → Sample) where
+  module _ (masks : ℕ → Mask) (images : ℕ → Option Colour) where
     keep : (n : ℕ) → Two Can masks images n → ((b : Bool) → b ≡ false → mask_with (masks (suc n * 2)) b ≡ false) → Two Can masks images (suc n)
     keep n t h =
         record {
@@ -139,18 +138,18 @@ module _ (Can : ℕ → Colour → Type 0) (x y : ℕ → Colour) (can_x : (l : 
     on n h = rw (eq-eqb (suc n * 2) (suc n * 2) refl) h
 
     -- the image layer above is unknown, and can be taken
-    taken : (n : ℕ) → images (suc n * 2 + 1) ≡ Unknown → mask_with (masks (suc n * 2)) true ≡ true → Two Can masks images (suc n)
+    taken : (n : ℕ) → images (suc n * 2 + 1) ≡ None → mask_with (masks (suc n * 2)) true ≡ true → Two Can masks images (suc n)
     taken n e h =
         let a = spot Can (suc n) x can_x in
         let b = spot Can (suc n) y can_y in
         record {
           v = a;
           w = b;
-          apart = λ q. x≢y (suc n * 2 + 1) (sym (shown masks images a.bit a.colour n Unknown (on n h) e) ∙ q ∙ shown masks images b.bit b.colour n Unknown (on n h) e);
+          apart = λ q. x≢y (suc n * 2 + 1) (sym (shown masks images a.bit a.colour n None (on n h) e) ∙ q ∙ shown masks images b.bit b.colour n None (on n h) e);
         }
 
     -- the two sides are known, and differ
-    sides : (n : ℕ) (a d : Colour) → masks (suc n * 2) ≡ Hidden → decide (stack masks images) n ≡ Known a → images (suc n * 2 + 1) ≡ Known d → same_colour a d ≡ false
+    sides : (n : ℕ) (a d : Colour) → masks (suc n * 2) ≡ Hidden → decide (stack masks images) n ≡ Some a → images (suc n * 2 + 1) ≡ Some d → same_colour a d ≡ false
         → Two Can masks images (suc n)
     sides n a d em el eu f =
         let p = still Can (suc n) x can_x in
@@ -158,19 +157,19 @@ module _ (Can : ℕ → Colour → Type 0) (x y : ℕ → Colour) (can_x : (l : 
         record {
           v = p;
           w = q;
-          apart = λ e. same_false a d f (sym (beneath masks images p.bit p.colour n a (rw em) el) ∙ e ∙ shown masks images q.bit q.colour n (Known d) (on n (rw em)) eu);
+          apart = λ e. same_false a d f (sym (beneath masks images p.bit p.colour n a (rw em) el) ∙ e ∙ shown masks images q.bit q.colour n (Some d) (on n (rw em)) eu);
         }
 
-    step : (n : ℕ) (m : Mask) (low up : Sample) → masks (suc n * 2) ≡ m → decide (stack masks images) n ≡ low → images (suc n * 2 + 1) ≡ up
-        → pair_step m low up ≡ Unknown → (low ≡ Unknown → Two Can masks images n) → Two Can masks images (suc n)
+    step : (n : ℕ) (m : Mask) (low up : Option Colour) → masks (suc n * 2) ≡ m → decide (stack masks images) n ≡ low → images (suc n * 2 + 1) ≡ up
+        → pair_step m low up ≡ None → (low ≡ None → Two Can masks images n) → Two Can masks images (suc n)
     unfolding pair_step agree
     step n Zero low up em el eu e ih = keep n (ih e) (λ b h. rw em)
     step n One low up em el eu e ih = taken n (eu ∙ e) (rw em)
-    step n Hidden Unknown up em el eu e ih = keep n (ih refl) (λ b h. rw em h)
-    step n Hidden (Known a) Unknown em el eu e ih = taken n eu (rw em)
-    step n Hidden (Known a) (Known d) em el eu e ih = sides n a d em el eu (same_unknown (same_colour a d) a e)
+    step n Hidden None up em el eu e ih = keep n (ih refl) (λ b h. rw em h)
+    step n Hidden (Some a) None em el eu e ih = taken n eu (rw em)
+    step n Hidden (Some a) (Some d) em el eu e ih = sides n a d em el eu (same_unknown (same_colour a d) a e)
 
-    two : (n : ℕ) → decide (stack masks images) n ≡ Unknown → Two Can masks images n
+    two : (n : ℕ) → decide (stack masks images) n ≡ None → Two Can masks images n
     unfolding decide colour_from
     two zero e = record { v = still Can 0 x can_x; w = still Can 0 y can_y; apart = rw e (x≢y 1) }
     two (suc n) e = step n (masks (suc n * 2)) (decide (stack masks images) n) (images (suc n * 2 + 1)) refl refl refl e (two n)
@@ -182,16 +181,16 @@ module _ (Can : ℕ → Colour → Type 0) (x y : ℕ → Colour) (can_x : (l : 
   lifted w = record { bit = λ l i j. w.bit l; colour = λ l i j. w.colour l }
 
   module _ (v : Scene) (p q : MainPos) where
-    known_in : (c : Colour) → pixel_at v p q ≡ Known c → SeenAsIn Can v p q c
+    known_in : (c : Colour) → pixel_at v p q ≡ Some c → SeenAsIn Can v p q c
     unfolding pixel_at colour_under
     known_in c e w can =
-        subst (λ (r : Sample). Allows r (colour_under v w p q)) e
+        subst (λ (r : Option Colour). Allows r (colour_under v w p q)) e
         (allows (λ l. mask_at v l p q) (λ l. image_at v l p q)
         (λ l. w.bit l (along_of (main_of v) (record_of v l) p) (down_of (main_of v) (record_of v l) q))
         (λ l. w.colour l (along_of (main_of v) (record_of v l) p) (down_of (main_of v) (record_of v l) q))
         (pairs_of v))
 
-    unknown_two : pixel_at v p q ≡ Unknown → DifferIn Can v p q
+    unknown_two : pixel_at v p q ≡ None → DifferIn Can v p q
     unfolding pixel_at colour_under
     unknown_two e =
         let t = two (λ l. mask_at v l p q) (λ l. image_at v l p q) (pairs_of v) e in
@@ -203,33 +202,33 @@ module _ (Can : ℕ → Colour → Type 0) (x y : ℕ → Colour) (can_x : (l : 
           apart = t.apart;
         }
 
-    seen_known : (c : Colour) → SeenAsIn Can v p q c → pixel_at v p q ≡ Known c
+    seen_known : (c : Colour) → SeenAsIn Can v p q c → pixel_at v p q ≡ Some c
     seen_known c h = go (pixel_at v p q) refl
       where
-        go : (r : Sample) → pixel_at v p q ≡ r → pixel_at v p q ≡ Known c
-        go (Known d) e =
+        go : (r : Option Colour) → pixel_at v p q ≡ r → pixel_at v p q ≡ Some c
+        go (Some d) e =
             let w = lifted (still Can 0 x can_x) in
-            e ∙ ap Known (sym (known_in d e w (λ l i j. can_x l)) ∙ h w (λ l i j. can_x l))
-        go Unknown e =
+            e ∙ ap Some (sym (known_in d e w (λ l i j. can_x l)) ∙ h w (λ l i j. can_x l))
+        go None e =
             let t = unknown_two e in
             absurd (t.apart (h t.one t.one_can ∙ sym (h t.other t.other_can)))
 
-    pub seen_in_lem : (c : Colour) → pixel_at v p q ≡ Known c ↔ SeenAsIn Can v p q c
+    pub seen_in_lem : (c : Colour) → pixel_at v p q ≡ Some c ↔ SeenAsIn Can v p q c
     seen_in_lem c = (known_in c, seen_known c)
 
-    pub unseen_in_lem : pixel_at v p q ≡ Unknown ↔ ((c : Colour) → SeenAsIn Can v p q c → ⊥)
+    pub unseen_in_lem : pixel_at v p q ≡ None ↔ ((c : Colour) → SeenAsIn Can v p q c → ⊥)
     unseen_in_lem = (λ e c h. let k = seen_known c h in clash cc, go (pixel_at v p q) refl)
       where
-        go : (r : Sample) → pixel_at v p q ≡ r → ((c : Colour) → SeenAsIn Can v p q c → ⊥) → pixel_at v p q ≡ Unknown
-        go (Known d) e h = absurd (h d (known_in d e))
-        go Unknown e h = e
+        go : (r : Option Colour) → pixel_at v p q ≡ r → ((c : Colour) → SeenAsIn Can v p q c → ⊥) → pixel_at v p q ≡ None
+        go (Some d) e h = absurd (h d (known_in d e))
+        go None e h = e
 
-    pub differ_in : pixel_at v p q ≡ Unknown ↔ DifferIn Can v p q
+    pub differ_in : pixel_at v p q ≡ None ↔ DifferIn Can v p q
     differ_in = (unknown_two, go (pixel_at v p q) refl)
       where
-        go : (r : Sample) → pixel_at v p q ≡ r → DifferIn Can v p q → pixel_at v p q ≡ Unknown
-        go (Known d) e t = absurd (t.apart (known_in d e t.one t.one_can ∙ sym (known_in d e t.other t.other_can)))
-        go Unknown e t = e
+        go : (r : Option Colour) → pixel_at v p q ≡ r → DifferIn Can v p q → pixel_at v p q ≡ None
+        go (Some d) e t = absurd (t.apart (known_in d e t.one t.one_can ∙ sym (known_in d e t.other t.other_can)))
+        go None e t = e
 
 -- ---- the theorem: contents that the records allow
 
@@ -256,13 +255,13 @@ module _ (v : Scene) (x y : MainPos) where
   light l = two_held (record_of v l) 255 (lit< tt)
 
   -- known in colour c exactly if every possible content gives c
-  pub seen_known_as : (c : Colour) → pixel_at v x y ≡ Known c ↔ SeenAs v x y c
+  pub seen_known_as : (c : Colour) → pixel_at v x y ≡ Some c ↔ SeenAs v x y c
   seen_known_as c = seen_in_lem held (λ l. grey_of 0) (λ l. grey_of 255) dark light (λ l. two_apart) v x y c
 
   -- unknown exactly if every possible content gives no one colour
-  pub unseen_unknown : pixel_at v x y ≡ Unknown ↔ ((c : Colour) → SeenAs v x y c → ⊥)
+  pub unseen_unknown : pixel_at v x y ≡ None ↔ ((c : Colour) → SeenAs v x y c → ⊥)
   unseen_unknown = unseen_in_lem held (λ l. grey_of 0) (λ l. grey_of 255) dark light (λ l. two_apart) v x y
 
   -- and exactly if two possible contents give different colours
-  pub differ_unknown : pixel_at v x y ≡ Unknown ↔ DifferIn held v x y
+  pub differ_unknown : pixel_at v x y ≡ None ↔ DifferIn held v x y
   differ_unknown = differ_in held (λ l. grey_of 0) (λ l. grey_of 255) dark light (λ l. two_apart) v x y

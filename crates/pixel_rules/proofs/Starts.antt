@@ -15,8 +15,7 @@ use borrow.Author.Tests.{eqb-true, eq-eqb, ne_eqb}
 use Rattle.laws.proofs.Cases.{cond_with, clash}
 use Rattle.octets.specs.Octets.{be16_at, be32_at}
 use Rattle.pixel_rules.specs.declared.Plane.{Plane}
-use Rattle.pixel_rules.specs.declared.Start.{Start}
-use Rattle.pixel_rules.specs.declared.Start.TheVariants.{From}
+use Rattle.std.specs.Prelude.{Option, Some}
 use Rattle.pixel_rules.specs.Planes.{plane_at, plane_start}
 
 -- ---- an entry's octets
@@ -46,20 +45,20 @@ entry_more : (q : Plane) (ps : List Plane) (l a : ℕ) → Entry ps l a → Entr
 entry_more q ps l a e = record { p = e.p; among = Memᴰ.tail e.among; layer = e.layer; start = e.start }
 
 -- a start that is found is that of an entry of the layer
-pub start_among : (ps : List Plane) (l a : ℕ) → plane_start ps l ≡ From a → Entry ps l a
+pub start_among : (ps : List Plane) (l a : ℕ) → plane_start ps l ≡ Some a → Entry ps l a
 unfolding plane_start
 start_among [] l a = λ e. clash cc
 start_among (q ∷ ps) l a =
-    cond_with (λ (x : Start). x ≡ From a → Entry (q ∷ ps) l a) (eqb q.layer l)
+    cond_with (λ (x : Option ℕ). x ≡ Some a → Entry (q ∷ ps) l a) (eqb q.layer l)
     (λ t e. let z : q.start ≡ a = cc in record { p = q; among = Memᴰ.head refl; layer = eqb-true q.layer l t; start = z })
     (λ t e. entry_more q ps l a (start_among ps l a e))
 
 -- a layer that is listed has a start
-pub start_some : (ps : List Plane) (p : Plane) → Memᴰ p ps → (a : ℕ) × (plane_start ps p.layer ≡ From a)
+pub start_some : (ps : List Plane) (p : Plane) → Memᴰ p ps → (a : ℕ) × (plane_start ps p.layer ≡ Some a)
 unfolding plane_start
 start_some [] p m = absurd (Memᴰ.not-nil m)
 start_some (q ∷ ps) p m =
-    cond_with (λ (x : Start). (a : ℕ) × (x ≡ From a)) (eqb q.layer p.layer)
+    cond_with (λ (x : Option ℕ). (a : ℕ) × (x ≡ Some a)) (eqb q.layer p.layer)
     (λ t. (q.start, refl))
     (λ t.
     ⊎_elim (λ (e : p ≡ q). let z = eq-eqb q.layer p.layer (ap (λ (r : Plane). r.layer) (sym e)) in clash cc) (λ (k : Memᴰ p ps). start_some ps p k)
@@ -79,15 +78,15 @@ rises_above (q ∷ ps) last p r m =
     (Memᴰ.cases_cons m)
 
 -- each layer once: an entry's layer starts where the entry says
-pub rises_start : (ps : List Plane) (last : ℕ) (p : Plane) → Rises last ps → Memᴰ p ps → plane_start ps p.layer ≡ From p.start
+pub rises_start : (ps : List Plane) (last : ℕ) (p : Plane) → Rises last ps → Memᴰ p ps → plane_start ps p.layer ≡ Some p.start
 unfolding plane_start
 rises_start [] last p r m = absurd (Memᴰ.not-nil m)
 rises_start (q ∷ ps) last p r m =
     ⊎_elim
     (λ (e : p ≡ q).
     let z = eq-eqb q.layer p.layer (ap (λ (x : Plane). x.layer) (sym e)) in
-    ap (λ (b : Bool). cond b (From q.start) (plane_start ps p.layer)) z ∙ ap (λ (x : Plane). From x.start) (sym e))
+    ap (λ (b : Bool). cond b (Some q.start) (plane_start ps p.layer)) z ∙ ap (λ (x : Plane). Some x.start) (sym e))
     (λ (k : Memᴰ p ps).
     let h = rises_above ps q.layer p r.1 k in
-    ap (λ (b : Bool). cond b (From q.start) (plane_start ps p.layer)) (ne_eqb q.layer p.layer (λ z. omega arith)) ∙ rises_start ps q.layer p r.1 k)
+    ap (λ (b : Bool). cond b (Some q.start) (plane_start ps p.layer)) (ne_eqb q.layer p.layer (λ z. omega arith)) ∙ rises_start ps q.layer p r.1 k)
     (Memᴰ.cases_cons m)

@@ -8,14 +8,12 @@
 --   colour_from    start with layer 1; upward, mask 1 takes the layer just above, mask 0 keeps
 --   colour_under   the colour of a pixel under a content
 --   SeenAs        every possible content gives this colour at this place
-use Rattle.std.specs.Prelude.{ℕ, zero, suc, ◌+◌, ◌*◌, ◌<◌, ◌≡◌, Bool, true, false, cond}
+use Rattle.std.specs.Prelude.{ℕ, zero, suc, ◌+◌, ◌*◌, ◌<◌, ◌≡◌, Bool, true, false, cond, Option, Some, None}
 use Rattle.pixel_rules.specs.declared.MainPos.{MainPos}
 use Rattle.pixel_rules.specs.declared.SamplePos.{SamplePos}
 use Rattle.sheet_rules.specs.declared.Colour.{Colour}
 use Rattle.sheet_rules.specs.declared.Record.{Record}
 use Rattle.sheet_rules.specs.Record.{is_grey}
-use Rattle.pixel_rules.specs.declared.Sample.{Sample}
-use Rattle.pixel_rules.specs.declared.Sample.TheVariants.{Known, Unknown}
 use Rattle.pixel_rules.specs.declared.Mask.{Mask}
 use Rattle.pixel_rules.specs.declared.Mask.TheVariants.{Zero, One, Hidden}
 use Rattle.pixel_rules.specs.Place.{along_of, down_of}
@@ -48,9 +46,9 @@ mask_with Zero b = false
 mask_with One b = true
 mask_with Hidden b = b
 
-abbrev pub image_with : Sample → Colour → Colour
-image_with (Known c) d = c
-image_with Unknown d = d
+abbrev pub image_with : Option Colour → Colour → Colour
+image_with (Some c) d = c
+image_with None d = d
 
 abbrev pub mask_under : Scene → Content → ℕ → MainPos → MainPos → Bool
 mask_under v w l x y =

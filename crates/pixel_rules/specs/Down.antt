@@ -7,8 +7,8 @@
 --   all_agree         what the samples of a way agree on
 --   down s n         n pairs, from the highest down
 --   MayShow          the same candidates as a sentence
-use Rattle.std.specs.Prelude.{ℕ, zero, suc, ◌≤◌, ◌<◌, ◌≡◌, ◌⊎◌}
-use Rattle.pixel_rules.specs.declared.Sample.{Sample}
+use Rattle.std.specs.Prelude.{ℕ, zero, suc, ◌≤◌, ◌<◌, ◌≡◌, ◌⊎◌, Option}
+use Rattle.sheet_rules.specs.declared.Colour.{Colour}
 use Rattle.pixel_rules.specs.declared.Mask.{Mask}
 use Rattle.pixel_rules.specs.declared.Mask.TheVariants.{Zero, One, Hidden}
 use Rattle.pixel_rules.specs.Decide.{agree, Stack}
@@ -33,12 +33,12 @@ candidates mask zero = last 0
 candidates mask (suc j) = passing (mask (suc j)) (suc j) (candidates mask j)
 
 -- known only where all are known, and the same
-unfoldable pub all_agree : (ℕ → Sample) → Way → Sample
+unfoldable pub all_agree : (ℕ → Option Colour) → Way → Option Colour
 unfolding agree
 all_agree image (last j) = image j
 all_agree image (more j w) = agree (image j) (all_agree image w)
 
-unfoldable pub down : Stack → ℕ → Sample
+unfoldable pub down : Stack → ℕ → Option Colour
 unfolding candidates all_agree
 down s n = all_agree s.image (candidates s.mask n)
 

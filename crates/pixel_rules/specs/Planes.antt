@@ -5,12 +5,10 @@
 --   PlaneList          the entries, and whether a part entry stands after them
 --   list_of s           the list of these octets; whole_list ps: the list of these entries, which has no part
 --   plane_start            where a layer's samples start, or that it is unread
-use Rattle.std.specs.Prelude.{ℕ, ◌+◌, ◌*◌, ◌%◌, Bool, false, not, cond, List, [], ◌∷◌, length, get_or, eqb}
+use Rattle.std.specs.Prelude.{ℕ, ◌+◌, ◌*◌, ◌%◌, Bool, false, not, cond, List, [], ◌∷◌, length, get_or, eqb, Option, Some, None}
 use Rattle.octets.specs.Octets.{be32_at}
 use Rattle.octets.specs.Entries.{whole_entries}
 use Rattle.pixel_rules.specs.declared.Plane.{Plane}
-use Rattle.pixel_rules.specs.declared.Start.{Start}
-use Rattle.pixel_rules.specs.declared.Start.TheVariants.{From, Unread}
 
 abbrev pub plane_size : ℕ
 plane_size = 5
@@ -28,6 +26,6 @@ list_of s = record { entries = whole_entries plane_size plane_at s; part = not (
 abbrev pub whole_list : List Plane → PlaneList
 whole_list ps = record { entries = ps; part = false }
 
-unfoldable pub plane_start : List Plane → ℕ → Start
-plane_start [] l = Unread
-plane_start (p ∷ ps) l = cond (eqb p.layer l) (From p.start) (plane_start ps l)
+unfoldable pub plane_start : List Plane → ℕ → Option ℕ
+plane_start [] l = None
+plane_start (p ∷ ps) l = cond (eqb p.layer l) (Some p.start) (plane_start ps l)

@@ -13,7 +13,7 @@
 --   bit_of           a mask octet's value: 0 is 0, all else 1
 --   virtual v l     what an uncoded mask gives
 --   mask_at          the sample of a mask at a place; image_at: of an image layer
-use Rattle.std.specs.Prelude.{ℕ, ◌+◌, ◌*◌, ◌/◌, ◌%◌, ◌&&◌, ◌||◌, cond, List, get_or, eqb}
+use Rattle.std.specs.Prelude.{ℕ, ◌+◌, ◌*◌, ◌/◌, ◌%◌, ◌&&◌, ◌||◌, cond, List, get_or, eqb, Option, Some, None}
 use Rattle.sheet_rules.specs.declared.Record.{Record}
 use Rattle.sheet_rules.specs.declared.Extent.{Extent}
 use Rattle.sheet_rules.specs.Record.{colour_at, is_grey}
@@ -21,11 +21,7 @@ use Rattle.sheet_rules.specs.StripeTable.{layer_record, main_res}
 use Rattle.sheet_rules.specs.Judge.{coded}
 use Rattle.pixel_rules.specs.declared.MainPos.{MainPos}
 use Rattle.pixel_rules.specs.declared.Plane.{Plane}
-use Rattle.pixel_rules.specs.declared.Start.{Start}
-use Rattle.pixel_rules.specs.declared.Start.TheVariants.{From, Unread}
 use Rattle.sheet_rules.specs.declared.Colour.{Colour}
-use Rattle.pixel_rules.specs.declared.Sample.{Sample}
-use Rattle.pixel_rules.specs.declared.Sample.TheVariants.{Known, Unknown}
 use Rattle.pixel_rules.specs.declared.Mask.{Mask}
 use Rattle.pixel_rules.specs.declared.Mask.TheVariants.{Zero, One, Hidden}
 use Rattle.pixel_rules.specs.Place.{inside, along_of, down_of}
@@ -78,16 +74,16 @@ grey_of v = record { c0 = v; c1 = 128; c2 = 96 }
 unfoldable pub colour_in : ℕ → List ℕ → ℕ → Colour
 colour_in n d p = cond (eqb n 3) (colour_at d p) (grey_of (get_or d p 0))
 
-unfoldable pub mask_read : List ℕ → Start → ℕ → Mask
+unfoldable pub mask_read : List ℕ → Option ℕ → ℕ → Mask
 unfolding bit_of
-mask_read d (From a) i = bit_of (get_or d (a + i) 0)
-mask_read d Unread i = Hidden
+mask_read d (Some a) i = bit_of (get_or d (a + i) 0)
+mask_read d None i = Hidden
 
 -- sample i of those from a place on, n octets each
-unfoldable pub image_read : List ℕ → ℕ → Start → ℕ → Sample
+unfoldable pub image_read : List ℕ → ℕ → Option ℕ → ℕ → Option Colour
 unfolding colour_in
-image_read d n (From a) i = Known (colour_in n d (a + i * n))
-image_read d n Unread i = Unknown
+image_read d n (Some a) i = Some (colour_in n d (a + i * n))
+image_read d n None i = None
 
 unfoldable pub mask_at : Scene → ℕ → MainPos → MainPos → Mask
 unfolding virtual mask_read plane_start inside index_of
@@ -98,9 +94,9 @@ mask_at v l x y =
     Zero)
     (virtual v l)
 
-unfoldable pub image_at : Scene → ℕ → MainPos → MainPos → Sample
+unfoldable pub image_at : Scene → ℕ → MainPos → MainPos → Option Colour
 unfolding image_read plane_start inside index_of
 image_at v l x y =
     cond (coded (record_of v l) && inside (main_of v) (record_of v l) x y)
     (image_read v.samples (depth (record_of v l)) (plane_start v.planes l) (index_of (main_of v) (record_of v l) x y))
-    (Known (base_of (record_of v l)))
+    (Some (base_of (record_of v l)))

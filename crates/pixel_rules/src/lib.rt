@@ -11,12 +11,8 @@ pub struct MainPos(pub usize);
 #[derive(Clone, Copy)]
 pub struct SamplePos(pub usize);
 
-// The sample of an image layer at a pixel.
-#[derive(Clone, Copy)]
-pub enum Sample {
-    Known(Colour),
-    Unknown,
-}
+// The sample of an image layer at a pixel: known with its colour, or not known.
+pub type Sample = Option<Colour>;
 
 // The sample of a mask at a pixel: known to be 0 or 1, or not known.
 #[derive(Clone, Copy)]
@@ -32,11 +28,4 @@ pub enum Mask {
 pub struct Plane {
     pub layer: u8,
     pub start: u32,
-}
-
-// Where a layer's samples start in the sample buffer, or that it is unread.
-#[derive(Clone, Copy)]
-pub enum Start {
-    From(u32),
-    Unread,
 }

@@ -5,8 +5,8 @@ use mathlib.Core.Path.{◌≡◌, refl}
 use mathlib.Core.List.{List, [], ◌∷◌}
 use Rattle.octets.specs.Octets.{be16_at, be32_at, octets16, octets32, put_at}
 use Rattle.octets.specs.Entries.{joined}
-use Rattle.answers.specs.declared.Answer.TheVariants.{Done, NoRoom}
-use Rattle.sheet_rules.specs.declared.Verdict.TheVariants.{Good}
+use Rattle.answers.specs.declared.Refusal.TheVariants.{NoRoom}
+use Rattle.std.specs.Prelude.{Ok, Err}
 use Rattle.sheet_rules.specs.declared.Colour.{Colour}
 use Rattle.sheet_rules.specs.Record.{record_at, encode, sheet_of, records}
 use Rattle.sheet_rules.specs.Judge.{keeps, after, after1, after2, after3, step_of, end_of, on_step, walk, judge, judge_of}
@@ -28,9 +28,9 @@ sheet =
 abbrev pub samples : List ℕ
 samples = 1 ∷ 0 ∷ 0 ∷ 1 ∷ []
 
-pub band_holds_lem : (judge_of sheet ≡ Good 6 2)
-    × (band_of sheet (list_of (entry 2 0)) samples 1 18 ≡ Done 16)
-    × (band_of sheet (list_of (entry 2 0)) samples 1 15 ≡ NoRoom)
+pub band_holds_lem : (judge_of sheet ≡ Ok (record { records = 6; stripes = 2 }))
+    × (band_of sheet (list_of (entry 2 0)) samples 1 18 ≡ Ok 16)
+    × (band_of sheet (list_of (entry 2 0)) samples 1 15 ≡ Err NoRoom)
     × ((u : Colour) → band_into sheet (list_of (entry 2 0)) samples 1 u (7 ∷ 7 ∷ 7 ∷ 7 ∷ 7 ∷ 7 ∷ 7 ∷ 7 ∷ 7 ∷ 7 ∷ 7 ∷ 7 ∷ 7 ∷ 7 ∷ 7 ∷ 7 ∷ 7 ∷ 7 ∷ [])
     ≡ u.c0 ∷ u.c1 ∷ u.c2 ∷ 0 ∷ 255 ∷ 128 ∷ 96 ∷ 1 ∷ 255 ∷ 128 ∷ 96 ∷ 1 ∷ u.c0 ∷ u.c1 ∷ u.c2 ∷ 0 ∷ 7 ∷ 7 ∷ [])
 unfolding octets16 octets32 joined encode judge_of judge walk on_step step_of keeps after after1 after2 after3 end_of records record_at be16_at be32_at band_of band_into put_at find_stripe plane_at layer_record mask_at image_at scale

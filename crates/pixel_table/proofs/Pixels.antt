@@ -10,9 +10,8 @@ use lib.Dec.{lit<}
 use lib.Seq.{length-take-le, take-take, take-add, drop_at}
 use Rattle.octets.specs.Octets.{be16_at, be32_at, octets16, octets32, put_at}
 use Rattle.octets.specs.Entries.{joined}
-use Rattle.answers.specs.declared.Answer.TheVariants.{Done}
 use Rattle.sheet_rules.specs.declared.Record.{Record}
-use Rattle.sheet_rules.specs.declared.Verdict.TheVariants.{Good}
+use Rattle.std.specs.Prelude.{Ok}
 use Rattle.sheet_rules.specs.Record.{marked, record_at, encode, sheet_of, records}
 use Rattle.sheet_rules.specs.Judge.{keeps, after, after1, after2, after3, step_of, end_of, on_step, walk, judge, judge_of}
 use Rattle.sheet_rules.specs.StripeTable.{find_stripe, layer_record}
@@ -40,9 +39,9 @@ pub record Pixel : Type 0 where
 -- the sheet is accepted, and whatever buffer of 32 octets or more is lent, and whatever the unseen colour is, the call is done and leaves the octets due
 abbrev pub Holds : Pixel → Type 0
 Holds p =
-    (judge_of p.sheet ≡ Good p.records p.stripes)
+    (judge_of p.sheet ≡ Ok (record { records = p.records; stripes = p.stripes }))
     × ((u : Colour) (out : List ℕ) → 32 ≤ length out
-    → (line_of p.sheet (list_of p.planes) p.samples p.stripe p.line (length out) ≡ Done 32)
+    → (line_of p.sheet (list_of p.planes) p.samples p.stripe p.line (length out) ≡ Ok 32)
     × (four_at (line_into p.sheet (list_of p.planes) p.samples p.stripe p.line u out) p.x ≡ p.due u))
 
 abbrev pub Each : List Pixel → Type 0
@@ -238,8 +237,8 @@ four_take e x n h l =
     ∙ take-take 4 (n - x * 4) (drop (x * 4) e) (omega arith)
 
 -- from one buffer to every other
-entry_holds : (p : Pixel) → judge_of p.sheet ≡ Good p.records p.stripes
-    → line_of p.sheet (list_of p.planes) p.samples p.stripe p.line 32 ≡ Done 32
+entry_holds : (p : Pixel) → judge_of p.sheet ≡ Ok (record { records = p.records; stripes = p.stripes })
+    → line_of p.sheet (list_of p.planes) p.samples p.stripe p.line 32 ≡ Ok 32
     → ((u : Colour) → four_at (line_into p.sheet (list_of p.planes) p.samples p.stripe p.line u (replicate 32 7)) p.x ≡ p.due u)
     → p.x < 8 → Holds p
 entry_holds p g q f h = (

@@ -1,5 +1,6 @@
 -- The loop over the body: reading from here is the whole reading, and what was read is laid in front.
 -- Assumes nothing.
+use Rattle.std.specs.Prelude.{Result, Ok, Err, IsErr, IsErrAnd}
 use Prim.Native.Nat.{ℕ, zero, suc, ◌+◌, ◌-◌, ◌*◌, ◌≤◌, ◌<◌}
 use native.Mathlib.Omega.{arith}
 use mathlib.Core.Path.{◌≡◌, refl, sym, ap, subst, ◌∙◌}
@@ -17,12 +18,14 @@ use Rattle.segment_rules.specs.declared.Mode.{Mode}
 use Rattle.segment_rules.specs.declared.Mode.TheVariants.{One}
 use Rattle.segment_rules.specs.Rules.{most_layers}
 use Rattle.start_rules.specs.declared.Head.{Head}
+use Rattle.field_rules.specs.Field.{no}
+use Rattle.laws.proofs.Asked.{asked_with}
 use Rattle.read_body.specs.declared.Place.{Place}
 use Rattle.read_body.specs.declared.Body.{Body}
-use Rattle.read_body.specs.declared.Body.TheVariants.{Records, Refused}
-use Rattle.read_body.specs.declared.Turn.{Turn}
-use Rattle.read_body.specs.declared.Turn.TheVariants.{Go, Stop}
-use Rattle.read_body.specs.Steps.{Standing, body_at, Passed, Turned, Opened, whole_body, Bodied}
+use Rattle.read_body.specs.Steps.{Standing, body_at, Passed, BodyRefused, Turned, Opened, whole_body, Bodied}
+use Rattle.answers.specs.declared.Refusal.{Refusal}
+use Rattle.std.specs.declared.ops.ControlFlow.TheVariants.{Continue, Break}
+use Rattle.std.specs.declared.ops.ControlFlow.{ControlFlow}
 
 -- so many records fit, where so many stripes do
 fits_by : (mode : Mode) (stripe records size : ℕ) → stripe ≤ 64 → records ≤ stripe * most_layers mode → 64 * most_layers mode * record_size ≤ size → records * record_size ≤ size
@@ -80,7 +83,7 @@ module _ (hd : Head) (s : List ℕ) (from : ℕ) (out₀ : List ℕ) (o : Opened
         ∙ put_put out₀ 0 (sheet_of g.records) (sheet_of rs) (omega arith)
         ∙ ap (put_at out₀ 0) (sym (joined_append encode g.records rs))
 
-    module _ (r : Turn) (out' : List ℕ) (t : Turned hd p s out r out') where
+    module _ (r : Result (ControlFlow Body Place) Refusal) (out' : List ℕ) (t : Turned hd p s out r out') where
       kept_long : (q : Place) → Passed hd p s out q out' → length out' ≡ length out
       kept_long q x =
           let w = x.onward in
@@ -119,16 +122,16 @@ module _ (hd : Head) (s : List ℕ) (from : ℕ) (out₀ : List ℕ) (o : Opened
                 };
           }
 
-      pub loop_on : (q : Place) → r ≡ Go q → Going hd s from out₀ q out'
+      pub loop_on : (q : Place) → r ≡ Ok (Continue q) → Going hd s from out₀ q out'
       loop_on q e = stepped g.fuel g.enough g.same q (rw e at t)
 
-      pub loop_less : (q : Place) → r ≡ Go q → length s - q.at < length s - p.at
+      pub loop_less : (q : Place) → r ≡ Ok (Continue q) → length s - q.at < length s - p.at
       loop_less q e = let x = rw e at t in let l = x.onward.on in let m = x.onward.inside in omega arith
 
       over : (fuel : ℕ) → length s < fuel + p.at → whole_body hd s from ≡ body_at fuel hd p g.records s
-          → (b : Body) → Turned hd p s out (Stop b) out' → Bodied hd s from out₀ b out'
+          → (b : Body) → Turned hd p s out (Ok (Break b)) out' → Bodied hd s from out₀ (Ok b) out'
       over zero e z b x = let i = g.standing.inside in absurd (omega arith)
-      over (suc fuel) e z (Records count next) x =
+      over (suc fuel) e z b x =
           let f = fits_by hd.rules.mode p.stripe p.records (length out) g.standing.few g.standing.roomy.most g.standing.roomy.room in
           let c = x.counted in
           let l = g.long in
@@ -140,16 +143,27 @@ module _ (hd : Head) (s : List ℕ) (from : ℕ) (out₀ : List ℕ) (o : Opened
             fits = omega arith;
             inside = x.inside;
           }
-      over (suc fuel) e z (Refused a) x = z ∙ x.same fuel g.records
 
-      pub loop_over : (b : Body) → r ≡ Stop b → Bodied hd s from out₀ b out'
+      wrong : (fuel : ℕ) → length s < fuel + p.at → whole_body hd s from ≡ body_at fuel hd p g.records s
+          → (a : Refusal) → BodyRefused hd p s out a out' → whole_body hd s from ≡ no a
+      wrong zero e z a x = let i = g.standing.inside in absurd (omega arith)
+      wrong (suc fuel) e z a x = z ∙ x.same fuel g.records
+
+      pub loop_over : (b : Body) → r ≡ Ok (Break b) → Bodied hd s from out₀ (Ok b) out'
       loop_over b e = over g.fuel g.enough g.same b (rw e at t)
 
-      stopped : (b : Body) → Turned hd p s out (Stop b) out' → length out' ≡ length out₀
-      stopped (Records count next) x = ap length x.kept ∙ g.long
-      stopped (Refused a) x = ap length x.kept ∙ g.long
+      pub loop_wrong : (a : Refusal) → r ≡ Err a → Bodied hd s from out₀ (Err a) out'
+      loop_wrong a e = wrong g.fuel g.enough g.same a (rw e at t)
 
-      pub loop_length : (b : Body) → r ≡ Stop b → length out' ≡ length out₀
-      loop_length b e = stopped b (rw e at t)
+      pub loop_length : (b : Body) → r ≡ Ok (Break b) → length out' ≡ length out₀
+      loop_length b e = let x = rw e at t in ap length x.kept ∙ g.long
 
-pub ruleset looping = (rules, loop_begun, loop_length, loop_standing, loop_on, loop_less, loop_over)
+      pub loop_short : (a : Refusal) → r ≡ Err a → length out' ≡ length out₀
+      loop_short a e = let x = rw e at t in ap length x.kept ∙ g.long
+
+-- a refusal that is handed on
+pub loop_stop : (hd : Head) (s : List ℕ) (from : ℕ) (out out' : List ℕ) (r : Result Body Refusal) {a : Refusal} → IsErr r × IsErrAnd r (λ (e : Refusal). e ≡ a)
+    → Bodied hd s from out (Err a) out' → Bodied hd s from out r out'
+loop_stop hd s from out out' r e x = asked_with (λ (q : Result Body Refusal). Bodied hd s from out q out') r e x
+
+pub ruleset looping = (rules, loop_stop, loop_begun, loop_length, loop_short, loop_standing, loop_on, loop_less, loop_over, loop_wrong)

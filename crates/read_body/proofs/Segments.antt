@@ -1,5 +1,6 @@
 -- A turn of the body in code is a turn of reading's body.
 -- Assumes nothing.
+use Rattle.std.specs.Prelude.{Result, Ok, Err, IsErr, IsErrAnd}
 use Prim.Native.Nat.{ℕ, suc, ◌+◌, ◌*◌, ◌≤◌}
 use native.Mathlib.Omega.{arith}
 use mathlib.Core.Path.{◌≡◌, refl, sym, ap, ap₂, subst, ◌∙◌}
@@ -13,8 +14,8 @@ use Rattle.laws.proofs.Cases.{cond_with, clash}
 use Rattle.octets.specs.Octets.{stands_at}
 use Rattle.octets.proofs.Laws.{put_nothing}
 use Rattle.octets.specs.Entries.{joined}
-use Rattle.answers.specs.declared.Answer.{Answer}
-use Rattle.answers.specs.declared.Answer.TheVariants.{Short, BadStripe}
+use Rattle.answers.specs.declared.Refusal.{Refusal}
+use Rattle.answers.specs.declared.Refusal.TheVariants.{Short, BadStripe}
 use Rattle.field_rules.specs.Field.{Res, ok, no, bind}
 use Rattle.sheet_rules.specs.declared.Record.{Record}
 use Rattle.sheet_rules.specs.Record.{record_size}
@@ -27,19 +28,19 @@ use Rattle.read_segment.specs.declared.Segment.{Segment}
 use Rattle.read_segment.specs.declared.Segment.TheVariants.{Stripe, Optional}
 use Rattle.read_segment.specs.Segments.{Marked, view_of}
 use Rattle.read_segment.proofs.Views.{view_no, view_stripe, view_optional, Ended, segment_ends}
+use Rattle.laws.proofs.Asked.{asked_with}
 use Rattle.read_body.specs.declared.Place.{Place}
 use Rattle.read_body.specs.declared.Body.{Body}
-use Rattle.read_body.specs.declared.Body.TheVariants.{Records}
-use Rattle.read_body.specs.declared.Turn.{Turn}
-use Rattle.read_body.specs.declared.Turn.TheVariants.{Go, Stop}
 use Rattle.read_body.specs.Steps.{Ready, stripe_in, ended_of, StripeTurned, Standing, body_at, behind_item, Passed, BodyRefused, Turned}
+use Rattle.std.specs.declared.ops.ControlFlow.TheVariants.{Continue, Break}
+use Rattle.std.specs.declared.ops.ControlFlow.{ControlFlow}
 
 -- ---- body_end
-pub end_none : (p : Place) → p.stripe ≡ 0 → Body.Refused (BadStripe p.at) ≡ ended_of p
+pub end_none : (p : Place) → p.stripe ≡ 0 → Err (BadStripe p.at) ≡ ended_of p
 unfolding ended_of
 end_none p e = simp (eq-eqb p.stripe 0 e)
 
-pub end_some : (p : Place) → (p.stripe ≡ 0 → ⊥) → Records p.records (p.at + 2) ≡ ended_of p
+pub end_some : (p : Place) → (p.stripe ≡ 0 → ⊥) → Ok (record { records = p.records; next = p.at + 2 }) ≡ ended_of p
 unfolding ended_of
 end_some p n = simp (ne_eqb p.stripe 0 n)
 
@@ -62,15 +63,27 @@ module _ (hd : Head) (p : Place) (s out : List ℕ) (i : Standing hd out s p) {f
     room : p.at + 2 ≤ length s
     room = leb-true _ _ (sym e ∙ y)
 
-    pub body_over : b ≡ true → (x : Body) → x ≡ ended_of p → Turned hd p s out (Stop x) out
-    unfolding ended_of body_from
-    body_over z x q =
-        subst (λ (x : Body). Turned hd p s out (Stop x) out) (sym q)
-        (cond_with (λ (x : Body). Turned hd p s out (Stop x) out) (eqb p.stripe 0)
-        (λ u. record { same = λ fuel acc. simp (le-ltb (length s) (p.at + 2) room, sym t ∙ z, u); kept = refl })
-        (λ u. record { same = λ fuel acc. simp (le-ltb (length s) (p.at + 2) room, sym t ∙ z, u); counted = refl; inside = room; kept = refl }))
+    -- what the end comes to, as a turn
+    closed : Result Body Refusal → Type 0
+    closed (Ok x) = Turned hd p s out (Ok (Break x)) out
+    closed (Err a) = BodyRefused hd p s out a out
 
-    module _ (z : b ≡ false) {size : ℕ} (w : size ≡ body_in hd.rules.mode) {g : Segment} (v : g ≡ view_of (segment_of hd.rules.version (due_with size p.stripe) s p.at)) where
+    close : b ≡ true → closed (ended_of p)
+    unfolding ended_of body_from closed
+    close z =
+        cond_with closed (eqb p.stripe 0)
+        (λ u. record { same = λ fuel acc. simp (le-ltb (length s) (p.at + 2) room, sym t ∙ z, u); kept = refl })
+        (λ u. record { same = λ fuel acc. simp (le-ltb (length s) (p.at + 2) room, sym t ∙ z, u); counted = refl; inside = room; kept = refl })
+
+    pub body_over : b ≡ true → (q : Result Body Refusal) (x : Body) → q ≡ ended_of p → q ≡ Ok x → Turned hd p s out (Ok (Break x)) out
+    unfolding closed
+    body_over z q x e w = subst closed (sym e ∙ w) (close z)
+
+    pub body_none : b ≡ true → (q : Result Body Refusal) (a : Refusal) → q ≡ ended_of p → q ≡ Err a → BodyRefused hd p s out a out
+    unfolding closed
+    body_none z q a e w = subst closed (sym e ∙ w) (close z)
+
+    module _ (z : b ≡ false) {size : ℕ} (w : size ≡ body_in hd.rules.mode) {g : Result Segment Refusal} (v : g ≡ view_of (segment_of hd.rules.version (due_with size p.stripe) s p.at)) where
       body_item : (fuel : ℕ) (acc : List Record) → body_at (suc fuel) hd p acc s ≡ bind (item_of hd p.stripe p.left s p.at) (behind_item fuel hd p acc s)
       unfolding body_from
       body_item fuel acc = simp (le-ltb (length s) (p.at + 2) room, sym t ∙ z)
@@ -87,11 +100,11 @@ module _ (hd : Head) (p : Place) (s out : List ℕ) (i : Standing hd out s p) {f
       by_item : (x : Res Item) (fuel : ℕ) (acc : List Record) → item_of hd p.stripe p.left s p.at ≡ x → body_at (suc fuel) hd p acc s ≡ bind x (behind_item fuel hd p acc s)
       by_item x fuel acc q = body_item fuel acc ∙ ap (λ (y : Res Item). bind y (behind_item fuel hd p acc s)) q
 
-      pub body_wrong : (a : Answer) → g ≡ Segment.Refused a → BodyRefused hd p s out a out
+      pub body_wrong : (a : Refusal) → g ≡ Err a → BodyRefused hd p s out a out
       unfolding item_of bind
       body_wrong a q = record { same = λ fuel acc. by_item (no a) fuel acc (simp (view_no segment a (sym view ∙ q))); kept = refl }
 
-      pub body_skip : (next : ℕ) → g ≡ Optional next → Passed hd p s out (record { at = next; stripe = p.stripe; left = p.left; records = p.records }) out
+      pub body_skip : (next : ℕ) → g ≡ Ok (Optional next) → Passed hd p s out (record { at = next; stripe = p.stripe; left = p.left; records = p.records }) out
       unfolding item_of bind joined
       body_skip next q =
           view_optional (Passed hd p s out (record { at = next; stripe = p.stripe; left = p.left; records = p.records }) out) next segment (sym view ∙ q) λ n m k.
@@ -113,7 +126,7 @@ module _ (hd : Head) (p : Place) (s out : List ℕ) (i : Standing hd out s p) {f
                 by_item (ok skipped next) fuel acc (simp (k, m)) ∙ ap (λ (l : List Record). body_from (item_of hd) fuel p.stripe p.left l s next) (sym (append-nil acc));
           }
 
-      module _ (body : ℕ) (q : g ≡ Stripe body) where
+      module _ (body : ℕ) (q : g ≡ Ok (Stripe body)) where
         pub body_ready : Ready hd out s p body
         body_ready =
             view_stripe (Ready hd out s p body) body segment (sym view ∙ q) λ n m k.
@@ -128,9 +141,9 @@ module _ (hd : Head) (p : Place) (s out : List ℕ) (i : Standing hd out s p) {f
         unfolding item_of bind
         stripe_item = view_stripe (item_of hd p.stripe p.left s p.at ≡ stripe_in hd p s body) body segment (sym view ∙ q) λ n m k. simp (k, m)
 
-        pub body_stripe : (r : Turn) (out' : List ℕ) → StripeTurned hd p body s out r out' → Turned hd p s out r out'
+        pub body_stripe : (r : Place) (out' : List ℕ) → StripeTurned hd p body s out (Ok r) out' → Turned hd p s out (Ok (Continue r)) out'
         unfolding bind
-        body_stripe (Go r) out' x =
+        body_stripe r out' x =
             record {
               records = x.records;
               onward = x.onward;
@@ -138,7 +151,14 @@ module _ (hd : Head) (p : Place) (s out : List ℕ) (i : Standing hd out s p) {f
                   by_item (ok (striped x.height x.records) r.at) fuel acc (stripe_item ∙ x.same)
                   ∙ sym (ap₂ (λ (k l : ℕ). body_from (item_of hd) fuel k l (acc ++ x.records) s r.at) x.next x.lower);
             }
-        body_stripe (Stop (Body.Refused a)) out' x = record { same = λ fuel acc. by_item (no a) fuel acc (stripe_item ∙ x.same); kept = x.kept }
-        body_stripe (Stop (Records count next)) out' x = absurd x
 
-pub ruleset segments = (rules, body_short, body_marked, body_over, body_wrong, body_skip, body_ready, body_stripe)
+        pub body_faulty : (a : Refusal) (out' : List ℕ) → StripeTurned hd p body s out (Err a) out' → BodyRefused hd p s out a out'
+        unfolding bind
+        body_faulty a out' x = record { same = λ fuel acc. by_item (no a) fuel acc (stripe_item ∙ x.same); kept = x.kept }
+
+-- a refusal that is handed on
+pub body_stop : (hd : Head) (p : Place) (s out out' : List ℕ) (r : Result (ControlFlow Body Place) Refusal) {a : Refusal} → IsErr r × IsErrAnd r (λ (e : Refusal). e ≡ a)
+    → BodyRefused hd p s out a out' → Turned hd p s out r out'
+body_stop hd p s out out' r e x = asked_with (λ (q : Result (ControlFlow Body Place) Refusal). Turned hd p s out q out') r e x
+
+pub ruleset segments = (rules, body_stop, body_short, body_marked, body_over, body_none, body_wrong, body_skip, body_ready, body_stripe, body_faulty)

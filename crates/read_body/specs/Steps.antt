@@ -10,10 +10,10 @@
 --   Turned ..                a segment is passed, or the body ends or is refused
 --   Opened hd out s from     the start of page is fine and ends there, and the scratch has room
 --   Bodied ..                the body is read with its records, which are laid in front, or refused
-use Rattle.std.specs.Prelude.{ℕ, suc, ◌+◌, ◌-◌, ◌*◌, ◌≤◌, ◌<◌, cond, ◌≡◌, List, [], ◌++◌, length, eqb}
+use Rattle.std.specs.Prelude.{ℕ, suc, ◌+◌, ◌-◌, ◌*◌, ◌≤◌, ◌<◌, cond, ◌≡◌, List, [], ◌++◌, length, eqb, Result, Ok, Err}
 use Rattle.octets.specs.Octets.{put_at}
-use Rattle.answers.specs.declared.Answer.{Answer}
-use Rattle.answers.specs.declared.Answer.TheVariants.{BadStripe}
+use Rattle.answers.specs.declared.Refusal.{Refusal}
+use Rattle.answers.specs.declared.Refusal.TheVariants.{BadStripe}
 use Rattle.field_rules.specs.Field.{Res, ok, no}
 use Rattle.sheet_rules.specs.declared.Record.{Record}
 use Rattle.sheet_rules.specs.Record.{record_size, sheet_of}
@@ -24,9 +24,8 @@ use Rattle.body_rules.specs.Body.{Item, striped, on_item, body_from}
 use Rattle.page_rules.specs.Reading.{stripe_read_in, item_of}
 use Rattle.read_body.specs.declared.Place.{Place}
 use Rattle.read_body.specs.declared.Body.{Body}
-use Rattle.read_body.specs.declared.Body.TheVariants.{Records}
-use Rattle.read_body.specs.declared.Turn.{Turn}
-use Rattle.read_body.specs.declared.Turn.TheVariants.{Go, Stop}
+use Rattle.std.specs.declared.ops.ControlFlow.TheVariants.{Continue, Break}
+use Rattle.std.specs.declared.ops.ControlFlow.{ControlFlow}
 
 -- ---- a stripe
 
@@ -69,19 +68,18 @@ pub record StripePassed (hd : Head) (p : Place) (body : ℕ) (s out : List ℕ) 
   pub lower : q.left ≡ p.left - height
   pub onward : Onward hd s p out q out' records
 
-pub record StripeRefused (hd : Head) (p : Place) (body : ℕ) (s out : List ℕ) (a : Answer) (out' : List ℕ) : Type 0 where
+pub record StripeRefused (hd : Head) (p : Place) (body : ℕ) (s out : List ℕ) (a : Refusal) (out' : List ℕ) : Type 0 where
   pub same : stripe_in hd p s body ≡ no a
   pub kept : out' ≡ out
 
-abbrev pub StripeTurned : Head → Place → ℕ → List ℕ → List ℕ → Turn → List ℕ → Type 0
-StripeTurned hd p body s out (Go q) out' = StripePassed hd p body s out q out'
-StripeTurned hd p body s out (Stop (Body.Refused a)) out' = StripeRefused hd p body s out a out'
-StripeTurned hd p body s out (Stop (Records count next)) out' = ⊥
+abbrev pub StripeTurned : Head → Place → ℕ → List ℕ → List ℕ → Result Place Refusal → List ℕ → Type 0
+StripeTurned hd p body s out (Ok q) out' = StripePassed hd p body s out q out'
+StripeTurned hd p body s out (Err a) out' = StripeRefused hd p body s out a out'
 
 -- ---- a turn
 
-unfoldable pub ended_of : Place → Body
-ended_of p = cond (eqb p.stripe 0) (Body.Refused (BadStripe p.at)) (Records p.records (p.at + 2))
+unfoldable pub ended_of : Place → Result Body Refusal
+ended_of p = cond (eqb p.stripe 0) (Err (BadStripe p.at)) (Ok (record { records = p.records; next = p.at + 2 }))
 
 pub record Standing (hd : Head) (out s : List ℕ) (p : Place) : Type 0 where
   pub inside : p.at ≤ length s
@@ -110,14 +108,14 @@ pub record Over (hd : Head) (p : Place) (s out : List ℕ) (count next : ℕ) (o
   pub inside : next ≤ length s
   pub kept : out' ≡ out
 
-pub record BodyRefused (hd : Head) (p : Place) (s out : List ℕ) (a : Answer) (out' : List ℕ) : Type 0 where
+pub record BodyRefused (hd : Head) (p : Place) (s out : List ℕ) (a : Refusal) (out' : List ℕ) : Type 0 where
   pub same : (fuel : ℕ) (acc : List Record) → body_at (suc fuel) hd p acc s ≡ no a
   pub kept : out' ≡ out
 
-abbrev pub Turned : Head → Place → List ℕ → List ℕ → Turn → List ℕ → Type 0
-Turned hd p s out (Go q) out' = Passed hd p s out q out'
-Turned hd p s out (Stop (Records count next)) out' = Over hd p s out count next out'
-Turned hd p s out (Stop (Body.Refused a)) out' = BodyRefused hd p s out a out'
+abbrev pub Turned : Head → Place → List ℕ → List ℕ → Result (ControlFlow Body Place) Refusal → List ℕ → Type 0
+Turned hd p s out (Ok (Continue q)) out' = Passed hd p s out q out'
+Turned hd p s out (Ok (Break b)) out' = Over hd p s out b.records b.next out'
+Turned hd p s out (Err a) out' = BodyRefused hd p s out a out'
 
 -- ---- the body
 
@@ -138,6 +136,6 @@ pub record BodyRead (hd : Head) (s : List ℕ) (from : ℕ) (out : List ℕ) (co
   pub fits : count * record_size ≤ length out
   pub inside : next ≤ length s
 
-abbrev pub Bodied : Head → List ℕ → ℕ → List ℕ → Body → List ℕ → Type 0
-Bodied hd s from out (Records count next) out' = BodyRead hd s from out count next out'
-Bodied hd s from out (Body.Refused a) out' = whole_body hd s from ≡ no a
+abbrev pub Bodied : Head → List ℕ → ℕ → List ℕ → Result Body Refusal → List ℕ → Type 0
+Bodied hd s from out (Ok b) out' = BodyRead hd s from out b.records b.next out'
+Bodied hd s from out (Err a) out' = whole_body hd s from ≡ no a

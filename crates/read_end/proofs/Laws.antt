@@ -14,18 +14,17 @@ use Rattle.laws.proofs.Cases.{bool_else, clash}
 use Rattle.octets.specs.Octets.{stands_at}
 use Rattle.octets.proofs.Laws.{drop_octet}
 use Rattle.octets.proofs.Runs.{run_end, Run, run_back}
-use Rattle.answers.specs.declared.Answer.{Answer}
-use Rattle.answers.specs.declared.Answer.TheVariants.{BadMark, Trailing}
+use Rattle.answers.specs.declared.Refusal.TheVariants.{BadMark, Trailing}
 use Rattle.field_rules.specs.Field.{Res, ok, no, bind, fields}
 use Rattle.page_rules.specs.Reading.{zeros_of, end_table}
-use Rattle.read_field.specs.declared.Judged.{Judged}
-use Rattle.read_field.specs.declared.Judged.TheVariants.{Fine, Refused}
+use Rattle.std.specs.Prelude.{Result, Ok, Err, ⊤}
+use Rattle.answers.specs.declared.Refusal.{Refusal}
 use Rattle.read_end.specs.Ends.{zeros_from, close_of}
 use Rattle.read_field.specs.Judged.{field_of, judged_of}
 use Rattle.read_field.proofs.Lines.{line_begin, line_mark, line_end}
 
 -- ---- trailing
-pub zeros_over : (s : List ℕ) (i : ℕ) → length s ≤ i → Fine ≡ zeros_from s i
+pub zeros_over : (s : List ℕ) (i : ℕ) → length s ≤ i → Ok tt ≡ zeros_from s i
 unfolding zeros_from zeros_of
 zeros_over s i h = sym (simp (drop_of_length-le s h))
 
@@ -46,20 +45,20 @@ module _ (s : List ℕ) (from : ℕ) (h : from < length s) {i : ℕ} (q : i ≡ 
       ap (λ (l : List ℕ). judged_of (zeros_of l from)) run.stands
       ∙ ap judged_of (zeros_passed (i - from) (drop i s) from ∙ ap (zeros_of (drop i s)) z)
 
-  pub zeros_all : length s ≤ i → Fine ≡ zeros_from s from
+  pub zeros_all : length s ≤ i → Ok tt ≡ zeros_from s from
   zeros_all l = zeros_over s i l ∙ sym zeros_same
 
-  pub zeros_stop : i < length s → Refused (Trailing i) ≡ zeros_from s from
+  pub zeros_stop : i < length s → Err (Trailing i) ≡ zeros_from s from
   unfolding zeros_from zeros_of
   zeros_stop l = sym (zeros_same ∙ simp (drop_octet s i l, ne_eqb (get_or s i 0) 0 (run.other l)))
 
 -- ---- judge_end
-bind_refused : {A B : Type 0} (x : Res A) (go : A → ℕ → Res B) (a : Answer) → judged_of x ≡ Refused a → judged_of (bind x go) ≡ Refused a
+bind_refused : {A B : Type 0} (x : Res A) (go : A → ℕ → Res B) (a : Refusal) → judged_of x ≡ Err a → judged_of (bind x go) ≡ Err a
 unfolding judged_of bind
 bind_refused (ok v n) go a e = clash cc
 bind_refused (no b) go a e = e
 
-close_by : (s : List ℕ) (at : ℕ) → judged_of (fields end_table [] s at) ≡ Fine → zeros_from s (at + 2) ≡ close_of s at
+close_by : (s : List ℕ) (at : ℕ) → judged_of (fields end_table [] s at) ≡ Ok tt → zeros_from s (at + 2) ≡ close_of s at
 unfolding end_table fields close_of zeros_from judged_of bind
 close_by s at =
     ⊎_elim (λ (l : ltb (length s) (at + 2) ≡ true). simp l (λ e. clash cc))
@@ -69,16 +68,16 @@ close_by s at =
     (bool_else (stands_at s at (0xFF ∷ 0xD9 ∷ []))))
     (bool_else (ltb (length s) (at + 2)))
 
-module _ (s : List ℕ) (at : ℕ) {b : Bool} (t : b ≡ stands_at s at (0xFF ∷ 0xD9 ∷ [])) {r : Judged} (e : r ≡ field_of s Fine at 2 b (BadMark at)) where
+module _ (s : List ℕ) (at : ℕ) {b : Bool} (t : b ≡ stands_at s at (0xFF ∷ 0xD9 ∷ [])) {r : Result ⊤ Refusal} (e : r ≡ field_of s at 2 b (BadMark at)) where
   marked : r ≡ judged_of (fields end_table [] s at)
   unfolding end_table
-  marked = line_end (line_mark (line_begin s end_table at) at refl e t)
+  marked = line_end (line_mark (line_begin s end_table at) at refl e t refl)
 
-  pub close_refused : {a : Answer} → r ≡ Refused a → Refused a ≡ close_of s at
+  pub close_refused : {a : Refusal} → r ≡ Err a → Err a ≡ close_of s at
   unfolding close_of
   close_refused y = sym (bind_refused (fields end_table [] s at) (λ (es : List ℕ) (e : ℕ). zeros_of (drop e s) e) _ (sym marked ∙ y))
 
-  pub close_fine : {q : Judged} → r ≡ Fine → q ≡ zeros_from s (at + 2) → q ≡ close_of s at
+  pub close_fine : {q : Result ⊤ Refusal} → r ≡ Ok tt → q ≡ zeros_from s (at + 2) → q ≡ close_of s at
   close_fine y h = h ∙ close_by s at (sym marked ∙ y)
 
 pub ruleset ending = (rules, zeros_over, zeros_all, zeros_stop, close_refused, close_fine)

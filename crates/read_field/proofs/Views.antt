@@ -8,17 +8,17 @@ use lib.ListN.{length}
 use lib.Dec.{ltb}
 use Rattle.laws.proofs.Cases.{cond_with, clash}
 use Rattle.octets.specs.Octets.{stands_at}
-use Rattle.answers.specs.declared.Answer.{Answer}
+use Rattle.answers.specs.declared.Refusal.{Refusal}
 use Rattle.field_rules.specs.Field.{Res, ok, no, widths, numbers, Field, mark, val, again, fields}
-use Rattle.read_field.specs.declared.Judged.TheVariants.{Fine, Refused}
+use Rattle.std.specs.Prelude.{Ok, Err}
 use Rattle.read_field.specs.Judged.{judged_of}
 
-pub judged_no : {A : Type 0} (x : Res A) (a : Answer) → judged_of x ≡ Refused a → x ≡ no a
+pub judged_no : {A : Type 0} (x : Res A) (a : Refusal) → judged_of x ≡ Err a → x ≡ no a
 unfolding judged_of
 judged_no (ok v n) a e = clash cc
 judged_no (no b) a e = let p : b ≡ a = cc in ap no p
 
-pub judged_ok : {A : Type 0} (P : Type 0) (x : Res A) → judged_of x ≡ Fine → ((v : A) (n : ℕ) → x ≡ ok v n → P) → P
+pub judged_ok : {A : Type 0} (P : Type 0) (x : Res A) → judged_of x ≡ Ok tt → ((v : A) (n : ℕ) → x ≡ ok v n → P) → P
 unfolding judged_of
 judged_ok P (ok v n) e k = k v n refl
 judged_ok P (no b) e k = clash cc

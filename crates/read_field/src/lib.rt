@@ -1,32 +1,24 @@
-// Fields of a page, judged one after the other: place, octets, rule, refusal. A refusal flows through, so that a table of fields has one way out.
+// Fields of a page: place, octets, rule, refusal. A table of them is a chain of `and`, in which the first refusal is the answer: so it has one way out.
 #![tactic(auto)]
 
 ghost use Rattle.std.specs.Prelude.{◌≡◌, ◌+◌, ◌<◌, leb, length, get_or};
 ghost use Rattle.octets.specs.Octets.{be16_at, be32_at};
 ghost use Rattle.read_field.specs.Judged.{held_of, field_of};
 
-use answers::Answer;
-
-// What the fields so far have come to.
-#[derive(Clone, Copy)]
-pub enum Judged {
-    Fine,
-    Refused(Answer),
-}
+use answers::Refusal;
 
 // An octet, or 0 past the end.
 pub fn octet(s: &[u8], at: u32) -> u8
     ensures { result ≡ get_or s.now at 0 }
 {
-    let i = at as usize;
-    if i < s.len() { s[i] } else { 0 }
+    s.get(at as usize).copied().unwrap_or(0)
 }
 
 pub fn two(s: &[u8], at: u32) -> u16
     requires { at < 4294967294 }
     ensures { result ≡ be16_at s.now at }
 {
-    octets_get::wide(octet(s, at)) * 256 + octets_get::wide(octet(s, at + 1))
+    u16::from_be_bytes([octet(s, at), octet(s, at + 1)])
 }
 
 pub fn four(s: &[u8], at: u32) -> u32
@@ -45,24 +37,16 @@ pub fn fits(s: &[u8], at: u32, n: u32) -> bool
     (at as u64) + (n as u64) <= s.len() as u64
 }
 
-pub fn held(r: Judged, good: bool, refusal: Answer) -> Judged
-    ensures { result ≡ held_of r good refusal }
+// A rule, and what it refuses with.
+pub fn held(good: bool, refusal: Refusal) -> Result<(), Refusal>
+    ensures { result ≡ held_of good refusal }
 {
-    match r {
-        Judged::Refused(a) => Judged::Refused(a),
-        Judged::Fine => {
-            if good {
-                Judged::Fine
-            } else {
-                Judged::Refused(refusal)
-            }
-        }
-    }
+    if good { Ok(()) } else { Err(refusal) }
 }
 
 // A field of n octets: Short before its rule.
-pub fn field(s: &[u8], r: Judged, at: u32, n: u32, good: bool, refusal: Answer) -> Judged
-    ensures { result ≡ field_of s.now r at n good refusal }
+pub fn field(s: &[u8], at: u32, n: u32, good: bool, refusal: Refusal) -> Result<(), Refusal>
+    ensures { result ≡ field_of s.now at n good refusal }
 {
-    held(held(r, fits(s, at, n), Answer::Short(at)), good, refusal)
+    held(fits(s, at, n), Refusal::Short(at)).and(held(good, refusal))
 }

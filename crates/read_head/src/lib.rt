@@ -10,9 +10,9 @@ ghost use Rattle.mode1_rules.specs.Reading.{mask_length_ok, stripe_table};
 ghost use Rattle.read_field.specs.Judged.{judged_of};
 ghost use Rattle.read_head.specs.Fields.{fields_at, Shown};
 
-use answers::Answer;
+use answers::Refusal;
 use mode1_rules::Fields;
-use read_field::Judged;
+use read_field::{field, four, octet};
 use sheet_rules::Colour;
 use start_rules::Head;
 
@@ -59,9 +59,9 @@ fn colour_at(s: &[u8], at: u32) -> Colour
     ensures { result ≡ colour_at s.now at }
 {
     Colour {
-        c0: read_field::octet(s, at),
-        c1: read_field::octet(s, at + 1),
-        c2: read_field::octet(s, at + 2),
+        c0: octet(s, at),
+        c1: octet(s, at + 1),
+        c2: octet(s, at + 2),
     }
 }
 
@@ -73,20 +73,20 @@ pub fn fields_at(s: &[u8], at: u32) -> Fields
     let back = colour_at(s, at + 1);
     let fore = colour_at(s, at + 4);
     Fields {
-        kind: read_field::octet(s, at),
+        kind: octet(s, at),
         back,
         fore,
-        back_x: read_field::four(s, at + 7),
-        back_y: read_field::four(s, at + 11),
-        fore_x: read_field::four(s, at + 15),
-        fore_y: read_field::four(s, at + 19),
-        height: read_field::four(s, at + 23),
-        mask_length: read_field::four(s, at + 27),
+        back_x: four(s, at + 7),
+        back_y: four(s, at + 11),
+        fore_x: four(s, at + 15),
+        fore_y: four(s, at + 19),
+        height: four(s, at + 23),
+        mask_length: four(s, at + 27),
     }
 }
 
 // The fields were read before, so that they are read once. An offset is one field of eight octets.
-pub fn judge_stripe(s: &[u8], hd: Head, left: u32, at: u32, f: Fields) -> Judged
+pub fn judge_stripe(s: &[u8], hd: Head, left: u32, at: u32, f: Fields) -> Result<(), Refusal>
     requires { Shown s.now at f }
     ensures { result ≡ judged_of (fields (stripe_table hd left) [] s.now at) }
 {
@@ -95,11 +95,11 @@ pub fn judge_stripe(s: &[u8], hd: Head, left: u32, at: u32, f: Fields) -> Judged
     let fore = offset_ok(has_fore(f.kind), f.fore_x, f.fore_y);
     let height = (1 <= f.height) & (f.height <= left);
     let mask = mask_length_ok(f.kind, f.mask_length);
-    let r = read_field::field(s, Judged::Fine, at, 1, kind, Answer::BadType(at));
-    let r = read_field::field(s, r, at + 1, 3, true, Answer::BadStripe(at + 1));
-    let r = read_field::field(s, r, at + 4, 3, true, Answer::BadStripe(at + 4));
-    let r = read_field::field(s, r, at + 7, 8, back, Answer::BadStripe(at + 7));
-    let r = read_field::field(s, r, at + 15, 8, fore, Answer::BadStripe(at + 15));
-    let r = read_field::field(s, r, at + 23, 4, height, Answer::BadStripe(at + 23));
-    read_field::field(s, r, at + 27, 4, mask, Answer::BadStripe(at + 27))
+    field(s, at, 1, kind, Refusal::BadType(at))
+        .and(field(s, at + 1, 3, true, Refusal::BadStripe(at + 1)))
+        .and(field(s, at + 4, 3, true, Refusal::BadStripe(at + 4)))
+        .and(field(s, at + 7, 8, back, Refusal::BadStripe(at + 7)))
+        .and(field(s, at + 15, 8, fore, Refusal::BadStripe(at + 15)))
+        .and(field(s, at + 23, 4, height, Refusal::BadStripe(at + 23)))
+        .and(field(s, at + 27, 4, mask, Refusal::BadStripe(at + 27)))
 }

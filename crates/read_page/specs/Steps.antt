@@ -6,10 +6,10 @@
 --   rest_of hd s              the page after its start
 --   Judges x out r out'      the verdict is that of a reading x, and its records are laid in front
 --   Emits laid n d a e       so many records of what is laid, put in front of a sheet that has room for them
-use Rattle.std.specs.Prelude.{ℕ, ◌*◌, ◌≤◌, cond, ◌≡◌, List, [], length, take, drop, ltb}
+use Rattle.std.specs.Prelude.{ℕ, ◌*◌, ◌≤◌, cond, ◌≡◌, List, [], length, take, drop, ltb, Result, Ok, Err}
 use Rattle.octets.specs.Octets.{put_at}
-use Rattle.answers.specs.declared.Answer.{Answer}
-use Rattle.answers.specs.declared.Answer.TheVariants.{Done, NoRoom}
+use Rattle.answers.specs.Answers.{Answer}
+use Rattle.answers.specs.declared.Refusal.TheVariants.{NoRoom}
 use Rattle.field_rules.specs.Field.{Res, ok, no, bind, fields}
 use Rattle.sheet_rules.specs.declared.Record.{Record}
 use Rattle.sheet_rules.specs.Record.{record_size, sheet_of}
@@ -18,8 +18,7 @@ use Rattle.segment_rules.specs.Rules.{most_layers, longest_page}
 use Rattle.start_rules.specs.declared.Head.{Head}
 use Rattle.body_rules.specs.Body.{body_from}
 use Rattle.page_rules.specs.Reading.{item_of, zeros_of, end_table}
-use Rattle.read_page.specs.declared.Verdict.{Verdict}
-use Rattle.read_page.specs.declared.Verdict.TheVariants.{Sheet, Refused}
+use Rattle.answers.specs.declared.Refusal.{Refusal}
 
 abbrev pub page_sheet : ℕ
 page_sheet = 64 * most_layers One * record_size
@@ -46,10 +45,10 @@ pub record PageRead (x : Res (List Record)) (out : List ℕ) (count : ℕ) (out'
   pub counted : count ≡ length records
   pub fits : count * record_size ≤ length out
 
-abbrev pub Judges : Res (List Record) → List ℕ → Verdict → List ℕ → Type 0
-Judges x out (Sheet count) out' = PageRead x out count out'
-Judges x out (Refused a) out' = x ≡ no a
+abbrev pub Judges : Res (List Record) → List ℕ → Result ℕ Refusal → List ℕ → Type 0
+Judges x out (Ok count) out' = PageRead x out count out'
+Judges x out (Err a) out' = x ≡ no a
 
 pub record Emits (laid : List ℕ) (count : ℕ) (d : List ℕ) (a : Answer) (e : List ℕ) : Type 0 where
-  pub answers : a ≡ cond (ltb (length d) (count * record_size)) NoRoom (Done count)
+  pub answers : a ≡ cond (ltb (length d) (count * record_size)) (Err NoRoom) (Ok count)
   pub holds : e ≡ cond (ltb (length d) (count * record_size)) d (put_at d 0 (take (count * record_size) laid))

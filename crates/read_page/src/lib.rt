@@ -8,44 +8,29 @@ ghost use Rattle.page_rules.specs.Reading.{page_of, Reads};
 ghost use Rattle.read_start.specs.Start.{head_at};
 ghost use Rattle.read_page.specs.Steps.{rest_of, Judges, Lent, Begun, Emits};
 
-use answers::Answer;
+use answers::{Answer, Refusal};
 use page_rules::PAGE_SHEET;
-use read_body::Body;
-use read_field::Judged;
 use read_start::START_SIZE;
 use segment_rules::LONGEST_PAGE;
 use sheet_rules::RECORD_SIZE;
 
-// What a page comes to: how many records its sheet has, or why it is refused.
-#[derive(Clone, Copy)]
-pub enum Verdict {
-    Sheet { records: u32 },
-    Refused(Answer),
-}
-
-// After a start that is fine: the body, the second FF D9 of the end, and zero octets only.
-fn judge_rest(out: &mut [u8], s: &[u8]) -> Verdict
+// After a start that is fine: the body, the second FF D9 of the end, and zero octets only. Answers how many records were laid.
+fn judge_rest(out: &mut [u8], s: &[u8]) -> Result<u32, Refusal>
     requires { Begun out.old s.now }
     ensures { Judges (rest_of (head_at s.now) s.now) out.old result out.new }
 {
     let hd = read_start::head_at(s);
-    match read_body::read_body(out, s, hd, START_SIZE) {
-        Body::Refused(a) => Verdict::Refused(a),
-        Body::Records { count, next } => match read_end::judge_end(s, next) {
-            Judged::Refused(a) => Verdict::Refused(a),
-            Judged::Fine => Verdict::Sheet { records: count },
-        },
-    }
+    let body = read_body::read_body(out, s, hd, START_SIZE)?;
+    read_end::judge_end(s, body.next)?;
+    Ok(body.records)
 }
 
-fn judge_page(out: &mut [u8], s: &[u8]) -> Verdict
+fn judge_page(out: &mut [u8], s: &[u8]) -> Result<u32, Refusal>
     requires { Lent out.old s.now }
     ensures { Judges (page_of s.now) out.old result out.new }
 {
-    match read_start::judge_start(s) {
-        Judged::Refused(a) => Verdict::Refused(a),
-        Judged::Fine => judge_rest(out, s),
-    }
+    read_start::judge_start(s)?;
+    judge_rest(out, s)
 }
 
 // The sheet has room for all of it, or stays as it was.
@@ -55,21 +40,19 @@ fn emit(sheet: &mut [u8], laid: &[u8], records: u32) -> Answer
 {
     let size = records as usize * RECORD_SIZE;
     if sheet.len() < size {
-        return Answer::NoRoom;
+        return Err(Refusal::NoRoom);
     }
     octets_put::copy_range(sheet, 0, laid, 0, size);
-    Answer::Done(records as u64)
+    Ok(records as u64)
 }
 
 pub fn read_page(page: &[u8], sheet: &mut [u8]) -> Answer
     ensures { Reads page.now sheet.old result sheet.new }
 {
     if LONGEST_PAGE < page.len() {
-        return Answer::TooLong;
+        return Err(Refusal::TooLong);
     }
     let mut laid = [0u8; PAGE_SHEET];
-    match judge_page(&mut laid, page) {
-        Verdict::Refused(a) => a,
-        Verdict::Sheet { records } => emit(sheet, &laid, records),
-    }
+    let records = judge_page(&mut laid, page)?;
+    emit(sheet, &laid, records)
 }

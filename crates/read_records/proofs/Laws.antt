@@ -17,22 +17,12 @@ use Rattle.sheet_rules.specs.Record.{marked, encode, sheet_of, record_size}
 use Rattle.sheet_rules.proofs.Cut.{length_encode}
 use Rattle.start_rules.specs.declared.Head.{Head}
 use Rattle.mode1_rules.specs.declared.Fields.{Fields}
+use Rattle.std.specs.Prelude.{Option, Some, None}
 use Rattle.mode1_rules.specs.declared.LayerData.{LayerData}
-use Rattle.mode1_rules.specs.declared.LayerData.TheVariants.{There, Absent}
 use Rattle.mode1_rules.specs.Kinds.{has_mask, image_record, mask_record}
 use Rattle.mode1_rules.specs.Grammar.{records_of}
-use Rattle.jpeg_rules.specs.declared.Said.{Said}
 use Rattle.jpeg_rules.specs.Said.{grey_octet}
 use Rattle.read_records.specs.Places.{Placed, Room}
-
--- ---- coder_if and start_if
-pub if_mask : (t v : ℕ) {b : Bool} → b ≡ has_mask t → b ≡ true → v ≡ cond (has_mask t) v 0
-if_mask t v e y = simp (sym e ∙ y)
-
-pub if_none : (t v : ℕ) {b : Bool} → b ≡ has_mask t → b ≡ false → ◌≡◌ {A = ℕ} 0 (cond (has_mask t) v 0)
-if_none t v e y = simp (sym e ∙ y)
-
-pub ruleset if_laws = (rules, if_mask, if_none)
 
 -- ---- grey_octet
 pub octet_one : (c : ℕ) → c ≡ 1 → 1 ≡ grey_octet c
@@ -46,7 +36,7 @@ octet_other c d = simp (ne_eqb c 1 d)
 pub ruleset octet_laws = (rules, octet_one, octet_other)
 
 -- ---- image_record
-module _ (c : LayerData) (x y : ℕ) (p : Placed c x y) {start size : ℕ} {said : Said} (z : c ≡ There start size said) where
+module _ (c : Option LayerData) (x y : ℕ) (p : Placed c x y) {w : LayerData} (z : c ≡ Some w) where
   low : (x ≤ 65535) × (y ≤ 65535)
   low = rw z at p
 
@@ -56,22 +46,25 @@ module _ (c : LayerData) (x y : ℕ) (p : Placed c x y) {start size : ℕ} {said
   pub down_low : y ≤ 65535
   down_low = low.1
 
-module _ (hd : Head) (k layer : ℕ) (base : Colour) (x y : ℕ) (c : LayerData) where
-  pub image_there : {start size u v g : ℕ} {said : Said} → c ≡ There start size said → u ≡ x → v ≡ y → g ≡ grey_octet said.components
-      → marked g (image_record hd k layer base u v (There start size said)) ≡ image_record hd k layer base x y c
+module _ (hd : Head) (k layer : ℕ) (base : Colour) (x y : ℕ) (c : Option LayerData) where
+  pub image_there : {w : LayerData} {u v g : ℕ} → c ≡ Some w → u ≡ x → v ≡ y → g ≡ grey_octet w.said.components
+      → marked g (image_record hd k layer base u v (Some w)) ≡ image_record hd k layer base x y c
   unfolding image_record
   image_there z d f h = rw (z, d, f, h) refl
 
-  pub image_absent : {r : Record} → c ≡ Absent → r ≡ image_record hd k layer base 0 0 Absent → r ≡ image_record hd k layer base x y c
+  pub image_absent : {r : Record} → c ≡ None → r ≡ image_record hd k layer base 0 0 None → r ≡ image_record hd k layer base x y c
   unfolding image_record
   image_absent z h = h ∙ rw z refl
 
 pub ruleset image_laws = (rules, across_low, down_low, image_there, image_absent)
 
 -- ---- mask_record
-pub mask_made : (hd : Head) (k t height start len : ℕ) {c p h : ℕ} → c ≡ cond (has_mask t) hd.mask 0 → p ≡ cond (has_mask t) start 0 → h ≡ height
-    → mask_record hd k h c p len ≡ mask_record hd k height (cond (has_mask t) hd.mask 0) (cond (has_mask t) start 0) len
-mask_made hd k t height start len e f g = rw (e, f, g) refl
+module _ (hd : Head) (k t height start len : ℕ) {b : Bool} (e : b ≡ has_mask t) {v : ℕ × ℕ} {h : ℕ} (g : h ≡ height) where
+  pub mask_there : b ≡ true → v ≡ (hd.mask, start) → mask_record hd k h v.0 v.1 len ≡ mask_record hd k height (cond (has_mask t) hd.mask 0) (cond (has_mask t) start 0) len
+  mask_there y d = rw (g, d, sym e ∙ y) refl
+
+  pub mask_none : b ≡ false → v ≡ (0, 0) → mask_record hd k h v.0 v.1 len ≡ mask_record hd k height (cond (has_mask t) hd.mask 0) (cond (has_mask t) start 0) len
+  mask_none y d = rw (g, d, sym e ∙ y) refl
 
 -- ---- put_stripe
 put_three : (d : List ℕ) (i : ℕ) (r1 r2 r3 : Record) → i ≤ length d
@@ -89,7 +82,7 @@ put_three d i r1 r2 r3 h =
     ∙ put_put d i (encode r1 ++ encode r2) (encode r3) h
     ∙ ap (put_at d i) (append_assoc (encode r1) (encode r2) (encode r3) ∙ ap (λ (l : List ℕ). encode r1 ++ (encode r2 ++ l)) (sym (append-nil (encode r3))))
 
-pub stripe_put : (out : List ℕ) (to : ℕ) (hd : Head) (k : ℕ) (f : Fields) (mask : ℕ) (back fore : LayerData) {r1 r2 r3 : Record} {o1 o2 o3 : List ℕ} → Room out to f back fore
+pub stripe_put : (out : List ℕ) (to : ℕ) (hd : Head) (k : ℕ) (f : Fields) (mask : ℕ) (back fore : Option LayerData) {r1 r2 r3 : Record} {o1 o2 o3 : List ℕ} → Room out to f back fore
     → r1 ≡ image_record hd k 1 f.back f.back_x f.back_y back
     → r2 ≡ mask_record hd k f.height (cond (has_mask f.kind) hd.mask 0) (cond (has_mask f.kind) mask 0) f.mask_length
     → r3 ≡ image_record hd k 3 f.fore f.fore_x f.fore_y fore

@@ -3,11 +3,10 @@
 // A stripe's fields are judged before: a layer that is coded has offsets below 65,536, and so is the height. The caller says so (`Room`), and nothing is cut off.
 #![tactic(auto)]
 
-ghost use Rattle.std.specs.Prelude.{◌≡◌, cond, ◌≤◌};
+ghost use Rattle.std.specs.Prelude.{◌≡◌, cond, None, ◌≤◌};
 ghost use Rattle.octets.specs.Octets.{put_at};
 ghost use Rattle.sheet_rules.specs.Record.{sheet_of};
 ghost use Rattle.jpeg_rules.specs.Said.{grey_octet};
-ghost use Rattle.mode1_rules.specs.declared.LayerData.TheVariants.{Absent};
 ghost use Rattle.mode1_rules.specs.Kinds.{has_mask, image_record, mask_record};
 ghost use Rattle.mode1_rules.specs.Grammar.{records_of};
 ghost use Rattle.read_records.specs.Places.{Placed, Room};
@@ -25,7 +24,7 @@ fn narrow(v: u32) -> u16
 
 // 01: a layer that is not coded has nothing but its base colour and the main resolution.
 fn absent_record(hd: Head, k: u16, layer: u8, base: Colour) -> Record
-    ensures { result ≡ image_record hd k layer base 0 0 Absent }
+    ensures { result ≡ image_record hd k layer base 0 0 None }
 {
     Record {
         stripe: k,
@@ -53,52 +52,50 @@ fn grey_octet(components: u32) -> u8
     if components == 1 { 1 } else { 0 }
 }
 
-fn image_record(hd: Head, k: u16, layer: u8, base: Colour, x: u32, y: u32, c: LayerData) -> Record
+fn image_record(
+    hd: Head,
+    k: u16,
+    layer: u8,
+    base: Colour,
+    x: u32,
+    y: u32,
+    c: Option<LayerData>,
+) -> Record
     requires { Placed c x y }
     ensures { result ≡ image_record hd k layer base x y c }
 {
     match c {
-        LayerData::There { start, size, said } => Record {
+        Some(w) => Record {
             stripe: k,
             layer,
             coder: 1,
             x: narrow(x),
             y: narrow(y),
-            width: said.width,
-            height: said.height,
-            res: said.res,
+            width: w.said.width,
+            height: w.said.height,
+            res: w.said.res,
             base0: base.c0,
             base1: base.c1,
             base2: base.c2,
-            octet17: grey_octet(said.components),
-            start,
-            len: size,
+            octet17: grey_octet(w.said.components),
+            start: w.start,
+            len: w.size,
             octets26: 0,
         },
-        LayerData::Absent => absent_record(hd, k, layer, base),
+        None => absent_record(hd, k, layer, base),
     }
 }
 
-// A mask that the type does not name has coder and start 0.
-fn coder_if(t: u8, coder: u8) -> u8
-    ensures { result ≡ cond (has_mask t) coder 0 }
-{
-    if read_head::has_mask(t) { coder } else { 0 }
-}
-
-fn start_if(t: u8, start: u32) -> u32
-    ensures { result ≡ cond (has_mask t) start 0 }
-{
-    if read_head::has_mask(t) { start } else { 0 }
-}
-
-// 01: layer 2 has the page's width and the stripe's height, coded or not.
+// 01: layer 2 has the page's width and the stripe's height, coded or not. A mask that the type does not name has coder and start 0.
 fn mask_record(hd: Head, k: u16, t: u8, height: u32, start: u32, len: u32) -> Record
     requires { height ≤ 65535 }
     ensures { result ≡ mask_record hd k height (cond (has_mask t) hd.mask 0) (cond (has_mask t) start 0) len }
 {
-    let coder = coder_if(t, hd.mask);
-    let start = start_if(t, start);
+    let (coder, start) = if read_head::has_mask(t) {
+        (hd.mask, start)
+    } else {
+        (0, 0)
+    };
     let height = narrow(height);
     Record {
         stripe: k,
@@ -127,8 +124,8 @@ pub fn put_stripe(
     k: u16,
     f: Fields,
     mask: u32,
-    back: LayerData,
-    fore: LayerData,
+    back: Option<LayerData>,
+    fore: Option<LayerData>,
 )
     requires { Room out.old to f back fore }
     ensures { out.new ≡ put_at out.old to (sheet_of (records_of hd k f mask back fore)) }

@@ -1,5 +1,6 @@
 -- A segment behind the start: for each way out of its reader one law.
 -- Assumes nothing.
+use Rattle.std.specs.Prelude.{Result, Ok, Err}
 use Prim.Native.Nat.{ℕ, suc, ◌+◌, ◌-◌, ◌≤◌, ◌<◌}
 use native.Mathlib.Omega.{arith}
 use mathlib.Core.Path.{◌≡◌, refl, sym, ap, ◌∙◌}
@@ -13,7 +14,7 @@ use borrow.Author.Tests.{leb-true, leb-false, lt-ltb, le-ltb, le-leb, eq-eqb, ne
 use Rattle.laws.proofs.Cases.{bool_else, clash}
 use Rattle.octets.specs.Octets.{be16_at, begins, stands_at}
 use Rattle.octets.proofs.Laws.{drop_octet}
-use Rattle.answers.specs.declared.Answer.TheVariants.{Short, BadMark, BadLength, BadStripe}
+use Rattle.answers.specs.declared.Refusal.TheVariants.{Short, BadMark, BadLength, BadStripe}
 use Rattle.field_rules.specs.Field.{Res, ok, no, bind, one, numbers, fields}
 use Rattle.field_rules.specs.Part.{span_of}
 use Rattle.segment_rules.specs.declared.Version.{Version}
@@ -22,8 +23,9 @@ use Rattle.segment_rules.specs.Rules.{longest_page}
 use Rattle.segment_rules.specs.Segment.{sized, length_ok, mrc, open_table, behind_of, segment_of}
 use Rattle.page_rules.specs.Reading.{ident_ok, due_with}
 use Rattle.read_segment.specs.declared.Segment.{Segment}
-use Rattle.read_segment.specs.declared.Segment.TheVariants.{Stripe, Optional, Refused}
+use Rattle.read_segment.specs.declared.Segment.TheVariants.{Stripe, Optional}
 use Rattle.read_segment.specs.Segments.{Marked, Behind, view_of, optional_at, on_span, stripe_at, behind as behind_in, ident_of, length_of}
+use Rattle.answers.specs.declared.Refusal.{Refusal}
 
 -- ---- length_ok
 pub length_by : (version : Version) (size : ℕ) → leb 6 size ≡ length_ok version size
@@ -35,11 +37,11 @@ pub optional_made : (k : ℕ) (s : List ℕ) (at n : ℕ) (b : Bool) → n ≡ g
 unfolding optional_at
 optional_made k s at n b e f = simp (e, f)
 
-pub skip_whole : (s : List ℕ) (at body : ℕ) (b : Bool) → b ≡ leb (at + body) (length s) → b ≡ true → Optional (at + body) ≡ on_span (span_of s at body)
+pub skip_whole : (s : List ℕ) (at body : ℕ) (b : Bool) → b ≡ leb (at + body) (length s) → b ≡ true → Ok (Optional (at + body)) ≡ on_span (span_of s at body)
 unfolding span_of on_span
 skip_whole s at body b e y = simp (le-ltb (length s) (at + body) (leb-true _ _ (sym e ∙ y)))
 
-pub skip_cut : (s : List ℕ) (at body : ℕ) (b : Bool) → b ≡ leb (at + body) (length s) → b ≡ false → Refused (Short at) ≡ on_span (span_of s at body)
+pub skip_cut : (s : List ℕ) (at body : ℕ) (b : Bool) → b ≡ leb (at + body) (length s) → b ≡ false → Err (Short at) ≡ on_span (span_of s at body)
 unfolding span_of on_span
 skip_cut s at body b e y = simp (lt-ltb (length s) (at + body) (leb-false _ _ (sym e ∙ y)))
 
@@ -104,15 +106,15 @@ not_one_last k s at e =
     ap (λ (j : ℕ). eqb (get_or s j 0) 0x01) (sym p) ∙ ne_eqb (get_or s (at + 3) 0) 0x01 (λ q. omega arith)
 
 -- ---- stripe_at
-pub stripe_many : (k body at size : ℕ) → k ≡ 64 → Refused (BadStripe at) ≡ stripe_at k body at size
+pub stripe_many : (k body at size : ℕ) → k ≡ 64 → Err (BadStripe at) ≡ stripe_at k body at size
 unfolding stripe_at
 stripe_many k body at size e = simp (eq-eqb k 64 e)
 
-pub stripe_other : (k body at size : ℕ) → (k ≡ 64 → ⊥) → (size - 6 ≡ body → ⊥) → Refused (BadLength (at - 2)) ≡ stripe_at k body at size
+pub stripe_other : (k body at size : ℕ) → (k ≡ 64 → ⊥) → (size - 6 ≡ body → ⊥) → Err (BadLength (at - 2)) ≡ stripe_at k body at size
 unfolding stripe_at
 stripe_other k body at size n d = simp (ne_eqb k 64 n, ne_eqb (size - 6) body d)
 
-pub stripe_begun : (k body at size : ℕ) → (k ≡ 64 → ⊥) → size - 6 ≡ body → Stripe (at + 4) ≡ stripe_at k body at size
+pub stripe_begun : (k body at size : ℕ) → (k ≡ 64 → ⊥) → size - 6 ≡ body → Ok (Stripe (at + 4)) ≡ stripe_at k body at size
 unfolding stripe_at
 stripe_begun k body at size n e = simp (ne_eqb k 64 n, eq-eqb (size - 6) body e)
 
@@ -137,7 +139,7 @@ own_view n f k body at size s vs go g =
     (bool_else (eqb k 64))
 
 module _ (k body : ℕ) (s : List ℕ) (at size : ℕ) {f : Bool} (e : f ≡ leb (at + 4) (length s)) where
-  pub ident_cut : f ≡ false → Refused (Short at) ≡ ident_of k body s at size
+  pub ident_cut : f ≡ false → Err (Short at) ≡ ident_of k body s at size
   unfolding ident_of fields
   ident_cut y = simp (lt-ltb (length s) (at + 4) (leb-false _ _ (sym e ∙ y)))
 
@@ -145,7 +147,7 @@ module _ (k body : ℕ) (s : List ℕ) (at size : ℕ) {f : Bool} (e : f ≡ leb
     room : at + 4 ≤ length s
     room = leb-true _ _ (sym e ∙ y)
 
-    pub ident_stripe : {r : Segment} → b ≡ true → r ≡ stripe_at k body at size → r ≡ ident_of k body s at size
+    pub ident_stripe : {r : Result Segment Refusal} → b ≡ true → r ≡ stripe_at k body at size → r ≡ ident_of k body s at size
     unfolding ident_of fields bind numbers
     ident_stripe z h =
         let x = sym t ∙ z in
@@ -157,13 +159,13 @@ module _ (k body : ℕ) (s : List ℕ) (at size : ℕ) {f : Bool} (e : f ≡ leb
       ident_is : ident_at k s at ≡ o
       ident_is = ident_spread k s at room ∙ ap (λ (q : Bool). q || optional_at k s at) (sym t ∙ z) ∙ sym u
 
-      pub ident_optional : {r : Segment} → o ≡ true → r ≡ on_span (span_of s (at + 4) (size - 6)) → r ≡ ident_of k body s at size
+      pub ident_optional : {r : Result Segment Refusal} → o ≡ true → r ≡ on_span (span_of s (at + 4) (size - 6)) → r ≡ ident_of k body s at size
       unfolding ident_of fields bind behind_of
       ident_optional w g =
           let l = not_one_last k s at (sym u ∙ w) in
           g ∙ over_view (get_or s (at + 1 + 1 + 1) 0) l (span_of s (at + 4) (size - 6)) ∙ sym (simp (le-ltb (length s) (at + 4) room, ident_is ∙ w) (simp l))
 
-      pub ident_other : o ≡ false → Refused (BadMark at) ≡ ident_of k body s at size
+      pub ident_other : o ≡ false → Err (BadMark at) ≡ ident_of k body s at size
       unfolding ident_of fields
       ident_other w = simp (le-ltb (length s) (at + 4) room, ident_is ∙ w)
 
@@ -172,7 +174,7 @@ skip_near at size h l = let n = h.near in omega arith
 
 -- ---- by_length
 module _ (version : Version) (k body : ℕ) (s : List ℕ) (at : ℕ) {f : Bool} (e : f ≡ leb (at + 2) (length s)) where
-  pub length_cut : f ≡ false → Refused (Short at) ≡ length_of version k body s at
+  pub length_cut : f ≡ false → Err (Short at) ≡ length_of version k body s at
   unfolding length_of fields
   length_cut y = simp (lt-ltb (length s) (at + 2) (leb-false _ _ (sym e ∙ y)))
 
@@ -183,11 +185,11 @@ module _ (version : Version) (k body : ℕ) (s : List ℕ) (at : ℕ) {f : Bool}
     told : length_ok version (be16_at s at) ≡ b
     told = ap (length_ok version) (sym q) ∙ sym t
 
-    pub length_small : b ≡ false → Refused (BadLength at) ≡ length_of version k body s at
+    pub length_small : b ≡ false → Err (BadLength at) ≡ length_of version k body s at
     unfolding length_of fields
     length_small l = simp (le-ltb (length s) (at + 2) long, told ∙ l)
 
-    pub length_ident : {r : Segment} → b ≡ true → r ≡ ident_of k body s (at + 2) size → r ≡ length_of version k body s at
+    pub length_ident : {r : Result Segment Refusal} → b ≡ true → r ≡ ident_of k body s (at + 2) size → r ≡ length_of version k body s at
     unfolding length_of fields ident_of
     length_ident l h =
         let p : at + 2 - 2 ≡ at = omega arith in
@@ -195,11 +197,11 @@ module _ (version : Version) (k body : ℕ) (s : List ℕ) (at : ℕ) {f : Bool}
 
 -- ---- segment_at
 module _ (version : Version) (k body : ℕ) (s : List ℕ) (at : ℕ) (d : Marked s at) {m : Bool} (u : m ≡ stands_at s at (0xFF ∷ 0xED ∷ [])) where
-  pub segment_stray : m ≡ false → Refused (BadMark at) ≡ view_of (segment_of version (due_with body k) s at)
+  pub segment_stray : m ≡ false → Err (BadMark at) ≡ view_of (segment_of version (due_with body k) s at)
   unfolding segment_of open_table fields bind view_of
   segment_stray w = simp (le-ltb (length s) (at + 2) d.seen, sym u ∙ w)
 
-  pub segment_marked : {r : Segment} → m ≡ true → r ≡ length_of version k body s (at + 2) → r ≡ view_of (segment_of version (due_with body k) s at)
+  pub segment_marked : {r : Result Segment Refusal} → m ≡ true → r ≡ length_of version k body s (at + 2) → r ≡ view_of (segment_of version (due_with body k) s at)
   unfolding segment_of open_table fields length_of
   segment_marked w h = h ∙ simp (le-ltb (length s) (at + 2) d.seen, sym u ∙ w)
 

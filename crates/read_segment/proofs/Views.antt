@@ -1,5 +1,6 @@
 -- What the view of a segment tells of its reading, and where a segment that was read ends.
 -- Assumes nothing.
+use Rattle.std.specs.Prelude.{Ok, Err}
 use Prim.Native.Nat.{ℕ, ◌+◌, ◌-◌, ◌≤◌}
 use native.Mathlib.Omega.{arith}
 use mathlib.Core.Path.{◌≡◌, refl, sym, ap, ◌∙◌}
@@ -9,7 +10,7 @@ use lib.ListN.{length}
 use lib.Dec.{eqb, ltb}
 use borrow.Author.Tests.{ltb-false}
 use Rattle.laws.proofs.Cases.{cond_with, clash}
-use Rattle.answers.specs.declared.Answer.{Answer}
+use Rattle.answers.specs.declared.Refusal.{Refusal}
 use Rattle.field_rules.specs.Field.{Res, ok, no, bind, widths, numbers, fields}
 use Rattle.field_rules.specs.Part.{span_of}
 use Rattle.field_rules.proofs.Refused.{rows_size, fields_end}
@@ -17,25 +18,25 @@ use Rattle.field_rules.proofs.Values.{values_of, fields_values}
 use Rattle.read_field.proofs.Views.{Holds, fields_hold}
 use Rattle.segment_rules.specs.declared.Version.{Version}
 use Rattle.segment_rules.specs.Segment.{Need, passed, sized, Due, ident_in, size_in, open_table, behind_of, segment_of}
-use Rattle.read_segment.specs.declared.Segment.TheVariants.{Stripe, Optional, Refused}
+use Rattle.read_segment.specs.declared.Segment.TheVariants.{Stripe, Optional}
 use Rattle.read_segment.specs.Segments.{view_of, behind}
 
-pub view_no : (x : Res ℕ) (a : Answer) → view_of x ≡ Refused a → x ≡ no a
+pub view_no : (x : Res ℕ) (a : Refusal) → view_of x ≡ Err a → x ≡ no a
 unfolding view_of
-view_no (ok n e) a = cond_with (λ y. y ≡ Refused a → ok n e ≡ no a) (eqb n 0x01) (λ t q. clash cc) (λ t q. clash cc)
+view_no (ok n e) a = cond_with (λ y. y ≡ Err a → ok n e ≡ no a) (eqb n 0x01) (λ t q. clash cc) (λ t q. clash cc)
 view_no (no b) a = λ q. let p : b ≡ a = cc in ap no p
 
 module _ (P : Type 0) (p : ℕ) where
-  pub view_stripe : (x : Res ℕ) → view_of x ≡ Stripe p → ((n : ℕ) → eqb n 0x01 ≡ true → x ≡ ok n p → P) → P
+  pub view_stripe : (x : Res ℕ) → view_of x ≡ Ok (Stripe p) → ((n : ℕ) → eqb n 0x01 ≡ true → x ≡ ok n p → P) → P
   unfolding view_of
   view_stripe (ok n e) =
-      cond_with (λ y. y ≡ Stripe p → ((n' : ℕ) → eqb n' 0x01 ≡ true → ok n e ≡ ok n' p → P) → P) (eqb n 0x01) (λ t q go. let z : e ≡ p = cc in go n t (ap (ok n) z)) (λ t q go. clash cc)
+      cond_with (λ y. y ≡ Ok (Stripe p) → ((n' : ℕ) → eqb n' 0x01 ≡ true → ok n e ≡ ok n' p → P) → P) (eqb n 0x01) (λ t q go. let z : e ≡ p = cc in go n t (ap (ok n) z)) (λ t q go. clash cc)
   view_stripe (no b) = λ q go. clash cc
 
-  pub view_optional : (x : Res ℕ) → view_of x ≡ Optional p → ((n : ℕ) → eqb n 0x01 ≡ false → x ≡ ok n p → P) → P
+  pub view_optional : (x : Res ℕ) → view_of x ≡ Ok (Optional p) → ((n : ℕ) → eqb n 0x01 ≡ false → x ≡ ok n p → P) → P
   unfolding view_of
   view_optional (ok n e) =
-      cond_with (λ y. y ≡ Optional p → ((n' : ℕ) → eqb n' 0x01 ≡ false → ok n e ≡ ok n' p → P) → P) (eqb n 0x01) (λ t q go. clash cc) (λ t q go. let z : e ≡ p = cc in go n t (ap (ok n) z))
+      cond_with (λ y. y ≡ Ok (Optional p) → ((n' : ℕ) → eqb n' 0x01 ≡ false → ok n e ≡ ok n' p → P) → P) (eqb n 0x01) (λ t q go. clash cc) (λ t q go. let z : e ≡ p = cc in go n t (ap (ok n) z))
   view_optional (no b) = λ q go. clash cc
 
 -- ---- where it ends

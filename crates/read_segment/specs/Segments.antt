@@ -7,16 +7,17 @@
 --   stripe_at k body at size   a stripe whose ident stands at a place: the 65th, and its length
 --   ident_of k body s at size  what the ident at a place makes of a segment of such a length
 --   length_of v k body s at    the same, from its length on
-use Rattle.std.specs.Prelude.{ℕ, ◌+◌, ◌-◌, ◌≤◌, Bool, ◌&&◌, not, cond, List, [], ◌∷◌, length, get_or, leb, eqb}
+use Rattle.std.specs.Prelude.{ℕ, ◌+◌, ◌-◌, ◌≤◌, Bool, ◌&&◌, not, cond, List, [], ◌∷◌, length, get_or, leb, eqb, Result, Ok, Err}
 use Rattle.octets.specs.Octets.{stands_at}
-use Rattle.answers.specs.declared.Answer.TheVariants.{BadMark, BadLength, BadStripe}
+use Rattle.answers.specs.declared.Refusal.TheVariants.{BadMark, BadLength, BadStripe}
 use Rattle.field_rules.specs.Field.{Res, ok, no, bind, one, two, Field, val, again, fields, is}
 use Rattle.segment_rules.specs.declared.Version.{Version}
 use Rattle.segment_rules.specs.Rules.{longest_page}
 use Rattle.segment_rules.specs.Segment.{Due, length_ok, mrc, size_in, ident_in, behind_of}
 use Rattle.page_rules.specs.Reading.{due_with}
 use Rattle.read_segment.specs.declared.Segment.{Segment}
-use Rattle.read_segment.specs.declared.Segment.TheVariants.{Stripe, Optional, Refused}
+use Rattle.read_segment.specs.declared.Segment.TheVariants.{Stripe, Optional}
+use Rattle.answers.specs.declared.Refusal.{Refusal}
 
 -- two octets stand here
 pub record Marked (s : List ℕ) (at : ℕ) : Type 0 where
@@ -29,19 +30,19 @@ pub record Behind (at size : ℕ) : Type 0 where
   pub near : at ≤ longest_page + 4
   pub long : 6 ≤ size
 
-unfoldable pub view_of : Res ℕ → Segment
-view_of (ok n e) = cond (eqb n 0x01) (Stripe e) (Optional e)
-view_of (no a) = Refused a
+unfoldable pub view_of : Res ℕ → Result Segment Refusal
+view_of (ok n e) = cond (eqb n 0x01) (Ok (Stripe e)) (Ok (Optional e))
+view_of (no a) = Err a
 
 unfoldable pub optional_at : ℕ → List ℕ → ℕ → Bool
 optional_at k s at = stands_at s at (0x4D ∷ 0x52 ∷ 0x43 ∷ []) && (eqb k 0 && (leb 3 (get_or s (at + 3) 0) && leb (get_or s (at + 3) 0) 0xFE))
 
-unfoldable pub on_span : Res ℕ → Segment
-on_span (ok m e) = Optional e
-on_span (no a) = Refused a
+unfoldable pub on_span : Res ℕ → Result Segment Refusal
+on_span (ok m e) = Ok (Optional e)
+on_span (no a) = Err a
 
-unfoldable pub stripe_at : ℕ → ℕ → ℕ → ℕ → Segment
-stripe_at k body at size = cond (eqb k 64) (Refused (BadStripe at)) (cond (eqb (size - 6) body) (Stripe (at + 4)) (Refused (BadLength (at - 2))))
+unfoldable pub stripe_at : ℕ → ℕ → ℕ → ℕ → Result Segment Refusal
+stripe_at k body at size = cond (eqb k 64) (Err (BadStripe at)) (cond (eqb (size - 6) body) (Ok (Stripe (at + 4))) (Err (BadLength (at - 2))))
 
 -- ---- the rows of `open_table` from the ident and from the length on, and the body
 
@@ -54,10 +55,10 @@ length_rows version due = val (two ∷ []) (is (length_ok version)) BadLength �
 abbrev pub behind : Due → ℕ → List ℕ → List ℕ → ℕ → Res ℕ
 behind due length_at s vs n = behind_of (due.body (ident_in vs)) (ident_in vs) (size_in vs - 6) length_at s n
 
-unfoldable pub ident_of : ℕ → ℕ → List ℕ → ℕ → ℕ → Segment
+unfoldable pub ident_of : ℕ → ℕ → List ℕ → ℕ → ℕ → Result Segment Refusal
 unfolding bind view_of
 ident_of k body s at size = view_of (bind (fields (ident_rows (due_with body k)) (size ∷ []) s at) (behind (due_with body k) (at - 2) s))
 
-unfoldable pub length_of : Version → ℕ → ℕ → List ℕ → ℕ → Segment
+unfoldable pub length_of : Version → ℕ → ℕ → List ℕ → ℕ → Result Segment Refusal
 unfolding bind view_of
 length_of version k body s at = view_of (bind (fields (length_rows version (due_with body k)) [] s at) (behind (due_with body k) at s))

@@ -9,15 +9,14 @@ ghost use Rattle.segment_rules.specs.Segment.{length_ok, segment_of};
 ghost use Rattle.page_rules.specs.Reading.{due_with};
 ghost use Rattle.read_segment.specs.Segments.{Marked, Behind, view_of, optional_at, on_span, stripe_at, ident_of, length_of};
 
-use answers::Answer;
+use answers::Refusal;
 use segment_rules::{APP13, MRC, STRIPE, Version};
 
-// What a segment is: a stripe, by the place of its body; an optional segment, by the place after it; or what is wrong.
+// What a segment is: a stripe, by the place of its body; or an optional segment, by the place after it.
 #[derive(Clone, Copy)]
 pub enum Segment {
     Stripe { body: u32 },
     Optional { next: u32 },
-    Refused(Answer),
 }
 
 fn length_ok(version: Version, size: u16) -> bool
@@ -38,33 +37,33 @@ fn is_optional(s: &[u8], k: u16, at: u32) -> bool
 }
 
 // The body of an optional segment is skipped, whatever it holds.
-fn skip(s: &[u8], at: u32, body: u32) -> Segment
+fn skip(s: &[u8], at: u32, body: u32) -> Result<Segment, Refusal>
     requires { at + body < 4294967296 }
     ensures { result ≡ on_span (span_of s.now at body) }
 {
     if read_field::fits(s, at, body) {
-        Segment::Optional { next: at + body }
+        Ok(Segment::Optional { next: at + body })
     } else {
-        Segment::Refused(Answer::Short(at))
+        Err(Refusal::Short(at))
     }
 }
 
 // Behind the ident of a stripe: the 65th is faulted there, then comes the length, which must be that of its body.
-fn stripe_at(k: u16, body: u16, at: u32, size: u16) -> Segment
+fn stripe_at(k: u16, body: u16, at: u32, size: u16) -> Result<Segment, Refusal>
     requires { Behind at size }
     ensures { result ≡ stripe_at k body at size }
 {
     if k == 64 {
-        return Segment::Refused(Answer::BadStripe(at));
+        return Err(Refusal::BadStripe(at));
     }
     if size - 6 != body {
-        return Segment::Refused(Answer::BadLength(at - 2));
+        return Err(Refusal::BadLength(at - 2));
     }
-    Segment::Stripe { body: at + 4 }
+    Ok(Segment::Stripe { body: at + 4 })
 }
 
 // After the marker and a length that is long enough: the ident, and what it makes of the segment.
-fn by_ident(s: &[u8], k: u16, body: u16, at: u32, size: u16) -> Segment
+fn by_ident(s: &[u8], k: u16, body: u16, at: u32, size: u16) -> Result<Segment, Refusal>
     requires { Behind at size }
     ensures { result ≡ ident_of k body s.now at size }
 {
@@ -75,15 +74,15 @@ fn by_ident(s: &[u8], k: u16, body: u16, at: u32, size: u16) -> Segment
         if is_optional(s, k, at) {
             skip(s, at + 4, (size - 6) as u32)
         } else {
-            Segment::Refused(Answer::BadMark(at))
+            Err(Refusal::BadMark(at))
         }
     } else {
-        Segment::Refused(Answer::Short(at))
+        Err(Refusal::Short(at))
     }
 }
 
 // After the marker: a length below 6 at once.
-fn by_length(s: &[u8], version: Version, k: u16, body: u16, at: u32) -> Segment
+fn by_length(s: &[u8], version: Version, k: u16, body: u16, at: u32) -> Result<Segment, Refusal>
     requires { (2 ≤ at) × (at ≤ longest_page + 2) }
     ensures { result ≡ length_of version k body s.now at }
 {
@@ -92,21 +91,27 @@ fn by_length(s: &[u8], version: Version, k: u16, body: u16, at: u32) -> Segment
         if length_ok(version, size) {
             by_ident(s, k, body, at + 2, size)
         } else {
-            Segment::Refused(Answer::BadLength(at))
+            Err(Refusal::BadLength(at))
         }
     } else {
-        Segment::Refused(Answer::Short(at))
+        Err(Refusal::Short(at))
     }
 }
 
 // Behind k stripes, where a stripe has a body of so many octets. The caller has seen that two octets are there.
-pub fn segment_at(s: &[u8], version: Version, k: u16, body: u16, at: u32) -> Segment
+pub fn segment_at(
+    s: &[u8],
+    version: Version,
+    k: u16,
+    body: u16,
+    at: u32,
+) -> Result<Segment, Refusal>
     requires { Marked s.now at }
     ensures { result ≡ view_of (segment_of version (due_with body k) s.now at) }
 {
     if octets_get::stands_at(s, at as usize, &APP13) {
         by_length(s, version, k, body, at + 2)
     } else {
-        Segment::Refused(Answer::BadMark(at))
+        Err(Refusal::BadMark(at))
     }
 }

@@ -9,8 +9,9 @@ ghost use Rattle.start_rules.specs.Reading.{start_table};
 ghost use Rattle.read_field.specs.Judged.{judged_of};
 ghost use Rattle.read_start.specs.Start.{head_at};
 
-use answers::Answer;
-use read_field::Judged;
+use answers::Refusal;
+use octets_get::stands_at;
+use read_field::{field, four, held, octet, two};
 use segment_rules::{APP13, EOI, Mode, Rules, SOI, START, Version};
 use start_rules::Head;
 
@@ -30,93 +31,35 @@ fn image_coder(c: u8) -> bool
 }
 
 // The length is judged twice: below 6 at once, and against 16 after the ident that it depends on.
-pub fn judge_start(s: &[u8]) -> Judged
+pub fn judge_start(s: &[u8]) -> Result<(), Refusal>
     ensures { result ≡ judged_of (fields start_table [] s.now 0) }
 {
-    let size = read_field::two(s, 4);
-    let width = read_field::four(s, 16);
-    let r = read_field::field(
-        s,
-        Judged::Fine,
-        0,
-        2,
-        octets_get::stands_at(s, 0, &SOI),
-        Answer::BadMark(0),
-    );
-    let r = read_field::field(
-        s,
-        r,
-        2,
-        2,
-        octets_get::stands_at(s, 2, &APP13),
-        Answer::BadMark(2),
-    );
-    let r = read_field::field(s, r, 4, 2, 6 <= size, Answer::BadLength(4));
-    let r = read_field::field(
-        s,
-        r,
-        6,
-        4,
-        octets_get::stands_at(s, 6, &START),
-        Answer::BadMark(6),
-    );
-    let r = read_field::held(r, size == 16, Answer::BadLength(4));
-    let r = read_field::field(
-        s,
-        r,
-        10,
-        1,
-        read_field::octet(s, 10) == 0,
-        Answer::BadVersion(10),
-    );
-    let r = read_field::field(
-        s,
-        r,
-        11,
-        1,
-        read_field::octet(s, 11) == 1,
-        Answer::BadMode(11),
-    );
-    let r = read_field::field(
-        s,
-        r,
-        12,
-        1,
-        mask_coder(read_field::octet(s, 12)),
-        Answer::BadCoder(12),
-    );
-    let r = read_field::field(
-        s,
-        r,
-        13,
-        1,
-        image_coder(read_field::octet(s, 13)),
-        Answer::BadCoder(13),
-    );
-    let r = read_field::field(
-        s,
-        r,
-        14,
-        2,
-        resolution::is_listed(read_field::two(s, 14)),
-        Answer::BadRes(14),
-    );
-    let r = read_field::field(
-        s,
-        r,
-        16,
-        4,
-        (1 <= width) & (width <= 32768),
-        Answer::BadWidth(16),
-    );
-    read_field::field(
-        s,
-        r,
-        20,
-        2,
-        octets_get::stands_at(s, 20, &EOI),
-        Answer::BadMark(20),
-    )
+    let size = two(s, 4);
+    let width = four(s, 16);
+    field(s, 0, 2, stands_at(s, 0, &SOI), Refusal::BadMark(0))
+        .and(field(s, 2, 2, stands_at(s, 2, &APP13), Refusal::BadMark(2)))
+        .and(field(s, 4, 2, 6 <= size, Refusal::BadLength(4)))
+        .and(field(s, 6, 4, stands_at(s, 6, &START), Refusal::BadMark(6)))
+        .and(held(size == 16, Refusal::BadLength(4)))
+        .and(field(s, 10, 1, octet(s, 10) == 0, Refusal::BadVersion(10)))
+        .and(field(s, 11, 1, octet(s, 11) == 1, Refusal::BadMode(11)))
+        .and(field(s, 12, 1, mask_coder(octet(s, 12)), Refusal::BadCoder(12)))
+        .and(field(s, 13, 1, image_coder(octet(s, 13)), Refusal::BadCoder(13)))
+        .and(field(
+            s,
+            14,
+            2,
+            resolution::is_listed(two(s, 14)),
+            Refusal::BadRes(14),
+        ))
+        .and(field(
+            s,
+            16,
+            4,
+            (1 <= width) & (width <= 32768),
+            Refusal::BadWidth(16),
+        ))
+        .and(field(s, 20, 2, stands_at(s, 20, &EOI), Refusal::BadMark(20)))
 }
 
 // After a start that is fine the width is below 65,536, and nothing is cut off.
@@ -128,9 +71,9 @@ pub fn head_at(s: &[u8]) -> Head
             version: Version::Base,
             mode: Mode::One,
         },
-        mask: read_field::octet(s, 12),
-        image: read_field::octet(s, 13),
-        main: read_field::two(s, 14),
-        width: (read_field::four(s, 16) % 65536) as u16,
+        mask: octet(s, 12),
+        image: octet(s, 13),
+        main: two(s, 14),
+        width: (four(s, 16) % 65536) as u16,
     }
 }

@@ -5,7 +5,7 @@
 --   layered hd k f s at      the stripe of these fields, whose coded layers begin at a place
 --   Ready out s left at first    a stripe's body stands at a place of a page
 --   step_of, laid_of           what the reading of a stripe comes to, and the scratch afterwards
-use Rattle.std.specs.Prelude.{ℕ, ◌+◌, ◌*◌, ◌≤◌, ◌≡◌, true, List, length}
+use Rattle.std.specs.Prelude.{ℕ, ◌+◌, ◌*◌, ◌≤◌, ◌≡◌, true, List, length, Result, Ok, Err}
 use Rattle.octets.specs.Octets.{put_at}
 use Rattle.field_rules.specs.Field.{Res, ok, no, bind}
 use Rattle.sheet_rules.specs.declared.Record.{Record}
@@ -17,8 +17,8 @@ use Rattle.body_rules.specs.Body.{Item, skipped, striped}
 use Rattle.mode1_rules.specs.declared.Fields.{Fields}
 use Rattle.mode1_rules.specs.Kinds.{has_back, has_fore}
 use Rattle.mode1_rules.specs.Reading.{layers_of}
-use Rattle.read_stripe.specs.declared.Step.{Step}
-use Rattle.read_stripe.specs.declared.Step.TheVariants.{Next, Refused}
+use Rattle.read_stripe.specs.declared.Laid.{Laid}
+use Rattle.answers.specs.declared.Refusal.{Refusal}
 
 pub record Fit (f : Fields) : Type 0 where
   pub height : f.height ≤ 65535
@@ -41,10 +41,10 @@ unfoldable pub layered : Head → ℕ → Fields → List ℕ → ℕ → Res It
 unfolding bind
 layered hd k f s at = bind (layers_of hd k f s at) (λ (rs : List Record) (e : ℕ). ok (striped f.height rs) e)
 
-unfoldable pub step_of : Res Item → Step
-step_of (ok skipped e) = Next e 0 0
-step_of (ok (striped height rs) e) = Next e height (length rs)
-step_of (no a) = Refused a
+unfoldable pub step_of : Res Item → Result Laid Refusal
+step_of (ok skipped e) = Ok (record { next = e; height = 0; records = 0 })
+step_of (ok (striped height rs) e) = Ok (record { next = e; height = height; records = length rs })
+step_of (no a) = Err a
 
 unfoldable pub laid_of : List ℕ → ℕ → Res Item → List ℕ
 laid_of out first (ok skipped e) = out

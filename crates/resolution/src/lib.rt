@@ -14,8 +14,5 @@ pub fn is_listed(r: u16) -> bool
 pub fn is_divisor(a: u16, b: u16) -> bool
     ensures { result ≡ divides a b }
 {
-    if a == 0 {
-        return false;
-    }
-    b % a == 0
+    a != 0 && b % a == 0
 }

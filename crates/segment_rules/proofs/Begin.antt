@@ -9,8 +9,8 @@ use lib.ListN.{length, get_or, drop}
 use lib.Dec.{lit<}
 use Rattle.octets.specs.Octets.{octets16}
 use Rattle.laws.proofs.Says.{Says, says_eq, says_le, says_and, says_true}
-use Rattle.answers.specs.declared.Answer.{Answer}
-use Rattle.answers.specs.declared.Answer.TheVariants.{BadMark, BadLength, BadStripe}
+use Rattle.answers.specs.declared.Refusal.{Refusal}
+use Rattle.answers.specs.declared.Refusal.TheVariants.{BadMark, BadLength, BadStripe}
 use Rattle.field_rules.specs.Field.{one, two, put, Sized, widths}
 use Rattle.field_rules.specs.Stands.{Stands, at_end, marked, valued, held}
 use Rattle.field_rules.specs.Fault.{Faulted, late, BadMarked, BadNumbers, the}
@@ -90,10 +90,10 @@ module _ (version : Version) (due : Due) where
       shows (ident n k) = k
 
   module _ (at : ℕ) where
-    abbrev Bad : List ℕ → Answer → Type 0
+    abbrev Bad : List ℕ → Refusal → Type 0
     Bad = BadSegment version due at
 
-    pub faulted_begin : (l : List ℕ) (x : Answer) → Faulted (open_table version due) [] at l x → Bad l x
+    pub faulted_begin : (l : List ℕ) (x : Refusal) → Faulted (open_table version due) [] at l x → Bad l x
     unfolding open_table begin_of octets16 put widths Sized
     faulted_begin l x f =
         fault_mark (λ (l : List ℕ). Bad l x) f (λ b. bad_marker (broken_mark b)) λ l1 f1.
@@ -112,22 +112,22 @@ module _ (version : Version) (due : Due) where
         two_two : at + 2 + 2 ≡ at + 4
         two_two = omega arith
 
-    pub marker_faulted : {l : List ℕ} {x : Answer} → BadMarked (0xFF ∷ 0xED ∷ []) BadMark at l x → Faulted (open_table version due) [] at l x
+    pub marker_faulted : {l : List ℕ} {x : Refusal} → BadMarked (0xFF ∷ 0xED ∷ []) BadMark at l x → Faulted (open_table version due) [] at l x
     unfolding open_table
     marker_faulted b = fault_here (mark_broken b)
 
-    pub length_faulted : {l : List ℕ} {x : Answer} → BadNumbers (two ∷ []) (the (λ (size : ℕ). 6 ≤ size)) BadLength (at + 2) l x → Faulted (open_table version due) [] at (0xFF ∷ 0xED ∷ l) x
+    pub length_faulted : {l : List ℕ} {x : Refusal} → BadNumbers (two ∷ []) (the (λ (size : ℕ). 6 ≤ size)) BadLength (at + 2) l x → Faulted (open_table version due) [] at (0xFF ∷ 0xED ∷ l) x
     unfolding open_table
     length_faulted b = past_mark (fault_here (numbers_broken (the (λ (size : ℕ). 6 ≤ size)) (λ vs z. says_length version (get_or vs 0 0)) b))
 
     -- behind a length that may be
-    past_length : {l : List ℕ} {x : Answer} (size : ℕ) → 6 ≤ size → size < 65536
+    past_length : {l : List ℕ} {x : Refusal} (size : ℕ) → 6 ≤ size → size < 65536
         → Faulted (drop 2 (open_table version due)) (size ∷ []) (at + 2 + 2) l x
         → Faulted (open_table version due) [] at (0xFF ∷ 0xED ∷ octets16 size ++ l) x
     unfolding open_table octets16 put widths Sized
     past_length size lo hi f = past_mark (past_val {ws = two ∷ []} (size ∷ []) (hi, tt) ((says_length version size).shown lo) f)
 
-    pub ident_faulted : {l : List ℕ} {x : Answer} (size : ℕ) → 6 ≤ size → size < 65536 → BadNumbers (one ∷ one ∷ one ∷ one ∷ []) (Ident due) BadMark (at + 4) l x
+    pub ident_faulted : {l : List ℕ} {x : Refusal} (size : ℕ) → 6 ≤ size → size < 65536 → BadNumbers (one ∷ one ∷ one ∷ one ∷ []) (Ident due) BadMark (at + 4) l x
         → Faulted (open_table version due) [] at (0xFF ∷ 0xED ∷ octets16 size ++ l) x
     unfolding open_table
     ident_faulted {l} {x} size lo hi b =

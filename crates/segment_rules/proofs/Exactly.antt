@@ -8,8 +8,8 @@ use mathlib.Core.List.{List, [], ◌++◌, append-nil}
 use lib.ListN.{length}
 use lib.Dec.{eqb}
 use borrow.Author.Tests.{eqb-true, eqb-false, eq-eqb, ne_eqb}
-use Rattle.answers.specs.declared.Answer.{Answer}
-use Rattle.answers.specs.declared.Answer.TheVariants.{Short, BadLength}
+use Rattle.answers.specs.declared.Refusal.{Refusal}
+use Rattle.answers.specs.declared.Refusal.TheVariants.{Short, BadLength}
 use Rattle.field_rules.specs.Field.{ok, fields}
 use Rattle.field_rules.specs.Stands.{Stands}
 use Rattle.field_rules.specs.Fault.{Faulted}
@@ -25,7 +25,7 @@ data Behind (n size : ℕ) : Need → List ℕ → ℕ → Type 0 where
   all_of : {l : List ℕ} → length l ≡ size → Behind n size over l n
   none_of : {need : ℕ} → size ≡ need → Behind n size (sized need) [] n
 
-data BadBehind (size length_at p : ℕ) : Need → List ℕ → Answer → Type 0 where
+data BadBehind (size length_at p : ℕ) : Need → List ℕ → Refusal → Type 0 where
   cut_of : {l : List ℕ} → length l < size → BadBehind size length_at p over l (Short p)
   unfit : {l : List ℕ} {need : ℕ} → size ≢ need → BadBehind size length_at p (sized need) l (BadLength length_at)
 
@@ -42,13 +42,13 @@ exact_behind over n size length_at s p h =
     fro : {l : List ℕ} {a : ℕ} → Behind n size over l a → Mapped (λ (m : ℕ). n) (Span size) l a
     fro (all_of e) = mapped size (span e)
 
-    bad : {l : List ℕ} {x : Answer} → BadSpan size p l x → BadBehind size length_at p over l x
+    bad : {l : List ℕ} {x : Refusal} → BadSpan size p l x → BadBehind size length_at p over l x
     bad (cut_span c) = cut_of c
 
-    un : {l : List ℕ} {x : Answer} → BadBehind size length_at p over l x → BadSpan size p l x
+    un : {l : List ℕ} {x : Refusal} → BadBehind size length_at p over l x → BadSpan size p l x
     un (cut_of c) = cut_span c
 exact_behind (sized need) n size length_at s p h =
-    exact_as (exact_test (eqb size need) (BadLength length_at) (ok n p) (Nothing n) (λ (l : List ℕ) (x : Answer). ⊥) s p (λ e. exact_ok n s p h))
+    exact_as (exact_test (eqb size need) (BadLength length_at) (ok n p) (Nothing n) (λ (l : List ℕ) (x : Refusal). ⊥) s p (λ e. exact_ok n s p h))
     (λ l a z. to z) (λ l a z. fro z) (λ l x z. bad z) (λ l x z. un z)
   where
     to : {l : List ℕ} {a : ℕ} → Passed (eqb size need) (Nothing n) l a → Behind n size (sized need) l a
@@ -57,11 +57,11 @@ exact_behind (sized need) n size length_at s p h =
     fro : {l : List ℕ} {a : ℕ} → Behind n size (sized need) l a → Passed (eqb size need) (Nothing n) l a
     fro (none_of e) = passed (eq-eqb size need e) nothing
 
-    bad : {l : List ℕ} {x : Answer} → Failed (eqb size need) (BadLength length_at) (λ (l : List ℕ) (x : Answer). ⊥) l x → BadBehind size length_at p (sized need) l x
+    bad : {l : List ℕ} {x : Refusal} → Failed (eqb size need) (BadLength length_at) (λ (l : List ℕ) (x : Refusal). ⊥) l x → BadBehind size length_at p (sized need) l x
     bad (failed e) = unfit (eqb-false size need e)
     bad (bad_passed e z) = absurd z
 
-    un : {l : List ℕ} {x : Answer} → BadBehind size length_at p (sized need) l x → Failed (eqb size need) (BadLength length_at) (λ (l : List ℕ) (x : Answer). ⊥) l x
+    un : {l : List ℕ} {x : Refusal} → BadBehind size length_at p (sized need) l x → Failed (eqb size need) (BadLength length_at) (λ (l : List ℕ) (x : Refusal). ⊥) l x
     un (unfit d) = failed (ne_eqb size need d)
 
 -- ---- the segment
@@ -73,7 +73,7 @@ module _ (version : Version) (due : Due) (s : List ℕ) (at : ℕ) (h : at ≤ l
   abbrev Second : List ℕ → ℕ → List ℕ → ℕ → Type 0
   Second vs p = Behind (ident_in vs) (size_in vs - 6) (due.body (ident_in vs))
 
-  abbrev Worse : List ℕ → ℕ → List ℕ → Answer → Type 0
+  abbrev Worse : List ℕ → ℕ → List ℕ → Refusal → Type 0
   Worse vs p = BadBehind (size_in vs - 6) (at + 2) p (due.body (ident_in vs))
 
   back_6 : (size : ℕ) → 6 ≤ size → size - 6 + 6 ≡ size
@@ -114,12 +114,12 @@ module _ (version : Version) (due : Due) (s : List ℕ) (at : ℕ) (h : at ≤ l
         second = subst (λ (w : Need). Behind n (size + 6 - 6) w [] n) (sym e) (none_of (same_size size));
       }
 
-  to_bad : (n size : ℕ) {begin : List ℕ} → Named due n → Opening version n size begin → {need : Need} {l : List ℕ} {x : Answer} → due.body n ≡ need
+  to_bad : (n size : ℕ) {begin : List ℕ} → Named due n → Opening version n size begin → {need : Need} {l : List ℕ} {x : Refusal} → due.body n ≡ need
       → BadBehind size (at + 2) (at + length begin) need l x → BadSegment version due at (begin ++ l) x
   to_bad n size {begin} k o {l = l} e (cut_of c) = cut_body n size begin l k e o c
   to_bad n size {begin} k o {l = l} e (unfit {need = need} d) = wrong_size n size need begin l k e o d
 
-  from_bad : {l : List ℕ} {x : Answer} → BadSegment version due at l x → BadThen First (Faulted (open_table version due) [] at) Worse at l x
+  from_bad : {l : List ℕ} {x : Refusal} → BadSegment version due at l x → BadThen First (Faulted (open_table version due) [] at) Worse at l x
   from_bad (bad_marker b) = bad_first (marker_faulted version due at b)
   from_bad (bad_length rest b) = bad_first (length_faulted version due at b)
   from_bad (bad_ident size rest lo hi b) = bad_first (ident_faulted version due at size lo hi b)
@@ -146,7 +146,7 @@ module _ (version : Version) (due : Due) (s : List ℕ) (at : ℕ) (h : at ≤ l
       (λ l x b. bad b)
       (λ l x b. from_bad b)
     where
-      bad : {l : List ℕ} {x : Answer} → BadThen First (Faulted (open_table version due) [] at) Worse at l x → BadSegment version due at l x
+      bad : {l : List ℕ} {x : Refusal} → BadThen First (Faulted (open_table version due) [] at) Worse at l x → BadSegment version due at l x
       bad {l} {x} (bad_first f) = faulted_begin version due at l x f
       bad {x = x} (bad_later f r vs st w) =
           begin_apart version due (λ (vs f : List ℕ). Worse vs (at + length f) r x → BadSegment version due at (f ++ r) x) st

@@ -11,7 +11,7 @@ use mathlib.Core.List.{[], ◌∷◌}
 use lib.Dec.{eqb}
 use Rattle.laws.specs.Tests.{within}
 use Rattle.octets.specs.Octets.{be16_at, begins, stands_at}
-use Rattle.answers.specs.declared.Answer.TheVariants.{Short, BadMark, BadLength, BadStripe}
+use Rattle.answers.specs.declared.Refusal.TheVariants.{Short, BadMark, BadLength, BadStripe}
 use Rattle.field_rules.specs.Field.{Res, ok, no, fields}
 use Rattle.segment_rules.specs.declared.Version.TheVariants.{Base}
 use Rattle.segment_rules.specs.Rules.{longest_page}

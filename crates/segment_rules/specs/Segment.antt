@@ -13,8 +13,8 @@
 --   BadSegment           each way in which it is refused
 use Rattle.std.specs.Prelude.{ℕ, ◌+◌, ◌-◌, ◌≤◌, ◌<◌, ◌≡◌, ◌≢◌, Bool, true, false, ◌&&◌, not, cond, List, [], ◌∷◌, ◌++◌, length, get_or, eqb, leb}
 use Rattle.octets.specs.Octets.{octets16}
-use Rattle.answers.specs.declared.Answer.{Answer}
-use Rattle.answers.specs.declared.Answer.TheVariants.{Short, BadMark, BadLength, BadStripe}
+use Rattle.answers.specs.declared.Refusal.{Refusal}
+use Rattle.answers.specs.declared.Refusal.TheVariants.{Short, BadMark, BadLength, BadStripe}
 use Rattle.field_rules.specs.Field.{Res, ok, no, bind, one, two, Field, mark, val, again, fields, is}
 use Rattle.field_rules.specs.Part.{span_of}
 use Rattle.field_rules.specs.Fault.{BadMarked, BadNumbers, the}
@@ -90,11 +90,11 @@ segment_of version due s at =
 pub data Ident (due : Due) : List ℕ → Type 0 where
   ident : (n : ℕ) → due.may n ≡ true → Ident due (0x4D ∷ 0x52 ∷ 0x43 ∷ n ∷ [])
 
-pub data BadSegment (version : Version) (due : Due) (at : ℕ) : List ℕ → Answer → Type 0 where
-  bad_marker : {l : List ℕ} {x : Answer} → BadMarked (0xFF ∷ 0xED ∷ []) BadMark at l x → BadSegment version due at l x
-  bad_length : {x : Answer} (rest : List ℕ) → BadNumbers (two ∷ []) (the (λ (size : ℕ). 6 ≤ size)) BadLength (at + 2) rest x
+pub data BadSegment (version : Version) (due : Due) (at : ℕ) : List ℕ → Refusal → Type 0 where
+  bad_marker : {l : List ℕ} {x : Refusal} → BadMarked (0xFF ∷ 0xED ∷ []) BadMark at l x → BadSegment version due at l x
+  bad_length : {x : Refusal} (rest : List ℕ) → BadNumbers (two ∷ []) (the (λ (size : ℕ). 6 ≤ size)) BadLength (at + 2) rest x
       → BadSegment version due at (0xFF ∷ 0xED ∷ rest) x
-  bad_ident : {x : Answer} (size : ℕ) (rest : List ℕ) → 6 ≤ size → size < 65536
+  bad_ident : {x : Refusal} (size : ℕ) (rest : List ℕ) → 6 ≤ size → size < 65536
       → BadNumbers (one ∷ one ∷ one ∷ one ∷ []) (Ident due) BadMark (at + 4) rest x → BadSegment version due at (0xFF ∷ 0xED ∷ octets16 size ++ rest) x
   -- one too many, whatever its length: at the ident
   too_many : (n size : ℕ) (rest : List ℕ) → 6 ≤ size → size < 65536 → n < 256 → due.may n ≡ true → due.full n ≡ true

@@ -2,16 +2,18 @@
 // version or a mode more asks for its case wherever the rules decide.
 #![tactic(auto)]
 
+// By its octet in the start of page.
 #[derive(Clone, Copy)]
 pub enum Version {
     // version 00
-    Base,
+    Base = 0,
 }
 
+// By its octet in the start of page.
 #[derive(Clone, Copy)]
 pub enum Mode {
     // Mode 1
-    One,
+    One = 1,
 }
 
 #[derive(Clone, Copy)]

@@ -10,13 +10,11 @@ use lib.Dec.{eqb}
 use borrow.Author.Tests.{eq-eqb, ne_eqb}
 use borrow.Author.Rules.{rules}
 use Rattle.octets.proofs.Entries.{entries_next, entries_none}
-use Rattle.answers.specs.declared.Answer.TheVariants.{Done, BadSheet}
+use Rattle.answers.specs.declared.Refusal.TheVariants.{BadSheet}
 use Rattle.sheet_rules.specs.declared.Record.{Record}
 use Rattle.sheet_rules.specs.declared.State.{State}
-use Rattle.sheet_rules.specs.declared.Step.{Step}
-use Rattle.sheet_rules.specs.declared.Step.TheVariants.{Next, Stop}
-use Rattle.sheet_rules.specs.declared.Verdict.{Verdict}
-use Rattle.sheet_rules.specs.declared.Verdict.TheVariants.{Good, Refused}
+use Rattle.std.specs.Prelude.{Option, Some, None, Result, Ok, Err}
+use Rattle.sheet_rules.specs.declared.Counts.{Counts}
 use Rattle.sheet_rules.specs.Record.{record_size, record_at, records_from, rest}
 use Rattle.sheet_rules.specs.Judge.{closes, keeps, begin, after, after1, after2, after3, step_of, end_of, on_step, walk, judge, judge_of, answer_of, sheet_answer}
 use Rattle.sheet_rules.proofs.Theorems.{refused_few}
@@ -38,28 +36,28 @@ module _ (st t : State) (r : Record) where
 
   -- ---- one step
 
-  pub step_on : (b : Bool) → b ≡ keeps st r → b ≡ true → t ≡ after st r → Next t ≡ step_of st r
+  pub step_on : (b : Bool) → b ≡ keeps st r → b ≡ true → t ≡ after st r → Some t ≡ step_of st r
   unfolding step_of
   step_on b k e h = simp (sym k ∙ e, h)
 
-pub step_off : (st : State) (r : Record) (b : Bool) → b ≡ keeps st r → b ≡ false → Stop ≡ step_of st r
+pub step_off : (st : State) (r : Record) (b : Bool) → b ≡ keeps st r → b ≡ false → None ≡ step_of st r
 unfolding step_of
 step_off st r b k e = simp (sym k ∙ e)
 
 -- ---- the end
 
-pub end_good : (st : State) (n part : ℕ) (b : Bool) → b ≡ closes st.layer → b && eqb part 0 ≡ true → Good n (st.stripe + 1) ≡ end_of st n part
+pub end_good : (st : State) (n part : ℕ) (b : Bool) → b ≡ closes st.layer → b && eqb part 0 ≡ true → Ok (record { records = n; stripes = st.stripe + 1 }) ≡ end_of st n part
 unfolding end_of
 end_good st n part b k e = simp (sym k, e)
 
-pub end_bad : (st : State) (n part : ℕ) (b : Bool) → b ≡ closes st.layer → b && eqb part 0 ≡ false → Refused n ≡ end_of st n part
+pub end_bad : (st : State) (n part : ℕ) (b : Bool) → b ≡ closes st.layer → b && eqb part 0 ≡ false → Err n ≡ end_of st n part
 unfolding end_of
 end_bad st n part b k e = simp (sym k, e)
 
 -- ---- the loop: it begins, a record is passed, a record stops it, it ends
 
 module _ (s : List ℕ) where
-  abbrev from : ℕ → ℕ → State → Verdict
+  abbrev from : ℕ → ℕ → State → Result Counts ℕ
   from n i st = walk st i (records_from s (n - i) i) (rest s)
 
   pub walk_begin : (n : ℕ) (st : State) → n ≡ length s / record_size → st ≡ begin → judge_of s ≡ walk st 0 (records_from s (n - 0) 0) (rest s)
@@ -68,25 +66,25 @@ module _ (s : List ℕ) where
       let z : length s / record_size ≡ n - 0 = omega arith in
       ap₂ (λ (k : ℕ) (t : State). walk t 0 (records_from s k 0) (rest s)) z (sym h)
 
-  module _ (n i : ℕ) (st : State) (r : Record) (x : Step) (j : judge_of s ≡ walk st i (records_from s (n - i) i) (rest s)) (h : i < n)
+  module _ (n i : ℕ) (st : State) (r : Record) (x : Option State) (j : judge_of s ≡ walk st i (records_from s (n - i) i) (rest s)) (h : i < n)
       (e : r ≡ record_at s i) (k : x ≡ step_of st r) where
-    walk_opened : judge_of s ≡ on_step x (Refused i) (λ (t : State). walk t (i + 1) (records_from s (n - (i + 1)) (i + 1)) (rest s))
+    walk_opened : judge_of s ≡ on_step x (Err i) (λ (t : State). walk t (i + 1) (records_from s (n - (i + 1)) (i + 1)) (rest s))
     unfolding walk on_step
     walk_opened =
         let q : step_of st (record_at s i) ≡ x = ap (step_of st) (sym e) ∙ sym k in
         j
         ∙ ap (λ (rs : List Record). walk st i rs (rest s)) (entries_next (record_at s) n i h)
-        ∙ ap (λ (y : Step). on_step y (Refused i) (λ (t : State). walk t (i + 1) (records_from s (n - (i + 1)) (i + 1)) (rest s))) q
+        ∙ ap (λ (y : Option State). on_step y (Err i) (λ (t : State). walk t (i + 1) (records_from s (n - (i + 1)) (i + 1)) (rest s))) q
 
-    pub walk_on : (t : State) → x ≡ Next t → judge_of s ≡ walk t (i + 1) (records_from s (n - (i + 1)) (i + 1)) (rest s)
+    pub walk_on : (t : State) → x ≡ Some t → judge_of s ≡ walk t (i + 1) (records_from s (n - (i + 1)) (i + 1)) (rest s)
     unfolding on_step
-    walk_on t q = walk_opened ∙ ap (λ (y : Step). on_step y (Refused i) (λ (t : State). walk t (i + 1) (records_from s (n - (i + 1)) (i + 1)) (rest s))) q
+    walk_on t q = walk_opened ∙ ap (λ (y : Option State). on_step y (Err i) (λ (t : State). walk t (i + 1) (records_from s (n - (i + 1)) (i + 1)) (rest s))) q
 
-    pub walk_off : x ≡ Stop → Refused i ≡ judge_of s
+    pub walk_off : x ≡ None → Err i ≡ judge_of s
     unfolding on_step
-    walk_off q = sym (walk_opened ∙ ap (λ (y : Step). on_step y (Refused i) (λ (t : State). walk t (i + 1) (records_from s (n - (i + 1)) (i + 1)) (rest s))) q)
+    walk_off q = sym (walk_opened ∙ ap (λ (y : Option State). on_step y (Err i) (λ (t : State). walk t (i + 1) (records_from s (n - (i + 1)) (i + 1)) (rest s))) q)
 
-  pub walk_end : (n i : ℕ) (st : State) (v : Verdict) → judge_of s ≡ walk st i (records_from s (n - i) i) (rest s) → i ≤ n → n ≤ i → v ≡ end_of st n (rest s) → v ≡ judge_of s
+  pub walk_end : (n i : ℕ) (st : State) (v : Result Counts ℕ) → judge_of s ≡ walk st i (records_from s (n - i) i) (rest s) → i ≤ n → n ≤ i → v ≡ end_of st n (rest s) → v ≡ judge_of s
   unfolding walk
   walk_end n i st v j h g e =
       let y : i ≡ n = omega arith in
@@ -94,16 +92,16 @@ module _ (s : List ℕ) where
 
 -- ---- the answer
 
-module _ (s : List ℕ) (v : Verdict) (j : v ≡ judge_of s) where
+module _ (s : List ℕ) (v : Result Counts ℕ) (j : v ≡ judge_of s) where
   -- a record at fault has a small number
-  pub fault_small : (i : ℕ) → v ≡ Refused i → i < 4294967296
+  pub fault_small : (i : ℕ) → v ≡ Err i → i < 4294967296
   fault_small i e = let f = refused_few s i (sym j ∙ e) in omega arith
 
-  pub answer_good : (n m : ℕ) → v ≡ Good n m → Done n ≡ sheet_answer s
+  pub answer_good : (c : Counts) → v ≡ Ok c → Ok c.records ≡ sheet_answer s
   unfolding sheet_answer answer_of
-  answer_good n m e = ap answer_of (sym e ∙ j)
+  answer_good c e = ap answer_of (sym e ∙ j)
 
-  pub answer_bad : (i : ℕ) → v ≡ Refused i → BadSheet i ≡ sheet_answer s
+  pub answer_bad : (i : ℕ) → v ≡ Err i → Err (BadSheet i) ≡ sheet_answer s
   unfolding sheet_answer answer_of
   answer_bad i e = ap answer_of (sym e ∙ j)
 

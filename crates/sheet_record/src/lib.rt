@@ -52,7 +52,7 @@ pub fn top32(v: u32) -> u8
     (v / 65536 / 256) as u8
 }
 
-// The 28 octets of a record.
+// The 28 octets of a record, each at its place: ten parts by to_be_bytes, to be joined or taken apart, are no plainer.
 pub fn encoded(r: Record) -> [u8; RECORD_SIZE]
     ensures { result ≡ encode r }
 {

@@ -14,8 +14,7 @@ use lib.Dec.{eqb}
 use borrow.Author.Tests.{eq-eqb, ne_eqb, le-leb}
 use Rattle.sheet_rules.specs.declared.Record.{Record}
 use Rattle.sheet_rules.specs.declared.State.{State}
-use Rattle.sheet_rules.specs.declared.Step.{Step}
-use Rattle.sheet_rules.specs.declared.Step.TheVariants.{Stop}
+use Rattle.std.specs.Prelude.{Option, None}
 use Rattle.sheet_rules.specs.Record.{nth}
 use Rattle.sheet_rules.specs.Judge.{closes, keeps, begin, after, after1, step_of, on_step, run}
 use Rattle.sheet_rules.specs.Sentences.{Closing, Above, Opening, heights, Unbroken, Complete, stripe_count}
@@ -91,6 +90,6 @@ stripe_alone ps r qs u c e =
     let a = last_agrees ps t u c g in
     let cl : closes t.layer ≡ true = simp (eq-eqb (t.layer % 2) 1 (omega arith), le-leb 3 t.layer (omega arith)) in
     run_append begin ps (r ∷ qs)
-    ∙ ap (λ (x : Step). on_step x Stop (λ (v : State). run v (r ∷ qs))) b.1
-    ∙ ap (λ (x : Step). on_step x Stop (λ (v : State). run v qs)) (same_step t r e (omega arith) cl)
+    ∙ ap (λ (x : Option State). on_step x None (λ (v : State). run v (r ∷ qs))) b.1
+    ∙ ap (λ (x : Option State). on_step x None (λ (v : State). run v qs)) (same_step t r e (omega arith) cl)
     ∙ ap (λ (v : State). run v (r ∷ qs)) (sym (entered ps t u c g))

@@ -6,7 +6,7 @@ use mathlib.Core.Path.{◌≡◌, refl}
 use mathlib.Core.List.{List, [], ◌∷◌}
 use Rattle.sheet_rules.specs.declared.Record.{Record}
 use Rattle.sheet_rules.proofs.Make.{made}
-use Rattle.sheet_rules.specs.declared.Verdict.TheVariants.{Good, Refused}
+use Rattle.std.specs.Prelude.{Ok, Err}
 use Rattle.sheet_rules.specs.Record.{marked, record_at, encode, records}
 use Rattle.sheet_rules.specs.Judge.{keeps, after, after1, after2, after3, step_of, end_of, on_step, walk, judge, judge_of}
 use Rattle.octets.specs.Octets.{be16_at, be32_at, octets16, octets32}
@@ -21,7 +21,7 @@ example =
     ∷ 0x00 ∷ 0x00 ∷ 0x03 ∷ 0x00 ∷ 0x00 ∷ 0x00 ∷ 0x00 ∷ 0x00 ∷ 0x00 ∷ 0x00 ∷ 0x00 ∷ 0x00 ∷ 0x00 ∷ 0xC8
     ∷ 0x00 ∷ 0x80 ∷ 0x60 ∷ 0x00 ∷ 0x00 ∷ 0x00 ∷ 0x00 ∷ 0x00 ∷ 0x00 ∷ 0x00 ∷ 0x00 ∷ 0x00 ∷ 0x00 ∷ 0x00 ∷ []
 
-pub example_accepted : judge_of example ≡ Good 3 1
+pub example_accepted : judge_of example ≡ Ok (record { records = 3; stripes = 1 })
 unfolding judge_of judge walk on_step step_of keeps after after1 after2 after3 end_of records record_at be16_at be32_at example
 example_accepted = refl
 
@@ -36,37 +36,37 @@ stripes =
     ∷ layer 1 1 0 0 0 0 0 400 0 0 ∷ layer 1 2 0 0 0 300 7 400 0 0 ∷ layer 1 3 1 9 9 8 8 100 210 30
     ∷ layer 1 4 1 2 2 10 10 400 240 5 ∷ layer 1 5 1 2 2 5 5 200 245 9 ∷ []
 
-pub stripes_accepted : judge stripes 0 ≡ Good 8 2
+pub stripes_accepted : judge stripes 0 ≡ Ok (record { records = 8; stripes = 2 })
 unfolding judge walk on_step step_of keeps after after1 after2 after3 end_of stripes
 stripes_accepted = refl
 
 -- ---- the paper's exceptions, at their places
 
 -- layer 1 under 300 is no fault by itself; it is met at layer 2, whose 400 it does not divide, in stripe 0 and in a later one
-pub resolution_at_2 : judge (layer 0 1 1 0 0 5 5 300 9 9 ∷ layer 0 2 4 0 0 8 8 400 9 9 ∷ layer 0 3 0 0 0 0 0 400 0 0 ∷ []) 0 ≡ Refused 1
+pub resolution_at_2 : judge (layer 0 1 1 0 0 5 5 300 9 9 ∷ layer 0 2 4 0 0 8 8 400 9 9 ∷ layer 0 3 0 0 0 0 0 400 0 0 ∷ []) 0 ≡ Err 1
 unfolding judge walk on_step step_of keeps after after1 after2 after3 end_of layer
 resolution_at_2 = refl
 
 pub resolution_at_2_later : judge (layer 0 1 0 0 0 0 0 400 0 0 ∷ layer 0 2 4 0 0 8 8 400 9 9 ∷ layer 0 3 0 0 0 0 0 400 0 0
-    ∷ layer 1 1 1 0 0 5 5 300 9 9 ∷ layer 1 2 4 0 0 8 8 400 9 9 ∷ layer 1 3 0 0 0 0 0 400 0 0 ∷ []) 0 ≡ Refused 4
+    ∷ layer 1 1 1 0 0 5 5 300 9 9 ∷ layer 1 2 4 0 0 8 8 400 9 9 ∷ layer 1 3 0 0 0 0 0 400 0 0 ∷ []) 0 ≡ Err 4
 unfolding judge walk on_step step_of keeps after after1 after2 after3 end_of layer
 resolution_at_2_later = refl
 
 -- the choice of coded layers 1 to 3 is met at layer 3: none, and 1 and 3 without 2
-pub choice_at_3 : judge (layer 0 1 0 0 0 0 0 400 0 0 ∷ layer 0 2 0 0 0 8 8 400 0 0 ∷ layer 0 3 0 0 0 0 0 400 0 0 ∷ []) 0 ≡ Refused 2
+pub choice_at_3 : judge (layer 0 1 0 0 0 0 0 400 0 0 ∷ layer 0 2 0 0 0 8 8 400 0 0 ∷ layer 0 3 0 0 0 0 0 400 0 0 ∷ []) 0 ≡ Err 2
 unfolding judge walk on_step step_of keeps after after1 after2 after3 end_of layer
 choice_at_3 = refl
 
-pub mask_at_3 : judge (layer 0 1 1 0 0 5 5 400 9 9 ∷ layer 0 2 0 0 0 8 8 400 0 0 ∷ layer 0 3 1 0 0 5 5 400 9 9 ∷ []) 0 ≡ Refused 2
+pub mask_at_3 : judge (layer 0 1 1 0 0 5 5 400 9 9 ∷ layer 0 2 0 0 0 8 8 400 0 0 ∷ layer 0 3 1 0 0 5 5 400 9 9 ∷ []) 0 ≡ Err 2
 unfolding judge walk on_step step_of keeps after after1 after2 after3 end_of layer
 mask_at_3 = refl
 
 -- a part record, and a stripe that stops at an even layer, are at the record that was due
-pub part_due : judge (layer 0 1 0 0 0 0 0 400 0 0 ∷ layer 0 2 4 0 0 8 8 400 9 9 ∷ layer 0 3 0 0 0 0 0 400 0 0 ∷ []) 27 ≡ Refused 3
+pub part_due : judge (layer 0 1 0 0 0 0 0 400 0 0 ∷ layer 0 2 4 0 0 8 8 400 9 9 ∷ layer 0 3 0 0 0 0 0 400 0 0 ∷ []) 27 ≡ Err 3
 unfolding judge walk on_step step_of keeps after after1 after2 after3 end_of layer
 part_due = refl
 
-pub even_due : judge (layer 0 1 0 0 0 0 0 400 0 0 ∷ layer 0 2 4 0 0 8 8 400 9 9 ∷ layer 1 1 0 0 0 0 0 400 0 0 ∷ []) 0 ≡ Refused 2
+pub even_due : judge (layer 0 1 0 0 0 0 0 400 0 0 ∷ layer 0 2 4 0 0 8 8 400 9 9 ∷ layer 1 1 0 0 0 0 0 400 0 0 ∷ []) 0 ≡ Err 2
 unfolding judge walk on_step step_of keeps after after1 after2 after3 end_of layer
 even_due = refl
 
@@ -77,19 +77,19 @@ pub marks : ℕ → ℕ → ℕ → List Record
 unfolding layer
 marks a b c = marked a (layer 0 1 1 0 0 5 5 400 9 9) ∷ marked b (layer 0 2 1 0 0 8 8 400 9 9) ∷ marked c (layer 0 3 1 0 0 5 5 200 9 9) ∷ []
 
-pub grey_accepted : judge (marks 1 0 1) 0 ≡ Good 3 1
+pub grey_accepted : judge (marks 1 0 1) 0 ≡ Ok (record { records = 3; stripes = 1 })
 unfolding judge walk on_step step_of keeps after after1 after2 after3 end_of marks
 grey_accepted = refl
 
-pub grey_mask : judge (marks 1 1 1) 0 ≡ Refused 1
+pub grey_mask : judge (marks 1 1 1) 0 ≡ Err 1
 unfolding judge walk on_step step_of keeps after after1 after2 after3 end_of marks
 grey_mask = refl
 
-pub grey_two : judge (marks 1 0 2) 0 ≡ Refused 2
+pub grey_two : judge (marks 1 0 2) 0 ≡ Err 2
 unfolding judge walk on_step step_of keeps after after1 after2 after3 end_of marks
 grey_two = refl
 
-pub grey_uncoded : judge (marked 1 (layer 0 1 0 0 0 0 0 400 0 0) ∷ layer 0 2 4 0 0 8 8 400 9 9 ∷ layer 0 3 0 0 0 0 0 400 0 0 ∷ []) 0 ≡ Refused 0
+pub grey_uncoded : judge (marked 1 (layer 0 1 0 0 0 0 0 400 0 0) ∷ layer 0 2 4 0 0 8 8 400 9 9 ∷ layer 0 3 0 0 0 0 0 400 0 0 ∷ []) 0 ≡ Err 0
 unfolding judge walk on_step step_of keeps after after1 after2 after3 end_of layer
 grey_uncoded = refl
 

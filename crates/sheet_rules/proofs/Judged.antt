@@ -13,10 +13,8 @@ use lib.Seq.{take-suc, take-take}
 use lib.Dec.{eqb}
 use Rattle.sheet_rules.specs.declared.Record.{Record}
 use Rattle.sheet_rules.specs.declared.State.{State}
-use Rattle.sheet_rules.specs.declared.Step.{Step}
-use Rattle.sheet_rules.specs.declared.Step.TheVariants.{Next, Stop}
-use Rattle.sheet_rules.specs.declared.Verdict.{Verdict}
-use Rattle.sheet_rules.specs.declared.Verdict.TheVariants.{Good, Refused}
+use Rattle.std.specs.Prelude.{Option, Some, None, Result, Ok, Err}
+use Rattle.sheet_rules.specs.declared.Counts.{Counts}
 use Rattle.sheet_rules.specs.Record.{blank, nth}
 use Rattle.sheet_rules.specs.Judge.{closes, keeps, begin, after, step_of, end_of, on_step, run, walk, judge}
 use Rattle.sheet_rules.specs.Sentences.{Unbroken, Complete, Sheet, stripe_count, Breaks, FaultAt}
@@ -33,17 +31,17 @@ record StopsAt (st : State) (i : ℕ) (rs : List Record) (part : ℕ) : Type 0 w
   j : ℕ
   within : j < length rs
   state : State
-  passed : run st (take j rs) ≡ Next state
+  passed : run st (take j rs) ≡ Some state
   unkept : keeps state (nth rs j) ≡ false
-  answer : walk st i rs part ≡ Refused (i + j)
+  answer : walk st i rs part ≡ Err (i + j)
 
-step_true : (st : State) (r : Record) → keeps st r ≡ true → step_of st r ≡ Next (after st r)
+step_true : (st : State) (r : Record) → keeps st r ≡ true → step_of st r ≡ Some (after st r)
 unfolding step_of
-step_true st r k = ap (λ (b : Bool). cond b (Next (after st r)) Stop) k
+step_true st r k = ap (λ (b : Bool). cond b (Some (after st r)) None) k
 
-step_false : (st : State) (r : Record) → keeps st r ≡ false → step_of st r ≡ Stop
+step_false : (st : State) (r : Record) → keeps st r ≡ false → step_of st r ≡ None
 unfolding step_of
-step_false st r k = ap (λ (b : Bool). cond b (Next (after st r)) Stop) k
+step_false st r k = ap (λ (b : Bool). cond b (Some (after st r)) None) k
 
 stops_later : (st : State) (i : ℕ) (r : Record) (rs : List Record) (part : ℕ) → keeps st r ≡ true → StopsAt (after st r) (i + 1) rs part → StopsAt st i (r ∷ rs) part
 unfolding run walk on_step
@@ -55,9 +53,9 @@ stops_later st i r rs part k d =
       j = suc d.j;
       within = omega arith;
       state = d.state;
-      passed = ap (λ (x : Step). on_step x Stop (λ (t : State). run t (take d.j rs))) s ∙ d.passed;
+      passed = ap (λ (x : Option State). on_step x None (λ (t : State). run t (take d.j rs))) s ∙ d.passed;
       unkept = d.unkept;
-      answer = ap (λ (x : Step). on_step x (Refused i) (λ (t : State). walk t (i + 1) rs part)) s ∙ d.answer ∙ ap Refused z;
+      answer = ap (λ (x : Option State). on_step x (Err i) (λ (t : State). walk t (i + 1) rs part)) s ∙ d.answer ∙ ap Err z;
     }
 
 stops_here : (st : State) (i : ℕ) (r : Record) (rs : List Record) (part : ℕ) → keeps st r ≡ false → StopsAt st i (r ∷ rs) part
@@ -70,14 +68,14 @@ stops_here st i r rs part k =
       state = st;
       passed = refl;
       unkept = k;
-      answer = ap (λ (x : Step). on_step x (Refused i) (λ (t : State). walk t (i + 1) rs part)) (step_false st r k) ∙ ap Refused z;
+      answer = ap (λ (x : Option State). on_step x (Err i) (λ (t : State). walk t (i + 1) rs part)) (step_false st r k) ∙ ap Err z;
     }
 
-stops_at : (st : State) (i : ℕ) (rs : List Record) (part : ℕ) → run st rs ≡ Stop → StopsAt st i rs part
+stops_at : (st : State) (i : ℕ) (rs : List Record) (part : ℕ) → run st rs ≡ None → StopsAt st i rs part
 unfolding run on_step
 stops_at st i [] part e = absurd (let z : ◌≡◌ {A = ℕ} 0 1 = cc in omega arith)
 stops_at st i (r ∷ rs) part e =
-    step_cases (λ x. on_step x Stop (λ (t : State). run t rs) ≡ Stop → StopsAt st i (r ∷ rs) part) st r
+    step_cases (λ x. on_step x None (λ (t : State). run t rs) ≡ None → StopsAt st i (r ∷ rs) part) st r
     (λ k h. stops_later st i r rs part k (stops_at (after st r) (i + 1) rs part h))
     (λ k h. stops_here st i r rs part k)
     e
@@ -97,19 +95,19 @@ stop_breaks rs part d =
 
 -- ---- the two ways that a judge can go
 
-run_cases : (P : Step → Type 0) → ((t : State) → P (Next t)) → P Stop → (x : Step) → P x
-run_cases P on off (Next t) = on t
-run_cases P on off Stop = off
+run_cases : (P : Option State → Type 0) → ((t : State) → P (Some t)) → P None → (x : Option State) → P x
+run_cases P on off (Some t) = on t
+run_cases P on off None = off
 
-pub judge_next : (rs : List Record) (part : ℕ) (t : State) → run begin rs ≡ Next t → judge rs part ≡ end_of t (length rs) part
+pub judge_next : (rs : List Record) (part : ℕ) (t : State) → run begin rs ≡ Some t → judge rs part ≡ end_of t (length rs) part
 unfolding judge walk
 judge_next rs part t e =
     let z : 0 + length rs ≡ length rs = omega arith in
     ap (λ (l : List Record). walk begin 0 l part) (sym (append-nil rs)) ∙ walk_next begin t 0 rs [] part e ∙ ap (λ (n : ℕ). end_of t n part) z
 
-pub judge_cases : (rs : List Record) (part : ℕ) (P : Verdict → Type 0)
+pub judge_cases : (rs : List Record) (part : ℕ) (P : Result Counts ℕ → Type 0)
     → ((t : State) → Unbroken rs → Agrees rs t → P (end_of t (length rs) part))
-    → ((j : ℕ) → Breaks rs j → P (Refused j))
+    → ((j : ℕ) → Breaks rs j → P (Err j))
     → P (judge rs part)
 unfolding judge
 judge_cases rs part P on off =
@@ -118,7 +116,7 @@ judge_cases rs part P on off =
     (λ e.
     let d = stops_at begin 0 rs part e in
     let z : 0 + d.j ≡ d.j = omega arith in
-    subst P (sym (d.answer ∙ ap Refused z)) (off d.j (stop_breaks rs part d)))
+    subst P (sym (d.answer ∙ ap Err z)) (off d.j (stop_breaks rs part d)))
     (run begin rs) refl
 
 -- ---- the end
@@ -146,25 +144,25 @@ module _ (rs : List Record) (part : ℕ) (st : State) (g : Agrees rs st) where
         k.1,
       )
 
-  end_cases : (P : Verdict → Type 0) → (Complete rs × (part ≡ 0) → P (Good (length rs) (stripe_count rs)))
-      → ((Complete rs × (part ≡ 0) → ⊥) → P (Refused (length rs))) → P (end_of st (length rs) part)
+  end_cases : (P : Result Counts ℕ → Type 0) → (Complete rs × (part ≡ 0) → P (Ok (record { records = length rs; stripes = stripe_count rs })))
+      → ((Complete rs × (part ≡ 0) → ⊥) → P (Err (length rs))) → P (end_of st (length rs) part)
   unfolding end_of
   end_cases P good bad = go (closes st.layer && eqb part 0) refl
     where
       stripes : Complete rs → stripe_count rs ≡ st.stripe + 1
       stripes c = let n = c.count in let l = g.last (length rs - 1) (omega arith) in omega arith
 
-      go : (b : Bool) → closes st.layer && eqb part 0 ≡ b → P (cond b (Good (length rs) (st.stripe + 1)) (Refused (length rs)))
+      go : (b : Bool) → closes st.layer && eqb part 0 ≡ b → P (cond b (Ok (record { records = length rs; stripes = st.stripe + 1 })) (Err (length rs)))
       go true e =
           let c = closes_complete e in
-          subst (λ (m : ℕ). P (Good (length rs) m)) (stripes c.0) (good c)
+          subst (λ (m : ℕ). P (Ok (record { records = length rs; stripes = m }))) (stripes c.0) (good c)
       go false e = bad (λ c. false≢true (sym e ∙ complete_closes c))
 
 -- ---- both together: good with its counts where the sentences hold, and otherwise the record at fault
 
-pub judge_answers : (rs : List Record) (part : ℕ) (P : Verdict → Type 0)
-    → (Sheet rs → part ≡ 0 → P (Good (length rs) (stripe_count rs)))
-    → ((i : ℕ) → FaultAt rs part i → P (Refused i))
+pub judge_answers : (rs : List Record) (part : ℕ) (P : Result Counts ℕ → Type 0)
+    → (Sheet rs → part ≡ 0 → P (Ok (record { records = length rs; stripes = stripe_count rs })))
+    → ((i : ℕ) → FaultAt rs part i → P (Err i))
     → P (judge rs part)
 judge_answers rs part P good bad =
     judge_cases rs part P

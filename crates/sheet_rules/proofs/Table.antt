@@ -11,9 +11,7 @@ use lib.Dec.{eqb, ltb}
 use borrow.Author.Tests.{eq-eqb, ne_eqb, le-leb}
 use Rattle.sheet_rules.specs.declared.Record.{Record}
 use Rattle.sheet_rules.specs.declared.State.{State}
-use Rattle.sheet_rules.specs.declared.Verdict.TheVariants.{Good}
-use Rattle.sheet_rules.specs.declared.FoundStripe.TheVariants.{Has, NoStripe}
-use Rattle.sheet_rules.specs.declared.FoundLayer.TheVariants.{At}
+use Rattle.std.specs.Prelude.{Some, None, Ok}
 use Rattle.sheet_rules.specs.Record.{record_size, record_at, records_from, records, nth, height_in, most_records}
 use Rattle.laws.specs.Tests.{only}
 use Rattle.sheet_rules.specs.Judge.{judge_of}
@@ -143,37 +141,37 @@ sheet_table rs z =
 
 -- ---- what is found in a sheet that was judged good
 
-few_all : (s : List ℕ) (n m : ℕ) → judge_of s ≡ Good n m → few s ≡ records s
+few_all : (s : List ℕ) (n m : ℕ) → judge_of s ≡ Ok (record { records = n; stripes = m }) → few s ≡ records s
 unfolding few records
 few_all s n m e =
     let f = sheet_few s n m e in
     let z : min (length s / record_size) most_records ≡ length s / record_size = omega arith in
     ap (λ (k : ℕ). records_from s k 0) z
 
-module _ (s : List ℕ) (n m : ℕ) (e : judge_of s ≡ Good n m) where
+module _ (s : List ℕ) (n m : ℕ) (e : judge_of s ≡ Ok (record { records = n; stripes = m })) where
   tabled : Table (records s)
   tabled = sheet_table (records s) ((sheet_accepted s n m).0 e).sheet
 
   -- a stripe of the sheet is found with its extent, and no other is
-  pub stripe_found_lem : (k : ℕ) → k < m → find_stripe s k ≡ Has (extent_of k (records s))
+  pub stripe_found_lem : (k : ℕ) → k < m → find_stripe s k ≡ Some (extent_of k (records s))
   unfolding find_stripe found_extent
   stripe_found_lem k h =
       let c = ((sheet_accepted s n m).0 e).stripes in
       let l = tabled.layers k (omega arith) in
       ap (λ (rs : List Record). found_extent (extent_of k rs)) (few_all s n m e)
-      ∙ ap (λ (b : Bool). cond b NoStripe (Has (extent_of k (records s)))) (ne_eqb (extent_of k (records s)).layers 0 (λ q. omega arith))
+      ∙ ap (λ (b : Bool). cond b None (Some (extent_of k (records s)))) (ne_eqb (extent_of k (records s)).layers 0 (λ q. omega arith))
 
-  pub stripe_missing : (k : ℕ) → m ≤ k → find_stripe s k ≡ NoStripe
+  pub stripe_missing : (k : ℕ) → m ≤ k → find_stripe s k ≡ None
   unfolding find_stripe found_extent
   stripe_missing k h =
       let c = ((sheet_accepted s n m).0 e).stripes in
       let l = tabled.none k (omega arith) in
       ap (λ (rs : List Record). found_extent (extent_of k rs)) (few_all s n m e)
-      ∙ ap (λ (b : Bool). cond b NoStripe (Has (extent_of k (records s)))) (eq-eqb (extent_of k (records s)).layers 0 l)
+      ∙ ap (λ (b : Bool). cond b None (Some (extent_of k (records s)))) (eq-eqb (extent_of k (records s)).layers 0 l)
 
   -- layer l of stripe k is found at a record of the sheet with these numbers
   pub layer_found_lem : (k l : ℕ) → 1 ≤ l → l ≤ (extent_of k (records s)).layers
-      → (find_layer (extent_of k (records s)) l ≡ At ((extent_of k (records s)).first + (l - 1)))
+      → (find_layer (extent_of k (records s)) l ≡ Some ((extent_of k (records s)).first + (l - 1)))
       × ((record_at s ((extent_of k (records s)).first + (l - 1))).stripe ≡ k)
       × ((record_at s ((extent_of k (records s)).first + (l - 1))).layer ≡ l)
       × ((extent_of k (records s)).first + (l - 1) < n)

@@ -9,15 +9,12 @@
 --   run       the fold over records; walk: the same, counted and ended
 --   judge     all records, then the end; a record at which the fold stops is the record at fault
 --   judge_of   the judge of a sheet's octets; sheet_answer: its answer in the paper's table
-use Rattle.std.specs.Prelude.{ℕ, ◌+◌, ◌-◌, ◌%◌, Bool, false, ◌&&◌, ◌||◌, not, cond, List, [], ◌∷◌, leb, ltb, eqb}
-use Rattle.answers.specs.declared.Answer.{Answer}
-use Rattle.answers.specs.declared.Answer.TheVariants.{Done, BadSheet}
+use Rattle.std.specs.Prelude.{ℕ, ◌+◌, ◌-◌, ◌%◌, Bool, false, ◌&&◌, ◌||◌, not, cond, List, [], ◌∷◌, leb, ltb, eqb, Option, Some, None, Result, Ok, Err}
+use Rattle.answers.specs.Answers.{Answer}
+use Rattle.answers.specs.declared.Refusal.TheVariants.{BadSheet}
 use Rattle.sheet_rules.specs.declared.Record.{Record}
 use Rattle.sheet_rules.specs.declared.State.{State}
-use Rattle.sheet_rules.specs.declared.Step.{Step}
-use Rattle.sheet_rules.specs.declared.Step.TheVariants.{Next, Stop}
-use Rattle.sheet_rules.specs.declared.Verdict.{Verdict}
-use Rattle.sheet_rules.specs.declared.Verdict.TheVariants.{Good, Refused}
+use Rattle.sheet_rules.specs.declared.Counts.{Counts}
 use Rattle.sheet_rules.specs.Record.{is_grey, records, rest}
 
 -- ---- the tests, in the paper's order
@@ -153,41 +150,41 @@ after3 st r =
 unfoldable pub after : State → Record → State
 after st r = cond (eqb r.layer 1) (after1 st r) (cond (eqb r.layer 2) (after2 st r) (after3 st r))
 
-unfoldable pub step_of : State → Record → Step
-step_of st r = cond (keeps st r) (Next (after st r)) Stop
+unfoldable pub step_of : State → Record → Option State
+step_of st r = cond (keeps st r) (Some (after st r)) None
 
 -- after n records, with so many octets of a part record left
-unfoldable pub end_of : State → ℕ → ℕ → Verdict
-end_of st n part = cond (closes st.layer && eqb part 0) (Good n (st.stripe + 1)) (Refused n)
+unfoldable pub end_of : State → ℕ → ℕ → Result Counts ℕ
+end_of st n part = cond (closes st.layer && eqb part 0) (Ok (record { records = n; stripes = st.stripe + 1 })) (Err n)
 
 -- what comes of a step: one thing where it stops, another from the next state
-unfoldable pub on_step : {A : Type 0} → Step → A → (State → A) → A
-on_step (Next st) stop go = go st
-on_step Stop stop go = stop
+unfoldable pub on_step : {A : Type 0} → Option State → A → (State → A) → A
+on_step (Some st) stop go = go st
+on_step None stop go = stop
 
 -- the fold from a state on, and the same with the records counted and the end judged
-unfoldable pub run : State → List Record → Step
+unfoldable pub run : State → List Record → Option State
 unfolding on_step
-run st [] = Next st
-run st (r ∷ rs) = on_step (step_of st r) Stop (λ (t : State). run t rs)
+run st [] = Some st
+run st (r ∷ rs) = on_step (step_of st r) None (λ (t : State). run t rs)
 
-unfoldable pub walk : State → ℕ → List Record → ℕ → Verdict
+unfoldable pub walk : State → ℕ → List Record → ℕ → Result Counts ℕ
 unfolding on_step
 walk st i [] part = end_of st i part
-walk st i (r ∷ rs) part = on_step (step_of st r) (Refused i) (λ (t : State). walk t (i + 1) rs part)
+walk st i (r ∷ rs) part = on_step (step_of st r) (Err i) (λ (t : State). walk t (i + 1) rs part)
 
-unfoldable pub judge : List Record → ℕ → Verdict
+unfoldable pub judge : List Record → ℕ → Result Counts ℕ
 unfolding walk
 judge rs part = walk begin 0 rs part
 
-unfoldable pub judge_of : List ℕ → Verdict
+unfoldable pub judge_of : List ℕ → Result Counts ℕ
 unfolding judge records
 judge_of s = judge (records s) (rest s)
 
 -- the judge's answer in the paper's table: Done with the number of records, or BadSheet at the record at fault
-unfoldable pub answer_of : Verdict → Answer
-answer_of (Good n m) = Done n
-answer_of (Refused i) = BadSheet i
+unfoldable pub answer_of : Result Counts ℕ → Answer
+answer_of (Ok c) = Ok c.records
+answer_of (Err i) = Err (BadSheet i)
 
 unfoldable pub sheet_answer : List ℕ → Answer
 unfolding answer_of judge_of

@@ -15,11 +15,11 @@
 --
 -- Two exceptions that the paper names come about by themselves, since a sentence speaks only of records that are there: layer 1's
 -- resolution is matched at layer 2, and the choice of coded layers 1 to 3 at layer 3.
-use Rattle.std.specs.Prelude.{ℕ, ◌+◌, ◌-◌, ◌%◌, ◌≤◌, ◌<◌, ◌≡◌, ◌⊎◌, ◌≢◌, length, take}
+use Rattle.std.specs.Prelude.{ℕ, ◌+◌, ◌-◌, ◌%◌, ◌≤◌, ◌<◌, ◌≡◌, ◌⊎◌, ◌≢◌, length, take, Ok, Err}
 use Rattle.std.specs.Int.{◌∣◌}
 use mathlib.Core.List.{List, Memᴰ}
-use Rattle.answers.specs.declared.Answer.{Answer}
-use Rattle.answers.specs.declared.Answer.TheVariants.{Done, BadSheet}
+use Rattle.answers.specs.Answers.{Answer}
+use Rattle.answers.specs.declared.Refusal.TheVariants.{BadSheet}
 use Rattle.sheet_rules.specs.declared.Record.{Record}
 use Rattle.sheet_rules.specs.Record.{nth, records, rest, sum_of, height_in}
 
@@ -142,5 +142,5 @@ BadSheetAt s i = FaultAt (records s) (rest s) i
 
 -- one line for each answer that the judge gives; it gives no other
 pub data Judges (s : List ℕ) : Answer → Type 0 where
-  good : {n : ℕ} → Accepted s → n ≡ length (records s) → Judges s (Done n)
-  no_sheet : {i : ℕ} → BadSheetAt s i → Judges s (BadSheet i)
+  good : {n : ℕ} → Accepted s → n ≡ length (records s) → Judges s (Ok n)
+  no_sheet : {i : ℕ} → BadSheetAt s i → Judges s (Err (BadSheet i))

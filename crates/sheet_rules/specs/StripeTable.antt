@@ -7,15 +7,11 @@
 --   layer_record       the record of a layer of a stripe; main_res: the main resolution, that of layer 2
 --   find_layer e l     layer l of a stripe: its record's number
 --   entering          the judge's state where stripe k begins, with so much height left, on a page of this width and resolution
-use Rattle.std.specs.Prelude.{ℕ, zero, suc, ◌+◌, ◌-◌, ◌/◌, min, false, ◌&&◌, cond, List, length, leb, ltb, eqb}
+use Rattle.std.specs.Prelude.{ℕ, zero, suc, ◌+◌, ◌-◌, ◌/◌, min, false, ◌&&◌, cond, List, length, leb, ltb, eqb, Option, Some, None}
 use Rattle.octets.specs.Entries.{entries_from}
 use Rattle.sheet_rules.specs.declared.Record.{Record}
 use Rattle.sheet_rules.specs.declared.State.{State}
 use Rattle.sheet_rules.specs.declared.Extent.{Extent}
-use Rattle.sheet_rules.specs.declared.FoundStripe.{FoundStripe}
-use Rattle.sheet_rules.specs.declared.FoundStripe.TheVariants.{Has, NoStripe}
-use Rattle.sheet_rules.specs.declared.FoundLayer.{FoundLayer}
-use Rattle.sheet_rules.specs.declared.FoundLayer.TheVariants.{At, NoLayer}
 use Rattle.sheet_rules.specs.Record.{record_size, record_at, records_from, sum_of, height_in, most_records}
 use Rattle.laws.specs.Tests.{only}
 use Rattle.sheet_rules.specs.Judge.{begin}
@@ -45,10 +41,10 @@ unfoldable pub few : List ℕ → List Record
 unfolding entries_from
 few s = records_from s (min (length s / record_size) most_records) 0
 
-unfoldable pub found_extent : Extent → FoundStripe
-found_extent extent = cond (eqb extent.layers 0) NoStripe (Has extent)
+unfoldable pub found_extent : Extent → Option Extent
+found_extent extent = cond (eqb extent.layers 0) None (Some extent)
 
-unfoldable pub find_stripe : List ℕ → ℕ → FoundStripe
+unfoldable pub find_stripe : List ℕ → ℕ → Option Extent
 unfolding found_extent extent_of few
 find_stripe s k = found_extent (extent_of k (few s))
 
@@ -59,8 +55,8 @@ layer_record s extent l = record_at s (extent.first + (l - 1))
 abbrev pub main_res : List ℕ → Extent → ℕ
 main_res s extent = (layer_record s extent 2).res
 
-unfoldable pub find_layer : Extent → ℕ → FoundLayer
-find_layer extent l = cond (leb 1 l && leb l extent.layers) (At (extent.first + (l - 1))) NoLayer
+unfoldable pub find_layer : Extent → ℕ → Option ℕ
+find_layer extent l = cond (leb 1 l && leb l extent.layers) (Some (extent.first + (l - 1))) None
 
 -- stripe 0 begins as the sheet does
 unfoldable pub entering : ℕ → ℕ → ℕ → ℕ → State

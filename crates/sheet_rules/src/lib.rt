@@ -14,7 +14,7 @@ pub const MOST_RECORDS: usize = 960;
 pub const DECISIVE_SIZE: usize = (MOST_RECORDS + 1) * RECORD_SIZE;
 
 // Three CIELAB code octets, carried as they stand.
-#[derive(Clone, Copy)]
+#[derive(Clone, Copy, PartialEq, Eq)]
 pub struct Colour {
     pub c0: u8,
     pub c1: u8,
@@ -62,18 +62,11 @@ pub struct State {
     pub left: u16,
 }
 
-// What one record does to the state.
+// What a good sheet has: so many records and stripes.
 #[derive(Clone, Copy)]
-pub enum Step {
-    Next(State),
-    Stop,
-}
-
-// What a sheet is judged to be: good with its counts, or the record at fault.
-#[derive(Clone, Copy)]
-pub enum Verdict {
-    Good { records: usize, stripes: usize },
-    Refused { record: usize },
+pub struct Counts {
+    pub records: usize,
+    pub stripes: usize,
 }
 
 // An entry of the stripe table: which records and lines a stripe has.
@@ -85,18 +78,4 @@ pub struct Extent {
     // its first line in the page and how many lines it has
     pub top: u32,
     pub height: u32,
-}
-
-// A stripe that was looked for: its extent.
-#[derive(Clone, Copy)]
-pub enum FoundStripe {
-    Has(Extent),
-    NoStripe,
-}
-
-// A layer that was looked for: the number of its record.
-#[derive(Clone, Copy)]
-pub enum FoundLayer {
-    At(usize),
-    NoLayer,
 }

@@ -14,9 +14,7 @@ use Rattle.octets.specs.Entries.{entries_from}
 use Rattle.octets.proofs.Entries.{entries_one_more}
 use Rattle.sheet_rules.specs.declared.Record.{Record}
 use Rattle.sheet_rules.specs.declared.Extent.{Extent}
-use Rattle.sheet_rules.specs.declared.FoundStripe.{FoundStripe}
-use Rattle.sheet_rules.specs.declared.FoundStripe.TheVariants.{Has, NoStripe}
-use Rattle.sheet_rules.specs.declared.FoundLayer.TheVariants.{At, NoLayer}
+use Rattle.std.specs.Prelude.{Option, Some, None}
 use Rattle.sheet_rules.specs.Record.{record_size, record_at, records_from, height_in, most_records}
 use Rattle.laws.specs.Tests.{only}
 use Rattle.sheet_rules.specs.StripeTable.{extent_of, with_record, few, found_extent, find_stripe, find_layer}
@@ -25,11 +23,11 @@ use Rattle.sheet_rules.proofs.Table.{extent_none, extent_more}
 -- ---- a layer of a stripe
 
 module _ (extent : Extent) (l : ℕ) where
-  pub layer_zero : l ≡ 0 → NoLayer ≡ find_layer extent l
+  pub layer_zero : l < 1 → None ≡ find_layer extent l
   unfolding find_layer
-  layer_zero e = simp (lt-leb 1 l (omega arith))
+  layer_zero h = simp (lt-leb 1 l h)
 
-  pub layer_past : extent.layers < l → NoLayer ≡ find_layer extent l
+  pub layer_past : extent.layers < l → None ≡ find_layer extent l
   unfolding find_layer
   layer_past h = simp (lt-leb l extent.layers h, and_no (leb 1 l))
     where
@@ -37,18 +35,18 @@ module _ (extent : Extent) (l : ℕ) where
       and_no true = refl
       and_no false = refl
 
-  pub layer_at : (l ≡ 0 → ⊥) → l ≤ extent.layers → At (extent.first + (l - 1)) ≡ find_layer extent l
+  pub layer_at : 1 ≤ l → l ≤ extent.layers → Some (extent.first + (l - 1)) ≡ find_layer extent l
   unfolding find_layer
-  layer_at d h = simp (le-leb 1 l (omega arith), le-leb l extent.layers h)
+  layer_at d h = simp (le-leb 1 l d, le-leb l extent.layers h)
 
 -- ---- an extent that has records, and one that has none
 
 module _ (extent : Extent) where
-  pub extent_missing : extent.layers ≡ 0 → NoStripe ≡ found_extent extent
+  pub extent_missing : extent.layers ≡ 0 → None ≡ found_extent extent
   unfolding found_extent
   extent_missing e = simp (eq-eqb extent.layers 0 e)
 
-  pub extent_there : (extent.layers ≡ 0 → ⊥) → Has extent ≡ found_extent extent
+  pub extent_there : (extent.layers ≡ 0 → ⊥) → Some extent ≡ found_extent extent
   unfolding found_extent
   extent_there d = simp (ne_eqb extent.layers 0 d)
 
@@ -121,7 +119,7 @@ counted_more s k i extent t r c e h q =
       height = omega arith;
     }
 
-pub counted_end : (s : List ℕ) (k n i : ℕ) (extent : Extent) (f : FoundStripe) → n ≡ min (length s / record_size) most_records → Counted s k i extent → i ≤ n → n ≤ i
+pub counted_end : (s : List ℕ) (k n i : ℕ) (extent : Extent) (f : Option Extent) → n ≡ min (length s / record_size) most_records → Counted s k i extent → i ≤ n → n ≤ i
     → f ≡ found_extent extent → f ≡ find_stripe s k
 unfolding find_stripe few
 counted_end s k n i extent f e c h g q =

@@ -2,16 +2,15 @@
 --
 --   JudgedGood s     the judge takes the sheet
 --   Whole s extent    the stripe's records are there, and few
-use Rattle.std.specs.Prelude.{ℕ, ◌+◌, ◌/◌, ◌≤◌, ◌≡◌, List, length}
+use Rattle.std.specs.Prelude.{ℕ, ◌+◌, ◌/◌, ◌≤◌, ◌≡◌, List, length, Ok}
+use Rattle.sheet_rules.specs.declared.Counts.{Counts}
 use Rattle.sheet_rules.specs.declared.Extent.{Extent}
-use Rattle.sheet_rules.specs.declared.Verdict.TheVariants.{Good}
 use Rattle.sheet_rules.specs.Record.{record_size, most_records}
 use Rattle.sheet_rules.specs.Judge.{judge_of}
 
 pub record JudgedGood (s : List ℕ) : Type 0 where
-  pub records : ℕ
-  pub stripes : ℕ
-  pub good : judge_of s ≡ Good records stripes
+  pub counts : Counts
+  pub good : judge_of s ≡ Ok counts
 
 pub record Whole (s : List ℕ) (extent : Extent) : Type 0 where
   pub records : extent.first + extent.layers ≤ length s / record_size

@@ -4,7 +4,7 @@ use Prim.Native.Nat.{ℕ}
 use mathlib.Core.Path.{◌≡◌, ap, subst, ◌∙◌}
 use mathlib.Core.List.{List}
 use borrow.Author.Rules.{rules}
-use Rattle.answers.specs.declared.Answer.{Answer}
+use Rattle.answers.specs.Answers.{Answer}
 use Rattle.answers_report.specs.declared.Report.{Report}
 use Rattle.answers_report.specs.Report.{report_of}
 use Rattle.sheet_rules.specs.declared.Colour.{Colour}
@@ -14,7 +14,9 @@ use Rattle.write_rules.specs.Writing.{Writes}
 use Rattle.pixel_rules.specs.Planes.{list_of}
 use Rattle.picture_rules.specs.Line.{unseen_grey, Lines}
 use Rattle.band_rules.specs.Band.{Bands}
-use Rattle.data_rules.specs.declared.Found.{Found}
+use Rattle.std.specs.Prelude.{Result}
+use Rattle.answers.specs.declared.Refusal.{Refusal}
+use Rattle.data_rules.specs.declared.Part.{Part}
 use Rattle.data_rules.specs.Data.{found_of}
 use Rattle.data_report.specs.declared.DataReport.{DataReport}
 use Rattle.data_report.specs.Reported.{report_found}
@@ -43,7 +45,7 @@ pub band_called : (sheet planes samples : List ℕ) (k : ℕ) (u : Colour) (out 
     → BandCall sheet planes samples k u out r e
 band_called sheet planes samples k u out x h = record { reports = h ∙ ap report_of x.answers; holds = x.holds }
 
-pub data_called : (sheet page pencil : List ℕ) (k l : ℕ) {f : Found} {r : DataReport} → f ≡ found_of sheet page pencil k l → r ≡ report_found f → DataCall sheet page pencil k l r
+pub data_called : (sheet page pencil : List ℕ) (k l : ℕ) {f : Result Part Refusal} {r : DataReport} → f ≡ found_of sheet page pencil k l → r ≡ report_found f → DataCall sheet page pencil k l r
 data_called sheet page pencil k l e h = record { reports = h ∙ ap report_found e ∙ report_found_lem sheet page pencil k l }
 
 pub ruleset calls = (rules, judge_called, read_called, write_called, line_called, grey_called, band_called, data_called)

@@ -11,24 +11,21 @@ use sheet_rules::Colour;
 pub extern "C" fn spirerook_judge(sheet: &[u8]) -> Report
     ensures { JudgeCall sheet.now result }
 {
-    let a = sheet_judge::sheet_answer(sheet);
-    answers_report::reported(a)
+    Report::from(sheet_judge::sheet_answer(sheet))
 }
 
 #[unsafe(no_mangle)]
 pub extern "C" fn spirerook_read(page: &[u8], sheet: &mut [u8]) -> Report
     ensures { ReadCall page.now sheet.old result sheet.new }
 {
-    let a = read_page::read_page(page, sheet);
-    answers_report::reported(a)
+    Report::from(read_page::read_page(page, sheet))
 }
 
 #[unsafe(no_mangle)]
 pub extern "C" fn spirerook_write(sheet: &[u8], data: &[u8], page: &mut [u8]) -> Report
     ensures { WriteCall sheet.now «data».now page.old result page.new }
 {
-    let a = write_page::write_page(sheet, data, page);
-    answers_report::reported(a)
+    Report::from(write_page::write_page(sheet, data, page))
 }
 
 #[unsafe(no_mangle)]
@@ -43,8 +40,7 @@ pub extern "C" fn spirerook_line(
     ensures { LineCall sheet.now planes.now samples.now stripe line out.old result out.new }
 {
     let unseen = line_put::grey();
-    let a = line_compose::line_of(sheet, planes, samples, stripe, line, unseen, out);
-    answers_report::reported(a)
+    Report::from(line_compose::line_of(sheet, planes, samples, stripe, line, unseen, out))
 }
 
 // The same, for those who choose the colour of unseen pixels.
@@ -67,8 +63,7 @@ pub extern "C" fn spirerook_line_unseen(
         c1: u1,
         c2: u2,
     };
-    let a = line_compose::line_of(sheet, planes, samples, stripe, line, unseen, out);
-    answers_report::reported(a)
+    Report::from(line_compose::line_of(sheet, planes, samples, stripe, line, unseen, out))
 }
 
 // All lines of a stripe, one behind the other.
@@ -90,8 +85,7 @@ pub extern "C" fn spirerook_band(
         c1: u1,
         c2: u2,
     };
-    let a = band_compose::band_of(sheet, planes, samples, stripe, unseen, out);
-    answers_report::reported(a)
+    Report::from(band_compose::band_of(sheet, planes, samples, stripe, unseen, out))
 }
 
 #[unsafe(no_mangle)]
@@ -104,6 +98,5 @@ pub extern "C" fn spirerook_data(
 ) -> DataReport
     ensures { DataCall sheet.now page.now pencil.now stripe layer result }
 {
-    let f = data_find::find_data(sheet, page, pencil, stripe, layer);
-    data_report::report_found(f)
+    DataReport::from(data_find::find_data(sheet, page, pencil, stripe, layer))
 }

@@ -10,8 +10,8 @@ use lib.Dec.{lit<}
 use borrow.Author.Tests.{eqb-false, ne_eqb, leb-true, le-leb}
 use Rattle.octets.specs.Octets.{octets16, octets32}
 use Rattle.laws.proofs.Says.{says_eq, says_le, says_within}
-use Rattle.answers.specs.declared.Answer.{Answer}
-use Rattle.answers.specs.declared.Answer.TheVariants.{BadCoder}
+use Rattle.answers.specs.declared.Refusal.{Refusal}
+use Rattle.answers.specs.declared.Refusal.TheVariants.{BadCoder}
 use Rattle.field_rules.specs.Field.{one, two, four, put, Sized, widths}
 use Rattle.field_rules.specs.Fault.{Faulted, late, BadNumbers, the}
 use Rattle.field_rules.proofs.Faults.{fault_here, past_mark, past_val, past_again, none_at_fault, fault_mark, fault_again, fault_one, broken_mark, mark_broken, broken_numbers, numbers_broken, broken_again}
@@ -38,7 +38,7 @@ Wide w = (1 ≤ w) × (w ≤ 32768)
 
 -- ---- from the table to the sentences
 
-pub faulted_start : (l : List ℕ) (x : Answer) → Faulted start_table [] 0 l x → BadStart l x
+pub faulted_start : (l : List ℕ) (x : Refusal) → Faulted start_table [] 0 l x → BadStart l x
 unfolding start_table octets16 octets32 put widths
 faulted_start l x f =
     fault_mark (λ (l : List ℕ). BadStart l x) f (λ b. bad_soi (broken_mark b)) λ l1 f1.
@@ -76,7 +76,7 @@ faulted_start l x f =
 
 -- ---- and back: what stands in front of each field
 
-module _ {l : List ℕ} {x : Answer} where
+module _ {l : List ℕ} {x : Refusal} where
   behind_length : (size : ℕ) → 6 ≤ size → size < 65536 → Faulted (drop 3 start_table) (size ∷ []) 6 l x → Faulted start_table [] 0 (0xFF ∷ 0xD8 ∷ 0xFF ∷ 0xED ∷ octets16 size ++ l) x
   unfolding start_table octets16 put widths Sized
   behind_length size lo hi f = past_mark (past_mark (past_val {ws = two ∷ []} (size ∷ []) (hi, tt) (le-leb 6 size lo) f))
@@ -85,11 +85,11 @@ module _ {l : List ℕ} {x : Answer} where
   unfolding start_table octets16 put widths Sized
   behind_mark f = past_mark (past_mark (past_val {ws = two ∷ []} (16 ∷ []) (lit< tt, tt) refl (past_mark (past_again refl f))))
 
-behind_version : {l : List ℕ} {x : Answer} (v : Version) → Faulted (drop 6 start_table) (16 ∷ version_octet v ∷ []) 11 l x → Faulted start_table [] 0 (up_to_mode v l) x
+behind_version : {l : List ℕ} {x : Refusal} (v : Version) → Faulted (drop 6 start_table) (16 ∷ version_octet v ∷ []) 11 l x → Faulted start_table [] 0 (up_to_mode v l) x
 unfolding start_table octets16 put widths Sized
 behind_version Base f = behind_mark (past_val {ws = one ∷ []} (0 ∷ []) (lit< tt, tt) refl f)
 
-behind_mode : {l : List ℕ} {x : Answer} (v : Version) (m : Mode) → Faulted (drop 7 start_table) (16 ∷ version_octet v ∷ mode_octet m ∷ []) 12 l x
+behind_mode : {l : List ℕ} {x : Refusal} (v : Version) (m : Mode) → Faulted (drop 7 start_table) (16 ∷ version_octet v ∷ mode_octet m ∷ []) 12 l x
     → Faulted start_table [] 0 (up_to_mode v (mode_octet m ∷ l)) x
 unfolding start_table octets16 put widths Sized
 behind_mode v One f = behind_version v (past_val {ws = one ∷ []} (1 ∷ []) (lit< tt, tt) refl f)
@@ -102,26 +102,26 @@ module _ (r : Rules) where
   abbrev known : List ℕ → List ℕ
   known vs = 16 ∷ version_octet r.version ∷ mode_octet r.mode ∷ vs
 
-  behind_mask : {l : List ℕ} {x : Answer} (mask : ℕ) → MaskCoder r.mode mask → Faulted (drop 8 start_table) (known (mask ∷ [])) 13 l x → Faulted start_table [] 0 (up_to_mask r (mask ∷ l)) x
+  behind_mask : {l : List ℕ} {x : Refusal} (mask : ℕ) → MaskCoder r.mode mask → Faulted (drop 8 start_table) (known (mask ∷ [])) 13 l x → Faulted start_table [] 0 (up_to_mask r (mask ∷ l)) x
   unfolding start_table octets16 put widths Sized
   behind_mask mask k f =
       behind_mode r.version r.mode
       (past_val {ws = one ∷ []} (mask ∷ []) (mask_small r.mode mask k, tt) (by_mode (λ (m : Mode). MaskCoder m mask → mask_coder One mask ≡ true) (says_mask One mask).shown r.mode k) f)
 
-  behind_image : {l : List ℕ} {x : Answer} (mask image : ℕ) → MaskCoder r.mode mask → ImageCoder r.mode image → Faulted (drop 9 start_table) (known (mask ∷ image ∷ [])) 14 l x
+  behind_image : {l : List ℕ} {x : Refusal} (mask image : ℕ) → MaskCoder r.mode mask → ImageCoder r.mode image → Faulted (drop 9 start_table) (known (mask ∷ image ∷ [])) 14 l x
       → Faulted start_table [] 0 (up_to_mask r (mask ∷ image ∷ l)) x
   unfolding start_table octets16 put widths Sized
   behind_image mask image k i f =
       behind_mask mask k
       (past_val {ws = one ∷ []} (image ∷ []) (image_small r.mode image i, tt) (by_mode (λ (m : Mode). ImageCoder m image → image_coder One image ≡ true) (says_image One image).shown r.mode i) f)
 
-  behind_main : {l : List ℕ} {x : Answer} (mask image main : ℕ) → MaskCoder r.mode mask → ImageCoder r.mode image → Listed main
+  behind_main : {l : List ℕ} {x : Refusal} (mask image main : ℕ) → MaskCoder r.mode mask → ImageCoder r.mode image → Listed main
       → Faulted (drop 10 start_table) (known (mask ∷ image ∷ main ∷ [])) 16 l x → Faulted start_table [] 0 (up_to_mask r (mask ∷ image ∷ octets16 main ++ l)) x
   unfolding start_table octets16 put widths Sized
   behind_main mask image main k i n f =
       behind_image mask image k i (past_val {ws = two ∷ []} (main ∷ []) (listed_small main n, tt) ((says_listed main).shown n) f)
 
-pub start_faulted : (l : List ℕ) (x : Answer) → BadStart l x → Faulted start_table [] 0 l x
+pub start_faulted : (l : List ℕ) (x : Refusal) → BadStart l x → Faulted start_table [] 0 l x
 unfolding start_table octets16 octets32 put widths Sized
 start_faulted l x (bad_soi b) = fault_here (mark_broken b)
 start_faulted l x (bad_marker rest b) = past_mark (fault_here (mark_broken b))

@@ -9,7 +9,7 @@ use mathlib.Core.Path.{◌≡◌, refl}
 use mathlib.Core.List.{List, [], ◌∷◌}
 use lib.ListN.{take}
 use Rattle.octets.specs.Octets.{be16_at, be32_at, begins, stands_at, put_at}
-use Rattle.answers.specs.declared.Answer.TheVariants.{Short, BadMark, BadLength, BadVersion, BadMode, BadCoder, BadRes, BadWidth}
+use Rattle.answers.specs.declared.Refusal.TheVariants.{Short, BadMark, BadLength, BadVersion, BadMode, BadCoder, BadRes, BadWidth}
 use Rattle.field_rules.specs.Field.{Res, ok, no, fields}
 use Rattle.segment_rules.specs.Rules.{mode1}
 use Rattle.start_rules.specs.declared.Head.{Head}

@@ -6,7 +6,7 @@
 --   start_read s at     the start of page at a place
 use Rattle.std.specs.Prelude.{ℕ, Bool, List, [], ◌∷◌, get_or, eqb, leb}
 use Rattle.laws.specs.Tests.{within}
-use Rattle.answers.specs.declared.Answer.TheVariants.{BadMark, BadLength, BadVersion, BadMode, BadCoder, BadRes, BadWidth}
+use Rattle.answers.specs.declared.Refusal.TheVariants.{BadMark, BadLength, BadVersion, BadMode, BadCoder, BadRes, BadWidth}
 use Rattle.field_rules.specs.Field.{Res, ok, bind, one, two, four, Field, mark, val, again, fields, is}
 use Rattle.sheet_rules.specs.Judge.{listed}
 use Rattle.segment_rules.specs.declared.Version.{Version}

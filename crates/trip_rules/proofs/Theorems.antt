@@ -1,5 +1,6 @@
 -- What is proved of exported calls one after the other, of their promises alone. The statements are for the reader.
 -- Assumes nothing.
+use Rattle.std.specs.Prelude.{Ok}
 use Prim.Native.Nat.{ℕ, ◌+◌, ◌*◌, ◌/◌, ◌≤◌, ◌<◌}
 use native.Mathlib.Omega.{arith}
 use mathlib.Core.Path.{◌≡◌, sym, ap, ap₂, subst, ◌∙◌}
@@ -8,9 +9,7 @@ use lib.ListN.{length, take, drop, take-append-drop, length-take}
 use Rattle.octets.specs.Octets.{Octets, be32_at, put_at}
 use Rattle.octets.proofs.Laws.{put_back, put_rest}
 use Rattle.octets.proofs.Entries.{joined_length}
-use Rattle.answers.specs.declared.Answer.{Answer}
-use Rattle.answers.specs.declared.Answer.TheVariants.{Done}
-use Rattle.answers.specs.Answers.{number_of, place_of, count_of}
+use Rattle.answers.specs.Answers.{Answer, number_of, place_of, count_of}
 use Rattle.answers_report.specs.declared.Report.{Report}
 use Rattle.answers_report.specs.Report.{report_of}
 use Rattle.field_rules.specs.Field.{ok}
@@ -37,7 +36,7 @@ use Rattle.trip_rules.proofs.Sheets.{same_count, sheets_same, layers_same}
 abbrev done : ℕ → Report
 done n = record { number = 0; place = 0; count = n }
 
-reports_done : (a : Answer) (r : Report) (n : ℕ) → r ≡ report_of a → a ≡ Done n → r ≡ done n
+reports_done : (a : Answer) (r : Report) (n : ℕ) → r ≡ report_of a → a ≡ Ok n → r ≡ done n
 unfolding report_of number_of place_of count_of
 reports_done a r n e d = e ∙ ap report_of d
 
@@ -56,7 +55,7 @@ returned s d p rs qs n is read short same layers buf q buf' c room =
     let f : take (length s) buf' ≡ sheet_of qs =
     ap₂ (λ (j : ℕ) (x : List ℕ). take j x) m (c.holds ∙ i.1) ∙ put_back buf 0 (sheet_of qs) (omega arith) in
     record {
-      report = reports_done (read_of p (length buf)) q (length s / record_size) c.reports (i.0 ∙ ap Done e);
+      report = reports_done (read_of p (length buf)) q (length s / record_size) c.reports (i.0 ∙ ap Ok e);
       same = subst (SameButStarts s) (sym f) (subst (λ (x : List ℕ). SameButStarts x (sheet_of qs)) is (sheets_same rs qs same));
       layers =
           subst (λ (t : List ℕ). SameLayers s d t p) (sym f)
@@ -79,7 +78,7 @@ written_read s d out r out' w os od z buf q buf' c room =
 -- ---- a page that was read, and its sheet and itself lent to the writer
 
 module _ (p buf : List ℕ) (r : Report) (buf' : List ℕ) (c : ReadCall p buf r buf') (o : Octets p) (z : r.number ≡ 0) where
-  answered : read_of p (length buf) ≡ Done r.count
+  answered : read_of p (length buf) ≡ Ok r.count
   answered = report_done (read_of p (length buf)) r c.reports z
 
   front : Front p r.count (take (r.count * record_size) buf')
@@ -90,7 +89,7 @@ module _ (p buf : List ℕ) (r : Report) (buf' : List ℕ) (c : ReadCall p buf r
 
   module _ (out : List ℕ) (w : Report) (out' : List ℕ) (k : WriteCall (take (r.count * record_size) buf') p out w out')
       (fits : length p ≤ length out) where
-    reported : (rs : List Record) → take (r.count * record_size) buf' ≡ sheet_of rs → (n : ℕ) → write_of (sheet_of rs) p (length out) ≡ Done n → w ≡ done n
+    reported : (rs : List Record) → take (r.count * record_size) buf' ≡ sheet_of rs → (n : ℕ) → write_of (sheet_of rs) p (length out) ≡ Ok n → w ≡ done n
     reported rs e n d =
         reports_done (write_of (take (r.count * record_size) buf') p (length out)) w n k.reports
         (ap (λ (s : List ℕ). write_of s p (length out)) e ∙ d)

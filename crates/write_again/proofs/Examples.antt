@@ -1,12 +1,13 @@
 -- Pages that are written, octet for octet, and sheets that are refused at their records.
 -- Assumes nothing.
+use Rattle.std.specs.Prelude.{Ok, Err}
 use Prim.Native.Nat.{ℕ, ◌+◌}
 use mathlib.Core.Path.{◌≡◌, refl}
 use mathlib.Core.List.{List, [], ◌∷◌, ◌++◌}
 use lib.ListN.{replicate, take}
 use Rattle.octets.specs.Octets.{be16_at, be32_at, begins, stands_at, octets16, octets32, put_at}
 use Rattle.octets.specs.Entries.{joined}
-use Rattle.answers.specs.declared.Answer.TheVariants.{Done, Short, BadMode, NoRoom, BadSheet, Mismatch, TooLong}
+use Rattle.answers.specs.declared.Refusal.TheVariants.{Short, BadMode, NoRoom, BadSheet, Mismatch, TooLong}
 use Rattle.sheet_rules.specs.declared.Record.{Record}
 use Rattle.sheet_rules.specs.Record.{marked, record_at, encode, sheet_of, records}
 use Rattle.sheet_rules.specs.Judge.{keeps, after, after1, after2, after3, step_of, end_of, on_step, walk, judge, judge_of, answer_of}
@@ -47,24 +48,24 @@ example = sheet_of (layer 0 1 0 0 0 0 0 200 white 0 0 ∷ layer 0 2 4 0 0 4 2 20
 unfoldable pub buffer : List ℕ
 buffer = replicate 60 0 ++ coded_mask
 
-pub written : (write_of example buffer 70 ≡ Done 70) × (write_into example buffer (replicate 72 7) ≡ page ++ (7 ∷ 7 ∷ []))
+pub written : (write_of example buffer 70 ≡ Ok 70) × (write_into example buffer (replicate 72 7) ≡ page ++ (7 ∷ 7 ∷ []))
 unfolding write_of write_into put_at page start_of begin_of fields_of colour_of octets16 octets32 buffer example counted matches size_answer judge_of judge walk on_step step_of keeps after after1 after2 after3 end_of records record_at be16_at be32_at
 written = (refl, refl)
 
-pub no_room : write_of example buffer 69 ≡ NoRoom
+pub no_room : write_of example buffer 69 ≡ Err NoRoom
 unfolding write_of buffer example counted matches size_answer judge_of judge walk on_step step_of keeps after after1 after2 after3 end_of records record_at be16_at be32_at
 no_room = refl
 
-pub short : write_of example (take 64 buffer) 70 ≡ Short 1
+pub short : write_of example (take 64 buffer) 70 ≡ Err (Short 1)
 unfolding write_of buffer example counted matches size_answer judge_of judge walk on_step step_of keeps after after1 after2 after3 end_of records record_at be16_at be32_at
 short = refl
 
-pub bad_sheet : write_of (take 83 example) buffer 70 ≡ BadSheet 2
+pub bad_sheet : write_of (take 83 example) buffer 70 ≡ Err (BadSheet 2)
 unfolding write_of buffer example counted matches size_answer judge_of judge walk on_step step_of keeps after after1 after2 after3 end_of records record_at be16_at be32_at answer_of
 bad_sheet = refl
 
 -- 16,777,216 octets are too long, which is said before the room, and 16,777,215 are not
-pub too_long : (size_answer 0 16777216 ≡ TooLong) × (size_answer 16777215 16777215 ≡ Done 16777215) × (size_answer 16777214 16777215 ≡ NoRoom)
+pub too_long : (size_answer 0 16777216 ≡ Err TooLong) × (size_answer 16777215 16777215 ≡ Ok 16777215) × (size_answer 16777214 16777215 ≡ Err NoRoom)
 unfolding size_answer
 too_long = (refl, refl, refl)
 
@@ -111,17 +112,17 @@ unfolding write_into put_at start_of begin_of fields_of colour_of octets16 octet
 two_stripes = refl
 
 -- a width or a count of components that the layer does not have, at its record, before the mask that is cut; another mask coder, at the later mask
-pub mismatch : (write_of (sheet_of (layers 1 9 8)) picture 193 ≡ Mismatch 0) × (write_of (sheet_of (layers 0 8 8)) picture 193 ≡ Mismatch 0)
-    × (write_of (sheet_of (layers 1 8 4)) (picture ++ coded_mask) 193 ≡ Mismatch 4)
+pub mismatch : (write_of (sheet_of (layers 1 9 8)) picture 193 ≡ Err (Mismatch 0)) × (write_of (sheet_of (layers 0 8 8)) picture 193 ≡ Err (Mismatch 0))
+    × (write_of (sheet_of (layers 1 8 4)) (picture ++ coded_mask) 193 ≡ Err (Mismatch 4))
 unfolding write_of octets16 octets32 joined encode layers picture counted matches agrees judge_of judge walk on_step step_of keeps after after1 after2 after3 end_of records record_at be16_at be32_at walk_of turn_of marker_of class_of seg_of scan_of tag_of frame_of frame_body_of scan_step_of segment_of W.end_of stands_at begins
 mismatch = (refl, refl, refl)
 
 -- an image layer that is cut is Short, although its walk fails too
-pub short_image : write_of (sheet_of (layers 1 8 8)) (take 39 picture) 193 ≡ Short 0
+pub short_image : write_of (sheet_of (layers 1 8 8)) (take 39 picture) 193 ≡ Err (Short 0)
 unfolding write_of octets16 octets32 joined encode layers picture counted matches agrees judge_of judge walk on_step step_of keeps after after1 after2 after3 end_of records record_at be16_at be32_at
 short_image = refl
 
 -- a fifth layer
-pub bad_mode : write_of (sheet_of (layers 1 8 8 ++ (layer 1 4 0 0 0 0 0 400 none 0 0 ∷ layer 1 5 0 0 0 0 0 400 white 0 0 ∷ []))) [] 0 ≡ BadMode 6
+pub bad_mode : write_of (sheet_of (layers 1 8 8 ++ (layer 1 4 0 0 0 0 0 400 none 0 0 ∷ layer 1 5 0 0 0 0 0 400 white 0 0 ∷ []))) [] 0 ≡ Err (BadMode 6)
 unfolding write_of octets16 octets32 joined encode layers judge_of judge walk on_step step_of keeps after after1 after2 after3 end_of records record_at be16_at be32_at
 bad_mode = refl

@@ -17,6 +17,7 @@ use Rattle.sheet_rules.specs.Record.{nth, sum_of}
 use Rattle.sheet_rules.specs.Judge.{coded}
 use Rattle.sheet_rules.specs.Sentences.{Among, Coded}
 use Rattle.start_rules.specs.declared.Head.{Head}
+use Rattle.std.specs.Prelude.{Option}
 use Rattle.mode1_rules.specs.declared.LayerData.{LayerData}
 use Rattle.mode1_rules.specs.Kinds.{stripe_body, has_back, has_mask, has_fore, image_record, mask_record}
 use Rattle.mode1_rules.specs.declared.Fields.{Fields}
@@ -38,7 +39,7 @@ pub record Lent (hd : Head) (r : Record) : Type 0 where
   pub base : (r.base0 < 256) × (r.base1 < 256) × (r.base2 < 256)
   pub offset : (r.x ≤ 65535) × (r.y ≤ 65535)
 
-image_lent : (hd : Head) (k l at : ℕ) (base : Colour) (x y : ℕ) (b : Bool) (o : List ℕ) (c : LayerData) → Image hd.main at b o c → l ≤ 3 → l ≢ 2 → (b ≡ true → hd.image ≢ 0)
+image_lent : (hd : Head) (k l at : ℕ) (base : Colour) (x y : ℕ) (b : Bool) (o : List ℕ) (c : Option LayerData) → Image hd.main at b o c → l ≤ 3 → l ≢ 2 → (b ≡ true → hd.image ≢ 0)
     → (base.c0 < 256) × (base.c1 < 256) × (base.c2 < 256) → (b ≡ true → (x ≤ 65535) × (y ≤ 65535)) → Lent hd (image_record hd k l base x y c)
 unfolding image_record
 image_lent hd k l at base x y b o c (there z) low n i w f =
@@ -75,7 +76,7 @@ second_is hd k left at l height rs sr z =
 
 -- ---- the first record is layer 1, and no other is
 
-image_opening : (hd : Head) (k l : ℕ) (base : Colour) (x y : ℕ) (c : LayerData) → (image_record hd k l base x y c).layer ≡ l
+image_opening : (hd : Head) (k l : ℕ) (base : Colour) (x y : ℕ) (c : Option LayerData) → (image_record hd k l base x y c).layer ≡ l
 image_opening hd k l base x y c = (image_place hd k l base x y c).1
 
 pub stripe_opened : {hd : Head} {k left at : ℕ} {l : List ℕ} {height : ℕ} {rs : List Record} → Stripe hd k left at l height rs → Opened rs
@@ -98,7 +99,7 @@ stripe_opened {hd} {k} z =
 
 -- ---- what is read of an image layer and of a mask
 
-coded_image : (hd : Head) (k l at : ℕ) (base : Colour) (x y : ℕ) (b : Bool) (o : List ℕ) (c : LayerData) → Image hd.main at b o c → coded (image_record hd k l base x y c) ≡ b
+coded_image : (hd : Head) (k l at : ℕ) (base : Colour) (x y : ℕ) (b : Bool) (o : List ℕ) (c : Option LayerData) → Image hd.main at b o c → coded (image_record hd k l base x y c) ≡ b
 unfolding image_record
 coded_image hd k l at base x y b o c (there z) = ap not (ne_eqb (length o) 0 (λ e. let a = ap length z.octets in omega arith))
 coded_image hd k l at base x y b o c absent = refl
@@ -110,7 +111,7 @@ coded_mask hd k height c at n false m = ap not (eq-eqb n 0 (m.1 refl))
 
 -- ---- its octets are as many as the writer counts
 
-image_size : (hd : Head) (k l at : ℕ) (base : Colour) (x y : ℕ) (b : Bool) (o : List ℕ) (c : LayerData) → Image hd.main at b o c → (image_record hd k l base x y c).len ≡ length o
+image_size : (hd : Head) (k l at : ℕ) (base : Colour) (x y : ℕ) (b : Bool) (o : List ℕ) (c : Option LayerData) → Image hd.main at b o c → (image_record hd k l base x y c).len ≡ length o
 unfolding image_record
 image_size hd k l at base x y b o c (there z) = refl
 image_size hd k l at base x y b o c absent = refl
@@ -140,7 +141,7 @@ type_again t (inr (inr (inr (inr (inl e))))) = subst (λ (t : ℕ). type_by (has
 type_again t (inr (inr (inr (inr (inr e))))) = subst (λ (t : ℕ). type_by (has_back t) (has_mask t) (has_fore t) ≡ t) (sym e) refl
 
 -- the colour and the offsets of an image layer's record are the stripe's
-image_again : (hd : Head) (k l at : ℕ) (base : Colour) (x y : ℕ) (b : Bool) (o : List ℕ) (c : LayerData) → Image hd.main at b o c → (b ≡ false → (x ≡ 0) × (y ≡ 0))
+image_again : (hd : Head) (k l at : ℕ) (base : Colour) (x y : ℕ) (b : Bool) (o : List ℕ) (c : Option LayerData) → Image hd.main at b o c → (b ≡ false → (x ≡ 0) × (y ≡ 0))
     → (colour_by (image_record hd k l base x y c) ≡ base) × ((image_record hd k l base x y c).x ≡ x) × ((image_record hd k l base x y c).y ≡ y)
 unfolding image_record
 image_again hd k l at base x y b o c (there z) f = (refl, refl, refl)

@@ -5,7 +5,7 @@
 ghost use Rattle.std.specs.Prelude.{◌≡◌, cond, ◌+◌, ◌≤◌, eqb, length};
 ghost use Rattle.write_rules.specs.Layer.{ends_as, agrees};
 
-use jpeg_rules::Walk;
+use jpeg_rules::{Fault, Said};
 use sheet_rules::Record;
 
 // 02, 2026-07: what octet 17 tells of the layer's data.
@@ -15,19 +15,17 @@ fn components_of(octet17: u8) -> u32
     if octet17 == 1 { 1 } else { 3 }
 }
 
-fn ends_as(w: Walk, r: Record) -> bool
+fn ends_as(w: Result<(usize, Said), Fault>, r: Record) -> bool
     ensures { result ≡ ends_as w r }
 {
-    match w {
-        Walk::Refused(f) => false,
-        Walk::Ends { next, said } => {
-            (next == r.len as usize)
-                & (said.width == r.width)
-                & (said.height == r.height)
-                & (said.res == r.res)
-                & (said.components == components_of(r.octet17))
-        }
-    }
+    let Ok((next, said)) = w else {
+        return false;
+    };
+    (next == r.len as usize)
+        & (said.width == r.width)
+        & (said.height == r.height)
+        & (said.res == r.res)
+        & (said.components == components_of(r.octet17))
 }
 
 pub fn data_agrees(d: &[u8], main: u16, r: Record) -> bool

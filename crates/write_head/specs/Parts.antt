@@ -1,12 +1,9 @@
--- The parts in which the head of a stripe is put: its segment up to its ident, and after it.
-use Rattle.std.specs.Prelude.{ℕ, List, [], ◌∷◌, ◌++◌}
+-- The part of a stripe's head behind its ident, as it is put.
+use Rattle.std.specs.Prelude.{ℕ, List, ◌∷◌, ◌++◌}
 use Rattle.octets.specs.Octets.{octets32}
 use Rattle.sheet_rules.specs.declared.Record.{Record}
 use Rattle.sheet_rules.specs.Judge.{coded}
 use Rattle.write_rules.specs.Mode1.{type_by}
-
-abbrev pub stripe_mark : List ℕ
-stripe_mark = 0xFF ∷ 0xED ∷ 0x00 ∷ 0x25 ∷ 0x4D ∷ 0x52 ∷ 0x43 ∷ 0x01 ∷ []
 
 abbrev pub stripe_fields : Record → Record → Record → List ℕ
 stripe_fields a b c =

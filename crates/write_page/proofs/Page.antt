@@ -11,8 +11,7 @@ use Rattle.laws.proofs.Cases.{clash}
 use Rattle.octets.specs.Octets.{Octets, put_at}
 use Rattle.octets.proofs.Laws.{put_length}
 use Rattle.segment_rules.specs.Rules.{longest_page}
-use Rattle.answers.specs.declared.Answer.{Answer}
-use Rattle.answers.specs.declared.Answer.TheVariants.{Done, NoRoom, TooLong}
+use Rattle.answers.specs.declared.Refusal.TheVariants.{NoRoom, TooLong}
 use Rattle.field_rules.specs.Field.{Res, ok, no}
 use Rattle.segment_rules.specs.declared.Rules.{Rules}
 use Rattle.segment_rules.specs.Rules.{mode1}
@@ -30,8 +29,8 @@ use Rattle.write_rules.specs.Writing.{head_by, verdict_of, stripes_by, page_by, 
 use Rattle.write_rules.proofs.Cut.{sheet_cut, lots_layers}
 use Rattle.write_rules.proofs.Answered.{Tallied, verdict_back}
 use Rattle.write_rules.proofs.Written.{records_sized, length_written}
-use Rattle.write_verdict.specs.declared.Pass.{Pass}
-use Rattle.write_verdict.specs.declared.Pass.TheVariants.{Next, Refused}
+use Rattle.std.specs.Prelude.{Result, Ok, Err}
+use Rattle.answers.specs.declared.Refusal.{Refusal}
 use Rattle.write_verdict.specs.Pass.{pass_of}
 use Rattle.write_start.proofs.Laws.{put_more}
 use Rattle.write_page.specs.Steps.{Lined, Sound, Fitting}
@@ -113,12 +112,12 @@ module _ (rules : Rules) (out s d : List ℕ) (t : Tally) (os : Octets s) (od : 
 
 -- ---- write_sound and write_page
 module _ (s d p : List ℕ) (t : Tally) (v : Sound mode1 s d t) where
-  pub write_long : longest_page < t.size → Writes s d p TooLong p
+  pub write_long : longest_page < t.size → Writes s d p (Err TooLong) p
   unfolding write_of answer_by size_answer write_into into_by
   write_long l = record { answers = simp (v.verdict, lt-ltb longest_page t.size l); holds = simp (v.verdict, lt-ltb longest_page t.size l) }
 
   module _ (l : t.size ≤ longest_page) where
-    pub write_none : length p < t.size → Writes s d p NoRoom p
+    pub write_none : length p < t.size → Writes s d p (Err NoRoom) p
     unfolding write_of answer_by size_answer write_into into_by
     write_none r =
         record {
@@ -126,7 +125,7 @@ module _ (s d p : List ℕ) (t : Tally) (v : Sound mode1 s d t) where
           holds = simp (v.verdict, le-ltb longest_page t.size l, lt-ltb (length p) t.size r);
         }
 
-    pub write_done : t.size ≤ length p → {rules : Rules} → rules ≡ mode1 → (p' : List ℕ) → p' ≡ put_at p 0 (page_by rules d (records s) t) → Writes s d p (Done t.size) p'
+    pub write_done : t.size ≤ length p → {rules : Rules} → rules ≡ mode1 → (p' : List ℕ) → p' ≡ put_at p 0 (page_by rules d (records s) t) → Writes s d p (Ok t.size) p'
     unfolding write_of answer_by size_answer write_into into_by
     write_done r k p' e =
         record {
@@ -137,24 +136,24 @@ module _ (s d p : List ℕ) (t : Tally) (v : Sound mode1 s d t) where
 pub write_fits : (s d p : List ℕ) (t : Tally) {rules : Rules} → Sound mode1 s d t → t.size ≤ length p → rules ≡ mode1 → Fitting rules p s d t
 write_fits s d p t v r k = record { sound = subst (λ (x : Rules). Sound x s d t) (sym k) v; room = r }
 
-module _ (s d : List ℕ) {rules : Rules} {x : Pass} (k : rules ≡ mode1) (e : x ≡ pass_of (verdict_of rules s d)) where
+module _ (s d : List ℕ) {rules : Rules} {x : Result Tally Refusal} (k : rules ≡ mode1) (e : x ≡ pass_of (verdict_of rules s d)) where
   told : x ≡ pass_of (verdict_of mode1 s d)
   told = e ∙ ap (λ (y : Rules). pass_of (verdict_of y s d)) k
 
-  by_next : (y : Res Tally) → verdict_of mode1 s d ≡ y → (t : Tally) → pass_of y ≡ Next t → Sound mode1 s d t
+  by_next : (y : Res Tally) → verdict_of mode1 s d ≡ y → (t : Tally) → pass_of y ≡ Ok t → Sound mode1 s d t
   unfolding pass_of
   by_next (ok u n) q t z = let w : u ≡ t = cc in record { count = n; verdict = q ∙ ap (λ (v : Tally). ok v n) w }
   by_next (no a) q t z = clash cc
 
-  pub write_sound : (t : Tally) → x ≡ Next t → Sound mode1 s d t
+  pub write_sound : (t : Tally) → x ≡ Ok t → Sound mode1 s d t
   write_sound t z = by_next (verdict_of mode1 s d) refl t (sym told ∙ z)
 
-  by_wrong : (y : Res Tally) → verdict_of mode1 s d ≡ y → (a : Answer) → pass_of y ≡ Refused a → verdict_of mode1 s d ≡ no a
+  by_wrong : (y : Res Tally) → verdict_of mode1 s d ≡ y → (a : Refusal) → pass_of y ≡ Err a → verdict_of mode1 s d ≡ no a
   unfolding pass_of
   by_wrong (ok u n) q a z = clash cc
   by_wrong (no b) q a z = let w : b ≡ a = cc in q ∙ ap no w
 
-  pub write_wrong : (p : List ℕ) (a : Answer) → x ≡ Refused a → Writes s d p a p
+  pub write_wrong : (p : List ℕ) (a : Refusal) → x ≡ Err a → Writes s d p (Err a) p
   unfolding write_of answer_by write_into into_by
   write_wrong p a z = let q = by_wrong (verdict_of mode1 s d) refl a (sym told ∙ z) in record { answers = simp q; holds = simp q }
 

@@ -10,26 +10,23 @@ ghost use Rattle.write_rules.specs.Sentences.{start_size, page_end};
 ghost use Rattle.write_rules.specs.Writing.{stripes_by, head_by, page_by, Writes};
 ghost use Rattle.write_page.specs.Steps.{Inside, StripeEnd, Lined, Fitting, Sound};
 
-use answers::Answer;
+use answers::{Answer, Refusal};
 use segment_rules::{EOI, LONGEST_PAGE, Mode, Rules, Version};
 use sheet_rules::{RECORD_SIZE, TWO_RECORDS};
 use start_rules::Head;
 use write_rules::{START_SIZE, Tally};
-use write_verdict::Pass;
 
 // The record after the stripe that begins at record i: the next of layer 1, or the end. A record's third octet is its layer.
 fn stripe_end(s: &[u8], i: usize, n: usize) -> usize
     requires { Inside s.now i n }
     ensures { StripeEnd s.now i n result }
 {
-    let mut j: usize = i + 1;
-    while j < n {
+    for j in i + 1..n {
         if s[j * RECORD_SIZE + 2] == 1 {
             return j;
         }
-        j += 1;
     }
-    j
+    n
 }
 
 // Stripe by stripe; answers the place after the last.
@@ -40,6 +37,7 @@ fn put_stripes(mode: Mode, out: &mut [u8], s: &[u8], d: &[u8], n: usize) -> usiz
 {
     let mut i: usize = 0;
     let mut at: usize = START_SIZE;
+    // no `for`: a turn goes on by a stripe's records, however many it has
     while i < n {
         let e = stripe_end(s, i, n);
         at = write_stripe::put_stripe(mode, out, at, s, i, e - i, d);
@@ -52,22 +50,21 @@ fn put_stripes(mode: Mode, out: &mut [u8], s: &[u8], d: &[u8], n: usize) -> usiz
 fn head_of(rules: Rules, s: &[u8], tally: Tally) -> Head
     ensures { result ≡ head_by rules (records s.now) tally }
 {
-    if s.len() < TWO_RECORDS {
-        return Head {
-            rules,
-            mask: tally.mask,
-            image: tally.image,
-            main: 0,
-            width: 0,
-        };
-    }
-    let r = sheet_record::record_at(s, 1);
-    Head {
+    let head = Head {
         rules,
         mask: tally.mask,
         image: tally.image,
+        main: 0,
+        width: 0,
+    };
+    if s.len() < TWO_RECORDS {
+        return head;
+    }
+    let r = sheet_record::record_at(s, 1);
+    Head {
         main: r.res,
         width: r.width,
+        ..head
     }
 }
 
@@ -85,10 +82,8 @@ fn emit_page(rules: Rules, out: &mut [u8], s: &[u8], d: &[u8], tally: Tally)
     ensures { out.new ≡ put_at out.old 0 (page_by rules d.now (records s.now) tally) }
 {
     let n = s.len() / RECORD_SIZE;
-    let mode = rules.mode;
-    let hd = head_of(rules, s, tally);
-    write_start::put_start(out, hd);
-    let at = put_stripes(mode, out, s, d, n);
+    write_start::put_start(out, head_of(rules, s, tally));
+    let at = put_stripes(rules.mode, out, s, d, n);
     put_end(out, at);
 }
 
@@ -109,20 +104,18 @@ fn write_sound(s: &[u8], d: &[u8], page: &mut [u8], tally: Tally) -> Answer
 {
     let size = tally.size;
     if (LONGEST_PAGE as u64) < size {
-        return Answer::TooLong;
+        return Err(Refusal::TooLong);
     }
     if (page.len() as u64) < size {
-        return Answer::NoRoom;
+        return Err(Refusal::NoRoom);
     }
     emit_page(in_mode_1(), page, s, d, tally);
-    Answer::Done(size)
+    Ok(size)
 }
 
 pub fn write_page(s: &[u8], d: &[u8], page: &mut [u8]) -> Answer
     ensures { Writes s.now d.now page.old result page.new }
 {
-    match write_verdict::judge_write(in_mode_1(), s, d) {
-        Pass::Refused(a) => a,
-        Pass::Next(tally) => write_sound(s, d, page, tally),
-    }
+    let tally = write_verdict::judge_write(in_mode_1(), s, d)?;
+    write_sound(s, d, page, tally)
 }

@@ -14,7 +14,7 @@ use Rattle.octets.specs.Octets.{Octets}
 use Rattle.octets.proofs.Laws.{octets_take, octets_drop}
 use Rattle.laws.proofs.Cases.{cond_with, clash}
 use Rattle.laws.proofs.Says.{Says, says_eq, says_true, says_false, says_and, says_or, says_as}
-use Rattle.answers.specs.declared.Answer.TheVariants.{Short, Mismatch}
+use Rattle.answers.specs.declared.Refusal.TheVariants.{Short, Mismatch}
 use Rattle.field_rules.specs.Field.{Res, ok, no}
 use Rattle.segment_rules.specs.declared.Mode.{Mode}
 use Rattle.sheet_rules.specs.declared.Record.{Record}
@@ -22,8 +22,8 @@ use Rattle.sheet_rules.specs.Sentences.{Coded}
 use Rattle.sheet_rules.proofs.New.{says_coded}
 use Rattle.jpeg_rules.specs.Said.{record_said}
 use Rattle.jpeg_rules.specs.declared.Said.{Said}
-use Rattle.jpeg_rules.specs.declared.Walk.{Walk}
-use Rattle.jpeg_rules.specs.declared.Walk.TheVariants.{Ends, Refused}
+use Rattle.std.specs.Prelude.{Result, Ok, Err}
+use Rattle.jpeg_rules.specs.declared.Fault.{Fault}
 use Rattle.jpeg_rules.specs.Grammar.{Layer}
 use Rattle.jpeg_rules.specs.Walk.{walk_of}
 use Rattle.jpeg_rules.proofs.There.{layer_walk}
@@ -40,19 +40,20 @@ says_cond {a = false} p q r =
 
 -- ---- agreement
 
-ends_said : (n m : ℕ) (a b : Said) → Ends n a ≡ Ends m b → (n ≡ m) × (a ≡ b)
-ends_said n m a b e = (cc, cc)
+ends_said : (n m : ℕ) (a b : Said) → ◌≡◌ {A = Result (ℕ × Said) Fault} (Ok (n, a)) (Ok (m, b)) → (n ≡ m) × (a ≡ b)
+ends_said n m a b e =
+    let p : (n, a) ≡ (m, b) = cc in (ap (λ (w : ℕ × Said). w.0) p, ap (λ (w : ℕ × Said). w.1) p)
 
-says_ends : (x : Walk) (r : Record) → Says (ends_as x r) (x ≡ Ends r.len (record_said r))
-says_ends (Ends n said) r =
+says_ends : (x : Result (ℕ × Said) Fault) (r : Record) → Says (ends_as x r) (x ≡ Ok (r.len, record_said r))
+says_ends (Ok (n, said)) r =
     says_as
     (says_and (says_and (says_and (says_and (says_eq n r.len) (says_eq said.width r.width)) (says_eq said.height r.height)) (says_eq said.res r.res))
     (says_eq said.components (record_said r).components))
-    (λ k. ap₂ Ends k.0.0.0.0 (λ i. record { width = k.0.0.0.1 i; height = k.0.0.1 i; res = k.0.1 i; components = k.1 i }))
+    (λ k. ap₂ (λ (n : ℕ) (a : Said). Ok (n, a)) k.0.0.0.0 (λ i. record { width = k.0.0.0.1 i; height = k.0.0.1 i; res = k.0.1 i; components = k.1 i }))
     (λ e.
     let k = ends_said n r.len said (record_said r) e in
     ((((k.0, ap (λ (x : Said). x.width) k.1), ap (λ (x : Said). x.height) k.1), ap (λ (x : Said). x.res) k.1), ap (λ (x : Said). x.components) k.1))
-says_ends (Refused f) r = says_as says_false (λ k. absurd k) (λ e. clash cc)
+says_ends (Err f) r = says_as says_false (λ k. absurd k) (λ e. clash cc)
 
 module _ (d : List ℕ) (o : Octets d) (r : Record) (h : r.start + r.len ≤ length d) where
   pub length_data : length (layer_octets d r) ≡ r.len
@@ -63,18 +64,18 @@ module _ (d : List ℕ) (o : Octets d) (r : Record) (h : r.start + r.len ≤ len
   unfolding agrees
   says_agrees main = says_as (says_ends (walk_of (layer_octets d r) 0 main) r) to back
     where
-      to : walk_of (layer_octets d r) 0 main ≡ Ends r.len (record_said r) → Layer main (layer_octets d r) (record_said r)
+      to : walk_of (layer_octets d r) 0 main ≡ Ok (r.len, record_said r) → Layer main (layer_octets d r) (record_said r)
       to e =
           let y = (walk_exactly (layer_octets d r) (octets_take r.len (drop r.start d) (octets_drop r.start d o)) 0 main r.len (record_said r)).0 e in
           let n = length_data in
           subst (λ (l : List ℕ). Layer main l (record_said r)) (take_all (r.len - 0) (layer_octets d r) (omega arith)) y.layer
 
-      back : Layer main (layer_octets d r) (record_said r) → walk_of (layer_octets d r) 0 main ≡ Ends r.len (record_said r)
+      back : Layer main (layer_octets d r) (record_said r) → walk_of (layer_octets d r) 0 main ≡ Ok (r.len, record_said r)
       back y =
           let n = length_data in
           let z : 0 + length (layer_octets d r) ≡ r.len = omega arith in
           layer_walk (layer_octets d r) 0 main (layer_octets d r) [] (record_said r) y (sym (append-nil (layer_octets d r)))
-          ∙ ap (λ (k : ℕ). Ends k (record_said r)) z
+          ∙ ap (λ (k : ℕ). Ok (k, record_said r)) z
 
   -- what is asked of a record
   abbrev pub Meets : ℕ → Tally → Type 0

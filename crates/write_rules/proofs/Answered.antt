@@ -14,16 +14,16 @@ use lib.Dec.{ltb}
 use borrow.Author.Tests.{le-ltb, lt-ltb, ltb-true, ltb-false}
 use Rattle.octets.specs.Octets.{Octets}
 use Rattle.laws.proofs.Cases.{cond_with, clash}
-use Rattle.answers.specs.declared.Answer.{Answer}
-use Rattle.answers.specs.declared.Answer.TheVariants.{Done, Short, BadMode, BadSheet, Mismatch}
+use Rattle.answers.specs.declared.Refusal.{Refusal}
+use Rattle.answers.specs.declared.Refusal.TheVariants.{Short, BadMode, BadSheet, Mismatch}
 use Rattle.field_rules.specs.Field.{Res, ok, no, bind}
 use Rattle.segment_rules.specs.declared.Mode.{Mode}
 use Rattle.segment_rules.specs.declared.Mode.TheVariants.{One}
 use Rattle.segment_rules.specs.declared.Rules.{Rules}
 use Rattle.segment_rules.specs.Rules.{mode1}
 use Rattle.sheet_rules.specs.declared.Record.{Record}
-use Rattle.sheet_rules.specs.declared.Verdict.{Verdict}
-use Rattle.sheet_rules.specs.declared.Verdict.TheVariants.{Good, Refused}
+use Rattle.std.specs.Prelude.{Result, Ok, Err}
+use Rattle.sheet_rules.specs.declared.Counts.{Counts}
 use Rattle.sheet_rules.specs.Record.{blank, records, rest, nth}
 use Rattle.sheet_rules.specs.Judge.{judge_of, answer_of}
 use Rattle.sheet_rules.specs.Sentences.{Among, Coded, Sheet, stripe_count, BadSheetAt}
@@ -83,7 +83,7 @@ mode_fault mode rs i k =
     ∙ ap (λ (j : ℕ). mode_from (most_layers mode) j (nth rs i ∷ drop (suc i) rs)) z
     ∙ ap (λ (b : Bool). cond b (no (BadMode i)) (mode_from (most_layers mode) (i + 1) (drop (suc i) rs))) (lt-ltb (most_layers mode) (nth rs i).layer k.above)
 
-mode_at : (mode : Mode) (i : ℕ) (rs : List Record) (a : Answer) → mode_from (most_layers mode) i rs ≡ no a → (j : ℕ) × (a ≡ BadMode (i + j)) × ModeAt mode rs j
+mode_at : (mode : Mode) (i : ℕ) (rs : List Record) (a : Refusal) → mode_from (most_layers mode) i rs ≡ no a → (j : ℕ) × (a ≡ BadMode (i + j)) × ModeAt mode rs j
 unfolding mode_from
 mode_at mode i [] a = λ q. clash cc
 mode_at mode i (x ∷ rs) a =
@@ -133,7 +133,7 @@ pub verdict_back : (rules : Rules) (s d : List ℕ) → Octets d → (u : Tally)
 unfolding verdict_of verdict_by bind
 verdict_back rules s d o u n q = by (judge_of s) refl q
   where
-    pass : (m k : ℕ) → judge_of s ≡ Good m k → (x : Res ℕ) → mode_from (most_layers rules.mode) 0 (records s) ≡ x
+    pass : (m k : ℕ) → judge_of s ≡ Ok (record { records = m; stripes = k }) → (x : Res ℕ) → mode_from (most_layers rules.mode) 0 (records s) ≡ x
         → bind x (λ (j e : ℕ). records_pass rules.mode d (sheet_main (records s)) begun 0 (records s)) ≡ ok u n → Tallied rules.mode s d u
     pass m k g (ok j e) h q =
         let y = (sheet_accepted s m k).0 g in
@@ -141,9 +141,9 @@ verdict_back rules s d o u n q = by (judge_of s) refl q
         record { sheet = y.sheet; whole = y.whole; low = low; passed = pass_back rules.mode d o (sheet_main (records s)) begun u 0 n (records s) (sheet_plain rules.mode (records s) y.sheet low) q }
     pass m k g (no a) h q = clash cc
 
-    by : (v : Verdict) → judge_of s ≡ v → verdict_by rules.mode v d (records s) ≡ ok u n → Tallied rules.mode s d u
-    by (Good m k) g q = pass m k g (mode_from (most_layers rules.mode) 0 (records s)) refl q
-    by (Refused i) g q = clash cc
+    by : (v : Result Counts ℕ) → judge_of s ≡ v → verdict_by rules.mode v d (records s) ≡ ok u n → Tallied rules.mode s d u
+    by (Ok c) g q = pass c.records c.stripes g (mode_from (most_layers rules.mode) 0 (records s)) refl q
+    by (Err i) g q = clash cc
 
 pub accepted_sound : (s d : List ℕ) (u : Tally) → Tallied One s d u → Sound s d
 accepted_sound s d u k =
@@ -152,24 +152,24 @@ accepted_sound s d u k =
 -- ---- from the sentences to the verdict
 
 module _ (rules : Rules) (s d : List ℕ) (sh : Sheet (records s)) (w : rest s ≡ 0) where
-  judged : judge_of s ≡ Good (length (records s)) (stripe_count (records s))
+  judged : judge_of s ≡ Ok (record { records = length (records s); stripes = stripe_count (records s) })
   judged = (sheet_accepted s (length (records s)) (stripe_count (records s))).1 (record { sheet = sh; whole = w; count = refl; stripes = refl })
 
   pub verdict_mode : (i : ℕ) → ModeAt rules.mode (records s) i → verdict_of rules s d ≡ no (BadMode i)
   unfolding verdict_of verdict_by bind
   verdict_mode i k =
-      ap (λ (v : Verdict). verdict_by rules.mode v d (records s)) judged
+      ap (λ (v : Result Counts ℕ). verdict_by rules.mode v d (records s)) judged
       ∙ ap (λ (x : Res ℕ). bind x (λ (j e : ℕ). records_pass rules.mode d (sheet_main (records s)) begun 0 (records s))) (mode_fault rules.mode (records s) i k)
 
   pub verdict_passes : Low rules.mode (records s) → verdict_of rules s d ≡ records_pass rules.mode d (sheet_main (records s)) begun 0 (records s)
   unfolding verdict_of verdict_by bind
   verdict_passes low =
-      ap (λ (v : Verdict). verdict_by rules.mode v d (records s)) judged
+      ap (λ (v : Result Counts ℕ). verdict_by rules.mode v d (records s)) judged
       ∙ ap (λ (x : Res ℕ). bind x (λ (j e : ℕ). records_pass rules.mode d (sheet_main (records s)) begun 0 (records s))) (mode_there rules.mode (records s) low)
 
 pub verdict_sheet : (rules : Rules) (s d : List ℕ) (i : ℕ) → BadSheetAt s i → verdict_of rules s d ≡ no (BadSheet i)
 unfolding verdict_of verdict_by answer_of
-verdict_sheet rules s d i k = ap (λ (v : Verdict). verdict_by rules.mode v d (records s)) ((sheet_refused s i).1 k)
+verdict_sheet rules s d i k = ap (λ (v : Result Counts ℕ). verdict_by rules.mode v d (records s)) ((sheet_refused s i).1 k)
 
 pub verdict_there : (s d : List ℕ) → Octets d → Sound s d → (u : Tally) × (verdict_of mode1 s d ≡ ok u (length (records s)))
 verdict_there s d o k =
@@ -244,7 +244,7 @@ module _ (mode : Mode) (d : List ℕ) (o : Octets d) (main : ℕ) (rs : List Rec
       (λ h m. refl))
 
   -- the other way
-  pub fault_at : (a : Answer) → records_pass mode d main begun 0 rs ≡ no a → (i : ℕ) × (((a ≡ Short i) × ShortAt main d rs i) ⊎ ((a ≡ Mismatch i) × MismatchAt main d rs i))
+  pub fault_at : (a : Refusal) → records_pass mode d main begun 0 rs ≡ no a → (i : ℕ) × (((a ≡ Short i) × ShortAt main d rs i) ⊎ ((a ≡ Mismatch i) × MismatchAt main d rs i))
   fault_at a e =
       let k = pass_stops mode d main begun 0 rs a e in
       let z : 0 + k.j ≡ k.j = omega arith in
@@ -270,36 +270,32 @@ module _ (mode : Mode) (d : List ℕ) (o : Octets d) (main : ℕ) (rs : List Rec
 
 -- ---- a refusal of the verdict: of the sheet, of the mode or of a record
 
-pub record Refusal (s d : List ℕ) (room : ℕ) (a : Answer) : Type 0 where
-  pub gives : Gives s d room a
-  pub not_done : (n : ℕ) → a ≡ Done n → ⊥
-
-pub verdict_refused : (s d : List ℕ) → Octets d → (room : ℕ) (a : Answer) → verdict_of mode1 s d ≡ no a → Refusal s d room a
-unfolding verdict_of verdict_by bind answer_of
+pub verdict_refused : (s d : List ℕ) → Octets d → (room : ℕ) (a : Refusal) → verdict_of mode1 s d ≡ no a → Gives s d room (Err a)
+unfolding verdict_of verdict_by bind
 verdict_refused s d o room a q = by (judge_of s) refl q
   where
-    told : (a b : Answer) → a ≡ b → Gives s d room b → ((n : ℕ) → b ≡ Done n → ⊥) → Refusal s d room a
-    told a b e g not = record { gives = subst (Gives s d room) (sym e) g; not_done = λ n h. not n (sym e ∙ h) }
+    told : (a b : Refusal) → a ≡ b → Gives s d room (Err b) → Gives s d room (Err a)
+    told a b e g = subst (λ (x : Refusal). Gives s d room (Err x)) (sym e) g
 
-    pass : (m k : ℕ) → judge_of s ≡ Good m k → (x : Res ℕ) → mode_from (most_layers One) 0 (records s) ≡ x
-        → bind x (λ (j e : ℕ). records_pass One d (sheet_main (records s)) begun 0 (records s)) ≡ no a → Refusal s d room a
+    pass : (m k : ℕ) → judge_of s ≡ Ok (record { records = m; stripes = k }) → (x : Res ℕ) → mode_from (most_layers One) 0 (records s) ≡ x
+        → bind x (λ (j e : ℕ). records_pass One d (sheet_main (records s)) begun 0 (records s)) ≡ no a → Gives s d room (Err a)
     pass m k g (ok j e) h q =
         let y = (sheet_accepted s m k).0 g in
         let low = mode_low One 0 (records s) j e h in
         let f = fault_at One d o (sheet_main (records s)) (records s) (sheet_plain One (records s) y.sheet low) a q in
         ⊎_elim
         (λ (z : (a ≡ Short f.0) × ShortAt (sheet_main (records s)) d (records s) f.0).
-        told a (Short f.0) z.0 (passing (y.sheet, y.whole) low z.1) (λ n e. clash cc))
+        told a (Short f.0) z.0 (passing (y.sheet, y.whole) low z.1))
         (λ (z : (a ≡ Mismatch f.0) × MismatchAt (sheet_main (records s)) d (records s) f.0).
-        told a (Mismatch f.0) z.0 (differing (y.sheet, y.whole) low z.1) (λ n e. clash cc))
+        told a (Mismatch f.0) z.0 (differing (y.sheet, y.whole) low z.1))
         f.1
     pass m k g (no b) h q =
         let y = (sheet_accepted s m k).0 g in
         let f = mode_at One 0 (records s) b h in
         let e : b ≡ a = cc in
         let z : 0 + f.0 ≡ f.0 = omega arith in
-        told a (BadMode f.0) (sym e ∙ f.1 ∙ ap BadMode z) (above (y.sheet, y.whole) f.2) (λ n e. clash cc)
+        told a (BadMode f.0) (sym e ∙ f.1 ∙ ap BadMode z) (above (y.sheet, y.whole) f.2)
 
-    by : (v : Verdict) → judge_of s ≡ v → verdict_by One v d (records s) ≡ no a → Refusal s d room a
-    by (Good m k) g q = pass m k g (mode_from (most_layers One) 0 (records s)) refl q
-    by (Refused i) g q = let e : BadSheet i ≡ a = cc in told a (BadSheet i) (sym e) (no_sheet ((sheet_refused s i).0 g)) (λ n e. clash cc)
+    by : (v : Result Counts ℕ) → judge_of s ≡ v → verdict_by One v d (records s) ≡ no a → Gives s d room (Err a)
+    by (Ok c) g q = pass c.records c.stripes g (mode_from (most_layers One) 0 (records s)) refl q
+    by (Err i) g q = let e : BadSheet i ≡ a = cc in told a (BadSheet i) (sym e) (no_sheet ((sheet_refused s i).0 g))

@@ -1,5 +1,6 @@
 -- The answer is the one that the sentences give, and no other.
 -- Assumes nothing.
+use Rattle.std.specs.Prelude.{Ok, Err}
 use Prim.Native.Nat.{ℕ}
 use mathlib.Core.Path.{◌≡◌, refl, sym, ap, subst, ◌∙◌}
 use mathlib.Core.List.{List}
@@ -9,8 +10,8 @@ use borrow.Author.Tests.{le-ltb, lt-ltb, ltb-true, ltb-false}
 use Rattle.octets.specs.Octets.{Octets}
 use Rattle.segment_rules.specs.Rules.{longest_page}
 use Rattle.laws.proofs.Cases.{cond_with}
-use Rattle.answers.specs.declared.Answer.{Answer}
-use Rattle.answers.specs.declared.Answer.TheVariants.{Done, Short, BadMode, NoRoom, BadSheet, Mismatch, TooLong}
+use Rattle.answers.specs.Answers.{Answer}
+use Rattle.answers.specs.declared.Refusal.TheVariants.{Short, BadMode, NoRoom, BadSheet, Mismatch, TooLong}
 use Rattle.field_rules.specs.Field.{Res, ok, no}
 use Rattle.segment_rules.specs.declared.Mode.TheVariants.{One}
 use Rattle.segment_rules.specs.Rules.{mode1}
@@ -38,7 +39,7 @@ write_gives s d o room = by (verdict_of mode1 s d) refl
     by (ok u n) e =
         let k = verdict_back mode1 s d o u n e in
         subst (λ (j : ℕ). Gives s d room (size_answer room j)) (sym (tally_size s d u k)) (size_gives s d room (accepted_sound s d u k))
-    by (no a) e = (verdict_refused s d o room a e).gives
+    by (no a) e = verdict_refused s d o room a e
 
 -- a sound sheet is answered by its size
 sound_size : (s d : List ℕ) → Octets d → (room : ℕ) → Sound s d → write_of s d room ≡ size_answer room (size_of One (records s))
@@ -49,27 +50,27 @@ sound_size s d o room k =
 
 pub gives_write : (s d : List ℕ) → Octets d → (room : ℕ) (a : Answer) → Gives s d room a → write_of s d room ≡ a
 unfolding write_of answer_by size_answer
-gives_write s d o room (BadSheet i) (no_sheet k) = ap (answer_by room) (verdict_sheet mode1 s d i k)
-gives_write s d o room (BadMode i) (above a k) = ap (answer_by room) (verdict_mode mode1 s d a.0 a.1 i k)
-gives_write s d o room (Short i) (passing a low k) =
+gives_write s d o room (Err (BadSheet i)) (no_sheet k) = ap (answer_by room) (verdict_sheet mode1 s d i k)
+gives_write s d o room (Err (BadMode i)) (above a k) = ap (answer_by room) (verdict_mode mode1 s d a.0 a.1 i k)
+gives_write s d o room (Err (Short i)) (passing a low k) =
     ap (answer_by room)
     (verdict_passes mode1 s d a.0 a.1 low ∙ short_there One d o (sheet_main (records s)) (records s) (sheet_plain One (records s) a.0 low) i k)
-gives_write s d o room (Mismatch i) (differing a low k) =
+gives_write s d o room (Err (Mismatch i)) (differing a low k) =
     ap (answer_by room)
     (verdict_passes mode1 s d a.0 a.1 low ∙ mismatch_there One d o (sheet_main (records s)) (records s) (sheet_plain One (records s) a.0 low) i k)
-gives_write s d o room TooLong (too_long k long) = sound_size s d o room k ∙ simp (lt-ltb longest_page (size_of One (records s)) long)
-gives_write s d o room NoRoom (no_room k short less) = sound_size s d o room k ∙ simp (le-ltb longest_page (size_of One (records s)) short, lt-ltb room (size_of One (records s)) less)
-gives_write s d o room (Done n) (written k e short fits) =
+gives_write s d o room (Err TooLong) (too_long k long) = sound_size s d o room k ∙ simp (lt-ltb longest_page (size_of One (records s)) long)
+gives_write s d o room (Err NoRoom) (no_room k short less) = sound_size s d o room k ∙ simp (le-ltb longest_page (size_of One (records s)) short, lt-ltb room (size_of One (records s)) less)
+gives_write s d o room (Ok n) (written k e short fits) =
     sound_size s d o room k ∙ ap (size_answer room) (sym e) ∙ simp (le-ltb longest_page n short, le-ltb room n fits)
-gives_write s d o room (Rattle.answers.specs.declared.Answer.TheVariants.BadMark _) x'' = elim x'' [ ]
-gives_write s d o room (Rattle.answers.specs.declared.Answer.TheVariants.BadLength _) x3 = elim x3 [ ]
-gives_write s d o room (Rattle.answers.specs.declared.Answer.TheVariants.BadVersion _) x4 = elim x4 [ ]
-gives_write s d o room (Rattle.answers.specs.declared.Answer.TheVariants.BadCoder _) x5 = elim x5 [ ]
-gives_write s d o room (Rattle.answers.specs.declared.Answer.TheVariants.BadRes _) x6 = elim x6 [ ]
-gives_write s d o room (Rattle.answers.specs.declared.Answer.TheVariants.BadWidth _) x7 = elim x7 [ ]
-gives_write s d o room (Rattle.answers.specs.declared.Answer.TheVariants.BadType _) x8 = elim x8 [ ]
-gives_write s d o room (Rattle.answers.specs.declared.Answer.TheVariants.BadStripe _) x9 = elim x9 [ ]
-gives_write s d o room (Rattle.answers.specs.declared.Answer.TheVariants.BadLayer _) x10 = elim x10 [ ]
-gives_write s d o room (Rattle.answers.specs.declared.Answer.TheVariants.Trailing _) x11 = elim x11 [ ]
-gives_write s d o room (Rattle.answers.specs.declared.Answer.TheVariants.BadPlane _) x12 = elim x12 [ ]
-gives_write s d o room Rattle.answers.specs.declared.Answer.TheVariants.BadLine x12 = elim x12 [ ]
+gives_write s d o room (Err (Rattle.answers.specs.declared.Refusal.TheVariants.BadMark _)) x'' = elim x'' [ ]
+gives_write s d o room (Err (Rattle.answers.specs.declared.Refusal.TheVariants.BadLength _)) x3 = elim x3 [ ]
+gives_write s d o room (Err (Rattle.answers.specs.declared.Refusal.TheVariants.BadVersion _)) x4 = elim x4 [ ]
+gives_write s d o room (Err (Rattle.answers.specs.declared.Refusal.TheVariants.BadCoder _)) x5 = elim x5 [ ]
+gives_write s d o room (Err (Rattle.answers.specs.declared.Refusal.TheVariants.BadRes _)) x6 = elim x6 [ ]
+gives_write s d o room (Err (Rattle.answers.specs.declared.Refusal.TheVariants.BadWidth _)) x7 = elim x7 [ ]
+gives_write s d o room (Err (Rattle.answers.specs.declared.Refusal.TheVariants.BadType _)) x8 = elim x8 [ ]
+gives_write s d o room (Err (Rattle.answers.specs.declared.Refusal.TheVariants.BadStripe _)) x9 = elim x9 [ ]
+gives_write s d o room (Err (Rattle.answers.specs.declared.Refusal.TheVariants.BadLayer _)) x10 = elim x10 [ ]
+gives_write s d o room (Err (Rattle.answers.specs.declared.Refusal.TheVariants.Trailing _)) x11 = elim x11 [ ]
+gives_write s d o room (Err (Rattle.answers.specs.declared.Refusal.TheVariants.BadPlane _)) x12 = elim x12 [ ]
+gives_write s d o room (Err Rattle.answers.specs.declared.Refusal.TheVariants.BadLine) x12 = elim x12 [ ]

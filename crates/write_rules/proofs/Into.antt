@@ -1,5 +1,6 @@
 -- What the buffer holds where the call answers Done.
 -- Assumes nothing.
+use Rattle.std.specs.Prelude.{Ok}
 use Prim.Native.Nat.{ℕ, ◌+◌, ◌≤◌}
 use native.Mathlib.Omega.{arith}
 use mathlib.Core.Path.{◌≡◌, refl, sym, ap, ap₂, subst, ◌∙◌}
@@ -12,7 +13,6 @@ use Rattle.octets.specs.Octets.{Octets, put_at}
 use Rattle.octets.proofs.Laws.{put_rest, put_length}
 use Rattle.segment_rules.specs.Rules.{longest_page}
 use Rattle.laws.proofs.Cases.{cond_with, clash}
-use Rattle.answers.specs.declared.Answer.TheVariants.{Done}
 use Rattle.field_rules.specs.Field.{Res, ok, no}
 use Rattle.segment_rules.specs.declared.Mode.TheVariants.{One}
 use Rattle.segment_rules.specs.Rules.{mode1}
@@ -25,7 +25,7 @@ use Rattle.write_rules.specs.declared.Tally.{Tally}
 use Rattle.write_rules.specs.Writing.{verdict_of, page_by, size_answer, answer_by, write_of, into_by, write_into}
 use Rattle.write_rules.specs.Form.{Lands, Formed}
 use Rattle.write_rules.specs.Sentences.{size_of}
-use Rattle.write_rules.proofs.Answered.{Tallied, verdict_back, verdict_refused}
+use Rattle.write_rules.proofs.Answered.{Tallied, verdict_back}
 use Rattle.write_rules.proofs.Sizes.{passed_size}
 use Rattle.write_rules.proofs.Ready.{Sized}
 use Rattle.write_rules.proofs.Lands.{moved_of}
@@ -34,11 +34,11 @@ use Rattle.write_rules.proofs.Written.{written_same, written_formed, written_lay
 pub tally_size : (s d : List ℕ) (u : Tally) → Tallied One s d u → u.size ≡ size_of One (records s)
 tally_size s d u k = passed_size One d u (records s) k.passed
 
-pub size_done : (room size n : ℕ) → size_answer room size ≡ Done n → (n ≡ size) × (size ≤ longest_page) × (size ≤ room)
+pub size_done : (room size n : ℕ) → size_answer room size ≡ Ok n → (n ≡ size) × (size ≤ longest_page) × (size ≤ room)
 unfolding size_answer
 size_done room size n =
-    cond_with (λ x. x ≡ Done n → (n ≡ size) × (size ≤ longest_page) × (size ≤ room)) (ltb longest_page size) (λ t q. clash cc) λ t.
-    cond_with (λ x. x ≡ Done n → (n ≡ size) × (size ≤ longest_page) × (size ≤ room)) (ltb room size) (λ u q. clash cc)
+    cond_with (λ x. x ≡ Ok n → (n ≡ size) × (size ≤ longest_page) × (size ≤ room)) (ltb longest_page size) (λ t q. clash cc) λ t.
+    cond_with (λ x. x ≡ Ok n → (n ≡ size) × (size ≤ longest_page) × (size ≤ room)) (ltb room size) (λ u q. clash cc)
     (λ u q. let z : size ≡ n = cc in (sym z, ltb-false longest_page size t, ltb-false room size u))
 
 pub record Into (s d p : List ℕ) (n : ℕ) : Type 0 where
@@ -49,11 +49,11 @@ pub record Into (s d p : List ℕ) (n : ℕ) : Type 0 where
   pub fits : n ≤ length p
   pub into : write_into s d p ≡ put_at p 0 (page_by mode1 d (records s) u)
 
-pub done_into : (s d p : List ℕ) → Octets d → (n : ℕ) → write_of s d (length p) ≡ Done n → Into s d p n
+pub done_into : (s d p : List ℕ) → Octets d → (n : ℕ) → write_of s d (length p) ≡ Ok n → Into s d p n
 unfolding write_of answer_by write_into into_by
 done_into s d p o n = by (verdict_of mode1 s d) refl
   where
-    by : (r : Res Tally) → verdict_of mode1 s d ≡ r → answer_by (length p) r ≡ Done n → Into s d p n
+    by : (r : Res Tally) → verdict_of mode1 s d ≡ r → answer_by (length p) r ≡ Ok n → Into s d p n
     by (ok u m) e q =
         let z = size_done (length p) u.size n q in
         let z0 = z.0 in
@@ -67,7 +67,7 @@ done_into s d p o n = by (verdict_of mode1 s d) refl
           fits = omega arith;
           into = ap (into_by mode1 p d (records s)) e ∙ simp (le-ltb longest_page u.size z1, le-ltb (length p) u.size z2);
         }
-    by (no a) e q = absurd ((verdict_refused s d o (length p) a e).not_done n q)
+    by (no a) e q = clash cc
 
 module _ (s d p : List ℕ) (o : Octets d) (sized : (r : Record) → Among r (records s) → Sized r) (n : ℕ) (k : Into s d p n) where
   pub into_length : length (page_by mode1 d (records s) k.u) ≡ n

@@ -16,8 +16,8 @@ use Rattle.jpeg_rules.specs.Said.{record_said}
 use Rattle.jpeg_rules.specs.Grammar.{Layer}
 use Rattle.jpeg_rules.proofs.Grey.{octet_again}
 use Rattle.start_rules.specs.declared.Head.{Head}
+use Rattle.std.specs.Prelude.{Option, Some, None}
 use Rattle.mode1_rules.specs.declared.LayerData.{LayerData}
-use Rattle.mode1_rules.specs.declared.LayerData.TheVariants.{There, Absent}
 use Rattle.mode1_rules.specs.Kinds.{has_back, has_mask, has_fore, image_record, mask_record}
 use Rattle.mode1_rules.specs.Grammar.{TypeOf, Image, there, absent}
 use Rattle.write_rules.specs.Layer.{layer_octets}
@@ -90,9 +90,9 @@ pub record_by : (r q : Record) → r.stripe ≡ q.stripe → r.layer ≡ q.layer
 record_by r q e1 e2 e3 e4 e5 e6 e7 e8 e9 e10 e11 e12 e13 e14 e15 = let all : start_at r r.start ≡ start_at q q.start = cc in all
 
 -- what the page says of an image layer's data at a place
-unfoldable pub image_is : Bool → Record → List ℕ → ℕ → LayerData
-image_is true r l at = There at (length l) (record_said r)
-image_is false r l at = Absent
+unfoldable pub image_is : Bool → Record → List ℕ → ℕ → Option LayerData
+image_is true r l at = Some (record { start = at; size = length l; said = record_said r })
+image_is false r l at = None
 
 pub image_made : (main at : ℕ) (d : List ℕ) (r : Record) → (Coded r → Layer main (layer_octets d r) (record_said r))
     → Image main at (coded r) (layer_octets d r) (image_is (coded r) r (layer_octets d r) at)
@@ -101,7 +101,7 @@ image_made main at d r y = go (coded r) refl
   where
     go : (b : Bool) → coded r ≡ b → Image main at b (layer_octets d r) (image_is b r (layer_octets d r) at)
     go true e = there (y ((says_coded r).told e))
-    go false e = subst (λ (l : List ℕ). Image main at false l Absent) (sym (no_data d r e)) absent
+    go false e = subst (λ (l : List ℕ). Image main at false l None) (sym (no_data d r e)) absent
 
 pub image_record_lem : (hd : Head) (k l at : ℕ) (d : List ℕ) (r : Record) → r.stripe ≡ k → r.layer ≡ l → l % 2 ≡ 1 → Spares r → Contents r → (Uncoded r → r.res ≡ hd.main)
     → length (layer_octets d r) ≡ r.len → image_record hd k l (colour_by r) r.x r.y (image_is (coded r) r (layer_octets d r) at) ≡ placed_at r at

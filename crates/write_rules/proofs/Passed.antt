@@ -13,7 +13,7 @@ use borrow.Author.Tests.{eq-eqb, ne_eqb, eqb-true, eqb-false}
 use Rattle.octets.specs.Octets.{Octets}
 use Rattle.laws.proofs.Cases.{clash}
 use Rattle.laws.proofs.Says.{says_eq, says_else}
-use Rattle.answers.specs.declared.Answer.{Answer}
+use Rattle.answers.specs.declared.Refusal.{Refusal}
 use Rattle.field_rules.specs.Field.{Res, ok, no, bind}
 use Rattle.segment_rules.specs.declared.Mode.{Mode}
 use Rattle.sheet_rules.specs.declared.Record.{Record}
@@ -223,14 +223,14 @@ passed_fine mode d main t u rs p =
 
 -- ---- where they stop: those before pass, and the record does not
 
-pub record Stops (mode : Mode) (d : List ℕ) (main : ℕ) (t : Tally) (i : ℕ) (rs : List Record) (a : Answer) : Type 0 where
+pub record Stops (mode : Mode) (d : List ℕ) (main : ℕ) (t : Tally) (i : ℕ) (rs : List Record) (a : Refusal) : Type 0 where
   pub j : ℕ
   pub within : j < length rs
   pub u : Tally
   pub passed : records_pass mode d main t i (take j rs) ≡ ok u (i + j)
   pub stops : record_step mode d main u (i + j) (nth rs j) ≡ no a
 
-pub pass_stops : (mode : Mode) (d : List ℕ) (main : ℕ) (t : Tally) (i : ℕ) (rs : List Record) (a : Answer) → records_pass mode d main t i rs ≡ no a → Stops mode d main t i rs a
+pub pass_stops : (mode : Mode) (d : List ℕ) (main : ℕ) (t : Tally) (i : ℕ) (rs : List Record) (a : Refusal) → records_pass mode d main t i rs ≡ no a → Stops mode d main t i rs a
 unfolding records_pass bind
 pass_stops mode d main t i [] a q = clash cc
 pass_stops mode d main t i (r ∷ rs) a q = by (λ v n. pass_stops mode d main v n rs a) (record_step mode d main t i r) refl q
@@ -264,7 +264,7 @@ pass_append mode d main t u i n (p ∷ ps) qs q = by (λ v m. pass_append mode d
     by more (ok v m) h = more v m h
     by more (no b) h = clash cc
 
-pub pass_fault : (mode : Mode) (d : List ℕ) (main : ℕ) (t u : Tally) (i n : ℕ) (rs : List Record) (j : ℕ) (a : Answer) → j < length rs → records_pass mode d main t i (take j rs) ≡ ok u n
+pub pass_fault : (mode : Mode) (d : List ℕ) (main : ℕ) (t u : Tally) (i n : ℕ) (rs : List Record) (j : ℕ) (a : Refusal) → j < length rs → records_pass mode d main t i (take j rs) ≡ ok u n
     → record_step mode d main u n (nth rs j) ≡ no a → records_pass mode d main t i rs ≡ no a
 unfolding records_pass bind
 pass_fault mode d main t u i n rs j a h p e =

@@ -12,10 +12,10 @@
 --   size_of mode rs    the start and the end, what each record adds to its stripe's segments, and the coded data
 --   Sound s d         the octets s are a sheet without a layer above those of Mode 1, and its records are fine
 --   Gives s d room a  the call answers a
-use Rattle.std.specs.Prelude.{ℕ, ◌+◌, ◌≤◌, ◌<◌, ◌≡◌, ◌≢◌, List, [], ◌∷◌, length, take}
+use Rattle.std.specs.Prelude.{ℕ, ◌+◌, ◌≤◌, ◌<◌, ◌≡◌, ◌≢◌, List, [], ◌∷◌, length, take, Ok, Err}
 use Rattle.segment_rules.specs.Rules.{longest_page}
-use Rattle.answers.specs.declared.Answer.{Answer}
-use Rattle.answers.specs.declared.Answer.TheVariants.{Done, Short, BadMode, NoRoom, BadSheet, Mismatch, TooLong}
+use Rattle.answers.specs.Answers.{Answer}
+use Rattle.answers.specs.declared.Refusal.TheVariants.{Short, BadMode, NoRoom, BadSheet, Mismatch, TooLong}
 use Rattle.sheet_rules.specs.declared.Record.{Record}
 use Rattle.sheet_rules.specs.Record.{records, rest, nth, sum_of}
 use Rattle.sheet_rules.specs.Sentences.{Among, Coded, Sheet, Accepted, BadSheetAt}
@@ -80,10 +80,10 @@ pub record Sound (s d : List ℕ) : Type 0 where
 
 -- one line for each answer that writing gives; it gives no other
 pub data Gives (s d : List ℕ) (room : ℕ) : Answer → Type 0 where
-  no_sheet : {i : ℕ} → BadSheetAt s i → Gives s d room (BadSheet i)
-  above : {i : ℕ} → Accepted s → ModeAt One (records s) i → Gives s d room (BadMode i)
-  passing : {i : ℕ} → Accepted s → Low One (records s) → ShortAt (sheet_main (records s)) d (records s) i → Gives s d room (Short i)
-  differing : {i : ℕ} → Accepted s → Low One (records s) → MismatchAt (sheet_main (records s)) d (records s) i → Gives s d room (Mismatch i)
-  too_long : Sound s d → longest_page < size_of One (records s) → Gives s d room TooLong
-  no_room : Sound s d → size_of One (records s) ≤ longest_page → room < size_of One (records s) → Gives s d room NoRoom
-  written : {n : ℕ} → Sound s d → n ≡ size_of One (records s) → n ≤ longest_page → n ≤ room → Gives s d room (Done n)
+  no_sheet : {i : ℕ} → BadSheetAt s i → Gives s d room (Err (BadSheet i))
+  above : {i : ℕ} → Accepted s → ModeAt One (records s) i → Gives s d room (Err (BadMode i))
+  passing : {i : ℕ} → Accepted s → Low One (records s) → ShortAt (sheet_main (records s)) d (records s) i → Gives s d room (Err (Short i))
+  differing : {i : ℕ} → Accepted s → Low One (records s) → MismatchAt (sheet_main (records s)) d (records s) i → Gives s d room (Err (Mismatch i))
+  too_long : Sound s d → longest_page < size_of One (records s) → Gives s d room (Err TooLong)
+  no_room : Sound s d → size_of One (records s) ≤ longest_page → room < size_of One (records s) → Gives s d room (Err NoRoom)
+  written : {n : ℕ} → Sound s d → n ≡ size_of One (records s) → n ≤ longest_page → n ≤ room → Gives s d room (Ok n)

@@ -15,21 +15,20 @@
 --   write_of s d room       what the call answers, where the page's buffer holds so many octets
 --   write_into s d p        what the buffer p holds afterwards
 --   Writes s d p a e       the call's promise: it answers a, and the buffer p is then e
-use Rattle.std.specs.Prelude.{ℕ, ◌+◌, ◌≡◌, Bool, true, ◌&&◌, ◌||◌, not, cond, List, [], ◌∷◌, ◌++◌, length, eqb, ltb}
+use Rattle.std.specs.Prelude.{ℕ, ◌+◌, ◌≡◌, Bool, true, ◌&&◌, ◌||◌, not, cond, List, [], ◌∷◌, ◌++◌, length, eqb, ltb, Result, Ok, Err}
 use Rattle.octets.specs.Octets.{put_at}
 use Rattle.octets.specs.Entries.{joined}
 use Rattle.write_rules.specs.Sentences.{sheet_main, start_size, page_end}
-use Rattle.answers.specs.declared.Answer.{Answer}
-use Rattle.answers.specs.declared.Answer.TheVariants.{Done, Short, BadMode, NoRoom, Mismatch, TooLong}
+use Rattle.answers.specs.Answers.{Answer}
+use Rattle.answers.specs.declared.Refusal.TheVariants.{Short, BadMode, NoRoom, BadSheet, Mismatch, TooLong}
 use Rattle.field_rules.specs.Field.{Res, ok, no, bind}
 use Rattle.sheet_rules.specs.declared.Record.{Record}
-use Rattle.sheet_rules.specs.declared.Verdict.{Verdict}
-use Rattle.sheet_rules.specs.declared.Verdict.TheVariants.{Good, Refused}
+use Rattle.sheet_rules.specs.declared.Counts.{Counts}
 use Rattle.sheet_rules.specs.Record.{records, nth}
 use Rattle.segment_rules.specs.declared.Mode.{Mode}
 use Rattle.segment_rules.specs.declared.Rules.{Rules}
 use Rattle.segment_rules.specs.Rules.{mode1}
-use Rattle.sheet_rules.specs.Judge.{coded, judge_of, answer_of}
+use Rattle.sheet_rules.specs.Judge.{coded, judge_of}
 use Rattle.start_rules.specs.declared.Head.{Head}
 use Rattle.segment_rules.specs.Rules.{longest_page}
 use Rattle.start_rules.specs.Grammar.{start_of}
@@ -82,10 +81,10 @@ records_pass mode d main tally i (r ∷ rs) = bind (record_step mode d main tall
 
 -- ---- the verdict: BadSheet, BadMode, each record
 
-unfoldable pub verdict_by : Mode → Verdict → List ℕ → List Record → Res Tally
+unfoldable pub verdict_by : Mode → Result Counts ℕ → List ℕ → List Record → Res Tally
 unfolding bind mode_from records_pass
-verdict_by mode (Good n k) d rs = bind (mode_from (most_layers mode) 0 rs) (λ (j e : ℕ). records_pass mode d (sheet_main rs) begun 0 rs)
-verdict_by mode (Refused i) d rs = no (answer_of (Refused i))
+verdict_by mode (Ok c) d rs = bind (mode_from (most_layers mode) 0 rs) (λ (j e : ℕ). records_pass mode d (sheet_main rs) begun 0 rs)
+verdict_by mode (Err i) d rs = no (BadSheet i)
 
 unfoldable pub verdict_of : Rules → List ℕ → List ℕ → Res Tally
 unfolding verdict_by
@@ -107,12 +106,12 @@ page_by rules d rs tally = start_of (head_by rules rs tally) ++ (stripes_by rule
 -- ---- the call, in Mode 1: after the verdict TooLong, then NoRoom
 
 unfoldable pub size_answer : ℕ → ℕ → Answer
-size_answer room size = cond (ltb longest_page size) TooLong (cond (ltb room size) NoRoom (Done size))
+size_answer room size = cond (ltb longest_page size) (Err TooLong) (cond (ltb room size) (Err NoRoom) (Ok size))
 
 unfoldable pub answer_by : ℕ → Res Tally → Answer
 unfolding size_answer
 answer_by room (ok tally n) = size_answer room tally.size
-answer_by room (no a) = a
+answer_by room (no a) = Err a
 
 unfoldable pub write_of : List ℕ → List ℕ → ℕ → Answer
 unfolding verdict_of answer_by

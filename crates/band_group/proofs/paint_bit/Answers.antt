@@ -5,7 +5,7 @@ pub give_bit-requires : goal.give_bit-requires
 give_bit-requires c = two_rows _ _ _ _ 0 c.requires.0 c.requires.2
 
 pub paint_at-requires : goal.paint_at-requires
-paint_at-requires c = (put_fits _ _ _ _ _ _ c.requires.0 c.requires.2 c.give_bit.ensures, put_plain _ _ _ _ _ _ c.requires.0 c.requires.2 c.give_bit.ensures c.requires.1, c.requires.3, c.requires.4, c.requires.5, c.requires.6, c.requires.7, c.requires.8, c.requires.9, c.requires.10)
+paint_at-requires c = (put_fits _ _ _ _ _ _ c.requires.0 c.requires.2 c.give_bit.ensures, put_plain _ _ _ _ _ _ c.requires.0 c.requires.2 c.give_bit.ensures c.requires.1, c.requires.3, c.requires.4, c.requires.5)
 
 pub returns : goal.returns
 returns c = (bit_painted _ _ _ _ _ _ _ _ _ _ _ c.give_bit.ensures c.paint_at.ensures, c.give_bit.ensures)

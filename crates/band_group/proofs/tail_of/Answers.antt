@@ -31,12 +31,6 @@ covers-requires c = search tailing
 pub returns-then-covers : goal.returns-then-covers
 returns-then-covers c = search tailing
 
-pub overflow_sub-j : goal.overflow_sub-j
-overflow_sub-j c = search tailing
-
-pub loop-j-smaller : goal.loop-j-smaller
-loop-j-smaller c = search tailing
-
 pub loop-j-preserved : goal.loop-j-preserved
 loop-j-preserved c = search tailing
 

@@ -19,20 +19,17 @@ returns-then-r c = search worthing
 pub loop-j-init : goal.loop-j-init
 loop-j-init c = search worthing
 
-pub overflow_add-j : goal.overflow_add-j
-overflow_add-j c = search worthing
-
 pub unread-requires : goal.unread-requires
 unread-requires c = search worthing
 
 pub returns-then-unread : goal.returns-then-unread
 returns-then-unread c = search worthing
 
-pub loop-j-smaller : goal.loop-j-smaller
-loop-j-smaller c = search worthing
-
 pub loop-j-preserved : goal.loop-j-preserved
 loop-j-preserved c = search worthing
 
-pub returns : goal.returns
-returns c = search worthing
+pub returns-else-r : goal.returns-else-r
+returns-else-r c = search worthing
+
+pub returns-else-unread : goal.returns-else-unread
+returns-else-unread c = search worthing

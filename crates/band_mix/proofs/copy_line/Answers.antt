@@ -22,12 +22,6 @@ overflow_mul-t c = search linings
 pub put_word-requires : goal.put_word-requires
 put_word-requires c = search linings
 
-pub overflow_add-x : goal.overflow_add-x
-overflow_add-x c = search linings
-
-pub loop-x-smaller : goal.loop-x-smaller
-loop-x-smaller c = search linings
-
 pub loop-x-preserved : goal.loop-x-preserved
 loop-x-preserved c = lining_put _ _ _ _ _ _ _ _ _ c.put_word.ensures (copied_word _ _ _ _ _ _ _ c.word-w.ensures c.requires.0 c.loop-x-test.true c.loop-x.invariant) c.loop-x-test.true c.loop-x.invariant
 

@@ -49,12 +49,6 @@ either-requires-in-loop-x c = search pairings
 pub put_word-requires-in-loop-x : goal.put_word-requires-in-loop-x
 put_word-requires-in-loop-x c = search pairings
 
-pub overflow_add-x : goal.overflow_add-x
-overflow_add-x c = search pairings
-
-pub loop-x-smaller : goal.loop-x-smaller
-loop-x-smaller c = search pairings
-
 pub loop-x-preserved : goal.loop-x-preserved
 loop-x-preserved c = pairing_put _ _ _ _ _ _ _ _ _ _ _ _ _ _ _ c.loop-x-test.true c.loop-x.invariant c.word-low.ensures c.word-up.ensures c.either.ensures c.either-in-loop-x.ensures c.put_word.ensures c.put_word-in-loop-x.ensures
 

@@ -7,8 +7,8 @@ octets_from-requires-in-Page c = search handing
 pub octets_from-requires-in-Pencil : goal.octets_from-requires-in-Pencil
 octets_from-requires-in-Pencil c = search handing
 
-pub returns-in-Refused : goal.returns-in-Refused
-returns-in-Refused c = search handing
+pub returns-in_default : goal.returns-in_default
+returns-in_default c = search handing
 
 pub returns-in-Page : goal.returns-in-Page
 returns-in-Page c = search handing

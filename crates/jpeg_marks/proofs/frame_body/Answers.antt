@@ -11,6 +11,4 @@ pub returns-then-components_ok : goal.returns-then-components_ok
 returns-then-components_ok c = search frame_body_laws
 
 pub returns-else-components_ok : goal.returns-else-components_ok
-returns-else-components_ok c = other_count _ _ _ _ c.be16-height.ensures c.if-height-eq0.false
-    c.be16-width.ensures c.if-width-eq0.false c.count_of-components.ensures
-    c.components_ok.ensures c.if-components_ok.false
+returns-else-components_ok c = other_count _ _ _ _ c.be16-height.ensures c.if-height-eq0.false c.be16-width.ensures c.if-width-eq0.false c.from-components.ensures c.components_ok.ensures c.if-components_ok.false

@@ -10,8 +10,8 @@ returns-then-st-eq0 c = search frame_laws
 pub frame_body-requires : goal.frame_body-requires
 frame_body-requires c = search frame_laws
 
-pub returns-in-Refused : goal.returns-in-Refused
-returns-in-Refused c = search frame_laws
+pub returns-in-Err : goal.returns-in-Err
+returns-in-Err c = search frame_laws
 
-pub returns-in-Body : goal.returns-in-Body
-returns-in-Body c = search frame_laws
+pub returns-in-Ok : goal.returns-in-Ok
+returns-in-Ok c = search frame_laws

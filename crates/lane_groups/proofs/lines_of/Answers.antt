@@ -11,4 +11,4 @@ pub returns-then-w-eq0 : goal.returns-then-w-eq0
 returns-then-w-eq0 c = search lining
 
 pub returns : goal.returns
-returns c = same_sample_lem _ _ _ _ c.requires c.if-y-w.false c.if-w-y.false c.lines_left.ensures c.least.ensures
+returns c = same_sample_lem _ _ _ _ c.requires c.if-y-w.false c.if-w-y.false c.lines_left.ensures c.min.ensures

@@ -1,17 +1,8 @@
-use Rattle.line_agree.proofs.Laws.{agreeing}
+use Rattle.line_agree.proofs.Laws.{agree_tested}
 use Rattle.line_agree.proofs.agreed.Goals as goal
 
-pub same_colour-requires : goal.same_colour-requires
-same_colour-requires c = search agreeing
+pub returns-then-eq : goal.returns-then-eq
+returns-then-eq c = agree_tested _ _ _ c.if-eq.ensures
 
-pub returns-then-same_colour : goal.returns-then-same_colour
-returns-then-same_colour c = search agreeing
-
-pub returns-else-same_colour : goal.returns-else-same_colour
-returns-else-same_colour c = search agreeing
-
-pub returns-in-Unknown-up : goal.returns-in-Unknown-up
-returns-in-Unknown-up c = search agreeing
-
-pub returns-in-Unknown : goal.returns-in-Unknown
-returns-in-Unknown c = search agreeing
+pub returns-else-eq : goal.returns-else-eq
+returns-else-eq c = agree_tested _ _ _ c.if-eq.ensures

@@ -1,5 +1,6 @@
+use native.Mathlib.Omega.{arith}
 use mathlib.Core.Path.{refl}
-use Rattle.line_lanes.proofs.Laws.{laying_none, laying_more, laying}
+use Rattle.line_lanes.proofs.Laws.{laying_none, laying_more, laying_last, laying}
 use Rattle.line_lanes.proofs.put_lanes.Goals as goal
 
 pub overflow_cast-first : goal.overflow_cast-first
@@ -28,25 +29,28 @@ loop-l-init c = laying_none _ _ _ _ _ _ _ _ _
     c.record_at-third.ensures
     refl refl
 
-pub overflow_add-l : goal.overflow_add-l
-overflow_add-l c = search laying
-
 pub layer_lane-w-requires : goal.layer_lane-w-requires
 layer_lane-w-requires c = search laying
 
 pub put_lane-requires : goal.put_lane-requires
 put_lane-requires c = search laying
 
-pub loop-l-smaller : goal.loop-l-smaller
-loop-l-smaller c = search laying
-
 pub loop-l-preserved : goal.loop-l-preserved
-loop-l-preserved c = laying_more _ _ _ _ _ _ _ _ _
+loop-l-preserved c = laying_more _ _ _ _ _ _ _ _ _ _ _
     c.loop-l.invariant
-    _ _ c.loop-l-test.true
+    (omega arith)
     c.layer_lane-w.ensures.0
     c.layer_lane-w.ensures.1
     c.put_lane.ensures
 
 pub returns : goal.returns
 returns c = search laying
+
+pub returns-2 : goal.returns-2
+returns-2 c = laying_last _ _ _ _ _ _ _ _ _ _ _
+    c.loop-l.invariant
+    (omega arith)
+    (omega arith)
+    c.layer_lane-w.ensures.0
+    c.layer_lane-w.ensures.1
+    c.put_lane.ensures

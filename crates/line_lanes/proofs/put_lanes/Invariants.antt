@@ -1,9 +1,5 @@
-use Prim.Native.Nat.{◌-◌}
 use Rattle.line_lanes.proofs.Laws.{Laying}
 use Rattle.line_lanes.proofs.put_lanes.Given as goal
 
 abbrev pub invariant-loop-l : goal.invariant-loop-l
 invariant-loop-l l = Laying l.initial.lanes l.sheet l.extent l.list l.main l.coded3 l.n l.lanes l.l
-
-abbrev pub decreases-loop-l : goal.decreases-loop-l
-decreases-loop-l l = l.n - l.l

@@ -31,12 +31,6 @@ returns-in-Hidden c = lead_unsure _ _ _ _ _ _ _
     c.mask_at-m.ensures
     c.in-Hidden.is
 
-pub overflow_sub-j : goal.overflow_sub-j
-overflow_sub-j c = search leading
-
-pub loop-j-smaller : goal.loop-j-smaller
-loop-j-smaller c = search leading
-
 pub loop-j-preserved : goal.loop-j-preserved
 loop-j-preserved c = search leading
 

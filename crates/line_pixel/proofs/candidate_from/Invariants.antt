@@ -6,6 +6,3 @@ use Rattle.line_pixel.proofs.candidate_from.Given as goal
 
 abbrev pub invariant-loop-j : goal.invariant-loop-j
 invariant-loop-j l = (l.j ≤ l.from) × (candidates (row_masks l.d l.rows l.x) l.from ≡ candidates (row_masks l.d l.rows l.x) l.j)
-
-abbrev pub decreases-loop-j : goal.decreases-loop-j
-decreases-loop-j l = l.j

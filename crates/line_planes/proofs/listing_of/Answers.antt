@@ -1,9 +1,6 @@
 use Rattle.line_planes.proofs.Laws.{gather_more, gathering}
 use Rattle.line_planes.proofs.listing_of.Goals as goal
 
-pub no_planes-list-requires : goal.no_planes-list-requires
-no_planes-list-requires c = search gathering
-
 pub loop-i-init : goal.loop-i-init
 loop-i-init c = search gathering
 
@@ -15,12 +12,6 @@ plane_at-requires c = search gathering
 
 pub with_plane-list-requires : goal.with_plane-list-requires
 with_plane-list-requires c = search gathering
-
-pub overflow_add-i : goal.overflow_add-i
-overflow_add-i c = search gathering
-
-pub loop-i-smaller : goal.loop-i-smaller
-loop-i-smaller c = search gathering
 
 pub loop-i-preserved : goal.loop-i-preserved
 loop-i-preserved c = gather_more _ _ _ _ _ _

@@ -1,9 +1,6 @@
 use Rattle.line_planes.proofs.Laws.{seeking}
 use Rattle.line_planes.proofs.start_of.Goals as goal
 
-pub entry_count-n-requires : goal.entry_count-n-requires
-entry_count-n-requires c = search seeking
-
 pub loop-i-init : goal.loop-i-init
 loop-i-init c = search seeking
 
@@ -12,12 +9,6 @@ entry_at-p-requires c = search seeking
 
 pub returns-then-p-layer : goal.returns-then-p-layer
 returns-then-p-layer c = search seeking
-
-pub overflow_add-i : goal.overflow_add-i
-overflow_add-i c = search seeking
-
-pub loop-i-smaller : goal.loop-i-smaller
-loop-i-smaller c = search seeking
 
 pub loop-i-preserved : goal.loop-i-preserved
 loop-i-preserved c = search seeking

@@ -13,12 +13,6 @@ overflow_mul-x c = search painting
 pub put_pixel-requires : goal.put_pixel-requires
 put_pixel-requires c = search painting
 
-pub overflow_add-x : goal.overflow_add-x
-overflow_add-x c = search painting
-
-pub loop-x-smaller : goal.loop-x-smaller
-loop-x-smaller c = search painting
-
 pub loop-x-preserved : goal.loop-x-preserved
 loop-x-preserved c = search painting
 

@@ -1,4 +1,5 @@
-use Rattle.line_rows.proofs.Laws.{filling_none, filling_more, filling}
+use native.Mathlib.Omega.{arith}
+use Rattle.line_rows.proofs.Laws.{filling_none, filling_more, filling_last, filling}
 use mathlib.Core.Path.{refl}
 use Rattle.line_rows.proofs.put_rows.Goals as goal
 
@@ -23,24 +24,26 @@ record_at-third-requires c = search filling
 pub loop-l-init : goal.loop-l-init
 loop-l-init c = filling_none _ _ _ _ _ _ _ _ _ _ c.requires.1 refl c.record_at-second.ensures c.record_at-third.ensures refl refl
 
-pub overflow_add-l : goal.overflow_add-l
-overflow_add-l c = search filling
-
 pub layer_row-w-requires : goal.layer_row-w-requires
 layer_row-w-requires c = search filling
 
 pub put_row-requires : goal.put_row-requires
 put_row-requires c = search filling
 
-pub loop-l-smaller : goal.loop-l-smaller
-loop-l-smaller c = search filling
-
 pub loop-l-preserved : goal.loop-l-preserved
 loop-l-preserved c = filling_more _ _ _ _ _ _ _ _ _ _ _ _
     c.loop-l.invariant
-    c.loop-l-test.true
+    (omega arith)
     c.layer_row-w.ensures
     c.put_row.ensures
 
 pub returns : goal.returns
 returns c = search filling
+
+pub returns-2 : goal.returns-2
+returns-2 c = filling_last _ _ _ _ _ _ _ _ _ _ _ _
+    c.loop-l.invariant
+    (omega arith)
+    (omega arith)
+    c.layer_row-w.ensures
+    c.put_row.ensures

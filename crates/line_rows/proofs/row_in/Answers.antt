@@ -10,8 +10,8 @@ scale_pos-down-requires c = search crossing
 pub row_start-requires : goal.row_start-requires
 row_start-requires c = search crossing
 
-pub returns-in-Unread : goal.returns-in-Unread
-returns-in-Unread c = search crossing
+pub returns-in-None : goal.returns-in-None
+returns-in-None c = search crossing
 
-pub returns-in-From : goal.returns-in-From
-returns-in-From c = search crossing
+pub returns-in-Some : goal.returns-in-Some
+returns-in-Some c = search crossing

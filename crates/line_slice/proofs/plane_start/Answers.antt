@@ -2,10 +2,10 @@ use Rattle.line_slice.proofs.Laws.{start_here, start_next, start_none}
 use Rattle.line_slice.proofs.plane_start.Goals as goal
 
 pub returns-then-p-layer : goal.returns-then-p-layer
-returns-then-p-layer c = start_here _ _ _ c.loop-k.invariant _ _ c.loop-k-test.true c.if-p-layer.true c.start_in.ensures
+returns-then-p-layer c = start_here _ _ _ c.loop-p.invariant _ c.loop-p-test.true c.if-p-layer.true
 
-pub loop-k-preserved : goal.loop-k-preserved
-loop-k-preserved c = start_next _ _ _ c.loop-k.invariant _ c.loop-k-test.true c.if-p-layer.false
+pub loop-p-preserved : goal.loop-p-preserved
+loop-p-preserved c = start_next _ _ _ c.loop-p.invariant _ c.loop-p-test.true c.if-p-layer.false
 
 pub returns : goal.returns
-returns c = start_none _ _ _ c.loop-k.invariant _ c.loop-k-test.false c.unread.ensures
+returns c = start_none _ _ _ c.loop-p.invariant c.loop-p-test.false

@@ -1,11 +1,8 @@
--- `put16` meets its contract: two stores are one put of two octets. Assumes nothing.
-use native.Mathlib.Omega.{arith}
-use lib.ListN.{length-set}
-use Rattle.octets_put.proofs.Turns.{turns}
+use mathlib.Core.Path.{◌∙◌}
+use Rattle.octets.specs.Octets.{octets16}
+use Rattle.octets_put.proofs.Turns.{part_put, octets16_are}
 use Rattle.octets_put.proofs.put16.Goals as goal
 
-pub bounds-d-at-2 : goal.bounds-d-at-2
-bounds-d-at-2 c = simp length-set (omega arith)
-
 pub returns : goal.returns
-returns c = search turns
+unfolding octets16
+returns c = part_put _ _ _ _ (c.copy_from_slice.ensures.after ∙ c.to_be_bytes.ensures ∙ octets16_are c.args.v c.ranges.v.fits)

@@ -1,23 +1,8 @@
 use Rattle.octets_run.proofs.Laws.{running}
 use Rattle.octets_run.proofs.run_to.Goals as goal
 
-pub loop-i-init : goal.loop-i-init
-loop-i-init c = search running
-
-pub bounds-s-i : goal.bounds-s-i
-bounds-s-i c = search running
-
 pub returns-then-s-i : goal.returns-then-s-i
 returns-then-s-i c = search running
 
-pub overflow_add-i : goal.overflow_add-i
-overflow_add-i c = search running
-
-pub loop-i-smaller : goal.loop-i-smaller
-loop-i-smaller c = search running
-
 pub loop-i-preserved : goal.loop-i-preserved
 loop-i-preserved c = search running
-
-pub returns : goal.returns
-returns c = search running

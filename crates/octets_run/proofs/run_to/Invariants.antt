@@ -1,9 +1,5 @@
 use Rattle.octets_run.proofs.Laws.{Running}
-use Prim.Native.Nat.{◌-◌}
 use Rattle.octets_run.proofs.run_to.Given as goal
 
 abbrev pub invariant-loop-i : goal.invariant-loop-i
 invariant-loop-i l = Running l.v l.s l.from l.to l.i
-
-abbrev pub decreases-loop-i : goal.decreases-loop-i
-decreases-loop-i l = l.to - l.i

@@ -1,9 +1,6 @@
+use Prim.Native.Nat.{◌*◌}
 use Rattle.paint_choice.proofs.Marks.{Spreading}
-use Prim.Native.Nat.{◌-◌}
 use Rattle.paint_choice.proofs.bits_by.Given as goal
 
 abbrev pub invariant-loop-q : goal.invariant-loop-q
-invariant-loop-q l = Spreading l.m l.i l.k l.n l.initial.bits l.bits l.q l.p
-
-abbrev pub decreases-loop-q : goal.decreases-loop-q
-decreases-loop-q l = l.n - l.q
+invariant-loop-q l = Spreading l.m l.i l.k l.n l.initial.bits l.bits l.q (l.q * l.k)

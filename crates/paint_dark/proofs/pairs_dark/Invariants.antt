@@ -1,9 +1,5 @@
-use Prim.Native.Nat.{◌-◌, ◌≤◌}
 use Rattle.paint_dark.specs.Dark.{Lost}
 use Rattle.paint_dark.proofs.pairs_dark.Given as goal
 
 abbrev pub invariant-loop-j : goal.invariant-loop-j
-invariant-loop-j l = (l.j ≤ l.pairs) × Lost l.s l.d l.rows l.j l.a l.b
-
-abbrev pub decreases-loop-j : goal.decreases-loop-j
-decreases-loop-j l = l.pairs - l.j
+invariant-loop-j l = Lost l.s l.d l.rows l.j l.a l.b

@@ -1,46 +1,22 @@
-use Rattle.paint_gather.proofs.Laws.{step_fits, step_adds}
-use Rattle.paint_gather.proofs.Laws.{turning, turning_more, twelve_reach}
 use native.Mathlib.Omega.{arith}
+use native.Mathlib.Nat.{add-mul, one-mul}
+use mathlib.Core.Path.{◌≡◌, sym, ap, ◌∙◌}
+use Prim.Native.Nat.{◌+◌, ◌*◌}
+use Rattle.paint_gather.proofs.Laws.{turning_at, turning_next, part_low, twelve_at}
 use Rattle.paint_gather.proofs.gather_run.Goals as goal
 
-pub overflow_sub-i : goal.overflow_sub-i
-overflow_sub-i c = search turning
+pub gather_twelve-requires : goal.gather_twelve-requires
+gather_twelve-requires g c =
+    (twelve_at _ _ _ _ _ _ _ _ _ c.requires.0 c.requires.1 _ _ _ c.loop-q.invariant (omega arith) _ (omega arith), let l = c.loop-q.invariant.long in let k = c.requires.3 in omega arith)
 
-pub overflow_mul-i : goal.overflow_mul-i
-overflow_mul-i c = step_fits _ _ (omega arith) c.requires.6
+pub loop-q-preserved : goal.loop-q-preserved
+loop-q-preserved g c =
+    let z : (c.loop-q.q + 1) * c.args.step ≡ c.loop-q.q * c.args.step + c.args.step = add-mul _ 1 _ ∙ ap (λ m. c.loop-q.q * c.args.step + m) (one-mul _) in
+    turning_next _ _ _ _ _ _ _ _ _ c.requires.0 c.requires.1 _ _ _ _ _ (omega arith) (sym z)
+    (turning_at _ _ _ _ _ _ _ _ _ c.requires.0 c.requires.1 _ _ _ c.loop-q.invariant (omega arith) _ (omega arith) _ c.gather_twelve.ensures)
 
-pub loop-y-init : goal.loop-y-init
-loop-y-init c = search turning
+pub slice_bounds-gather_twelve-count : goal.slice_bounds-gather_twelve-count
+slice_bounds-gather_twelve-count g c = part_low _ _ _ _ _ _ _ _ _ c.requires.0 c.requires.1 _ _ _ c.loop-q.invariant (omega arith)
 
-pub overflow_sub-e : goal.overflow_sub-e
-overflow_sub-e c = search turning
-
-pub overflow_sub-p : goal.overflow_sub-p
-overflow_sub-p c = search turning
-
-pub slice_bounds-gather_each-count : goal.slice_bounds-gather_each-count
-slice_bounds-gather_each-count c = search turning
-
-pub slice_bounds-gather_each-start : goal.slice_bounds-gather_each-start
-slice_bounds-gather_each-start c = search turning
-
-pub slice_bounds-gather_each-end : goal.slice_bounds-gather_each-end
-slice_bounds-gather_each-end c = search turning
-
-pub gather_each-requires : goal.gather_each-requires
-gather_each-requires c = (twelve_reach _ _ _ _ _ _ _ _ _ c.requires.0 c.requires.1 _ _ _ c.loop-y.invariant c.loop-y-test.true, let l = c.loop-y.invariant.long in let k = c.requires.3 in omega arith)
-
-pub overflow_add-y : goal.overflow_add-y
-overflow_add-y c = search turning
-
-pub overflow_add-i : goal.overflow_add-i
-overflow_add-i c = step_adds _ _ _ (omega arith) c.requires.6 c.loop-y.invariant.place
-
-pub loop-y-smaller : goal.loop-y-smaller
-loop-y-smaller c = search turning
-
-pub loop-y-preserved : goal.loop-y-preserved
-loop-y-preserved c = turning_more _ _ _ _ _ _ _ _ _ c.requires.0 c.requires.1 _ _ _ c.loop-y.invariant c.loop-y-test.true _ c.gather_each.ensures
-
-pub returns : goal.returns
-returns c = search turning
+pub slice_bounds-gather_twelve-start : goal.slice_bounds-gather_twelve-start
+slice_bounds-gather_twelve-start g c = part_low _ _ _ _ _ _ _ _ _ c.requires.0 c.requires.1 _ _ _ c.loop-q.invariant (omega arith)

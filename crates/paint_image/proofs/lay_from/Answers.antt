@@ -3,9 +3,6 @@ use Rattle.paint_image.proofs.Laws.{from_one, from_sub}
 use Rattle.paint_image.proofs.Laws.{froms}
 use Rattle.paint_image.proofs.lay_from.Goals as goal
 
-pub overflow_sub-j : goal.overflow_sub-j
-overflow_sub-j c = search froms
-
 pub lay_whole-requires : goal.lay_whole-requires
 lay_whole-requires c = search froms
 

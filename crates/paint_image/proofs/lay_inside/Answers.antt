@@ -1,9 +1,6 @@
 use Rattle.paint_image.proofs.Laws.{laying}
 use Rattle.paint_image.proofs.lay_inside.Goals as goal
 
-pub returns-then-b-a : goal.returns-then-b-a
-returns-then-b-a c = search laying
-
 pub returns-then-r-eq0 : goal.returns-then-r-eq0
 returns-then-r-eq0 c = search laying
 

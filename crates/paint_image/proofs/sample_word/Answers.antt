@@ -1,9 +1,6 @@
 use Rattle.paint_image.proofs.Laws.{kinds}
 use Rattle.paint_image.proofs.sample_word.Goals as goal
 
-pub grey-requires : goal.grey-requires
-grey-requires c = search kinds
-
 pub returns-then-each-eq3 : goal.returns-then-each-eq3
 returns-then-each-eq3 c = search kinds
 

@@ -1,43 +1,10 @@
 use native.Mathlib.Omega.{arith}
-use Rattle.paint_layer.proofs.Laws.{go_more, chosen_put, kept_put, over_put, flat_put}
-use Rattle.paint_layer.proofs.Laws.{going}
+use Rattle.paint_words.specs.Words.{octets_of}
+use Rattle.paint_coat.specs.Coat.{over, flat, chosen_by, kept}
+use Rattle.paint_choice.specs.Choice.{bits_from}
+use Rattle.paint_layer.proofs.Laws.{putting}
+use Rattle.paint_layer.proofs.Parts.{up_to}
 use Rattle.paint_layer.proofs.hide_word.Goals as goal
 
-pub loop-x-init : goal.loop-x-init
-loop-x-init c = search going
-
-pub overflow_add-a : goal.overflow_add-a
-overflow_add-a c = search going
-
-pub overflow_mul-a : goal.overflow_mul-a
-overflow_mul-a c = search going
-
-pub word-up-requires : goal.word-up-requires
-word-up-requires c = search going
-
-pub overflow_add-a-in-loop-x : goal.overflow_add-a-in-loop-x
-overflow_add-a-in-loop-x c = search going
-
-pub overflow_mul-a-in-loop-x : goal.overflow_mul-a-in-loop-x
-overflow_mul-a-in-loop-x c = search going
-
-pub bounds-m-x : goal.bounds-m-x
-bounds-m-x c = search going
-
-pub either-requires : goal.either-requires
-either-requires c = search going
-
-pub put_word-requires : goal.put_word-requires
-put_word-requires c = search going
-
-pub overflow_add-x : goal.overflow_add-x
-overflow_add-x c = search going
-
-pub loop-x-smaller : goal.loop-x-smaller
-loop-x-smaller c = search going
-
-pub loop-x-preserved : goal.loop-x-preserved
-loop-x-preserved c = go_more _ _ _ _ _ _ _ _ c.put_word.ensures (chosen_put _ _ _ _ _ _ _ _ _ (over_put _ _ _ _ (flat_put _ _)) (kept_put _ _ _ c.word-up.ensures) c.either.ensures) (omega arith) c.loop-x.invariant
-
 pub returns : goal.returns
-returns c = search going
+returns c = up_to _ _ _ _ (omega arith) _ (c.coat_by.ensures (chosen_by (bits_from c.args.m.now c.args.x 0) (over (flat (octets_of c.args.w))) kept) (λ i w k b q. search putting))

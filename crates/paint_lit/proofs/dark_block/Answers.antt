@@ -10,12 +10,6 @@ overflow_add-all c = search looking
 pub bounds-sel-i : goal.bounds-sel-i
 bounds-sel-i c = search looking
 
-pub overflow_add-j : goal.overflow_add-j
-overflow_add-j c = search looking
-
-pub loop-j-smaller : goal.loop-j-smaller
-loop-j-smaller c = search looking
-
 pub loop-j-preserved : goal.loop-j-preserved
 loop-j-preserved c = search looking
 

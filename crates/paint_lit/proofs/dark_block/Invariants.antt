@@ -1,10 +1,6 @@
 use Rattle.paint_lit.proofs.Laws.{Looked}
-use Prim.Native.Nat.{◌-◌}
 use Rattle.paint_rules.specs.Floor.{dark}
 use Rattle.paint_lit.proofs.dark_block.Given as goal
 
 abbrev pub invariant-loop-j : goal.invariant-loop-j
 invariant-loop-j l = Looked dark l.sel l.i l.all l.j
-
-abbrev pub decreases-loop-j : goal.decreases-loop-j
-decreases-loop-j l = 64 - l.j

@@ -1,3 +1,6 @@
+use Prim.Native.Nat.{◌+◌, ◌*◌}
+use mathlib.Core.Path.{◌≡◌}
+use Rattle.line_fetch.specs.Rows.{row_at}
 use Rattle.paint_show.proofs.Laws.{flooring}
 use Rattle.paint_show.proofs.lay_floor.Goals as goal
 
@@ -11,4 +14,4 @@ pub lay_image-requires : goal.lay_image-requires
 lay_image-requires c = search flooring
 
 pub returns : goal.returns
-returns c = search flooring
+returns c = let e : c.row_at-r.result ≡ row_at c.args.rows.now (c.args.c * 2 + 1) = cc in search flooring

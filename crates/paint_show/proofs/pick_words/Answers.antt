@@ -40,12 +40,6 @@ either-requires c = search pickings
 pub put_word-requires : goal.put_word-requires
 put_word-requires c = search pickings
 
-pub overflow_add-p : goal.overflow_add-p
-overflow_add-p c = search pickings
-
-pub loop-p-smaller : goal.loop-p-smaller
-loop-p-smaller c = search pickings
-
 pub loop-p-preserved : goal.loop-p-preserved
 loop-p-preserved c = coat_more _ _ _ _ _ _ _ _ c.put_word.ensures (word_picked _ _ _ _ _ _ _ _ _ _ c.word-low.ensures c.word-up.ensures c.either.ensures) (omega arith) c.loop-p.invariant
 

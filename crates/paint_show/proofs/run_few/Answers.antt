@@ -10,12 +10,6 @@ bounds-s-i c = search running
 pub returns-then-s-i : goal.returns-then-s-i
 returns-then-s-i c = search running
 
-pub overflow_add-i : goal.overflow_add-i
-overflow_add-i c = search running
-
-pub loop-i-smaller : goal.loop-i-smaller
-loop-i-smaller c = search running
-
 pub loop-i-preserved : goal.loop-i-preserved
 loop-i-preserved c = search running
 

@@ -1,16 +1,6 @@
 use native.Mathlib.Omega.{arith}
 use Rattle.paint_table.proofs.Laws.{column_own, column_first}
-use Rattle.paint_table.proofs.Laws.{columns}
 use Rattle.paint_table.proofs.put_column.Goals as goal
-
-pub row_at-r-requires : goal.row_at-r-requires
-row_at-r-requires c = search columns
-
-pub ready-requires : goal.ready-requires
-ready-requires c = search columns
-
-pub put_places-requires : goal.put_places-requires
-put_places-requires c = search columns
 
 pub returns-then-ready : goal.returns-then-ready
 returns-then-ready c = column_own _ _ _ _ _ _ _ _ _ _ c.requires.7 (let h = c.requires.1 in let k = c.requires.2 in omega arith) _ _ c.row_at-r.ensures c.ready.ensures c.if-ready.true c.put_places.ensures

@@ -1,8 +1,9 @@
+use Rattle.laws.proofs.Asked.{asked}
 use Rattle.read_end.proofs.Laws.{ending}
 use Rattle.read_end.proofs.judge_end.Goals as goal
 
-pub returns-in-Refused : goal.returns-in-Refused
-returns-in-Refused c = search ending
+pub returns-in_err-field : goal.returns-in_err-field
+returns-in_err-field c = search (asked, ending)
 
-pub returns-in-Fine : goal.returns-in-Fine
-returns-in-Fine c = search ending
+pub returns : goal.returns
+returns c = search ending

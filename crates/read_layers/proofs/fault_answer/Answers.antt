@@ -1,22 +1,22 @@
 use Rattle.read_layers.proofs.Laws.{fault_fits, fault_told}
-use Rattle.answers.specs.Answers.{place_of}
+use Rattle.answers.specs.Answers.{refusal_place}
 use Rattle.mode1_rules.specs.Reading.{fault_of}
 use Rattle.read_layers.proofs.fault_answer.Goals as goal
 
 pub overflow_cast-result : goal.overflow_cast-result
-unfolding place_of fault_of
+unfolding refusal_place fault_of
 overflow_cast-result c = fault_fits _ _ c.requires c.in-Short.is
 
 pub overflow_cast-result-in-BadLength : goal.overflow_cast-result-in-BadLength
-unfolding place_of fault_of
+unfolding refusal_place fault_of
 overflow_cast-result-in-BadLength c = fault_fits _ _ c.requires c.in-BadLength.is
 
 pub overflow_cast-result-in-BadRes : goal.overflow_cast-result-in-BadRes
-unfolding place_of fault_of
+unfolding refusal_place fault_of
 overflow_cast-result-in-BadRes c = fault_fits _ _ c.requires c.in-BadRes.is
 
 pub overflow_cast-result-in-BadLayer : goal.overflow_cast-result-in-BadLayer
-unfolding place_of fault_of
+unfolding refusal_place fault_of
 overflow_cast-result-in-BadLayer c = fault_fits _ _ c.requires c.in-BadLayer.is
 
 pub returns-in-Short : goal.returns-in-Short

@@ -1,11 +1,11 @@
-use Rattle.read_page.proofs.Whole.{opening}
+use Rattle.read_page.proofs.Whole.{judged_stop, page_refused, page_begun, page_whole}
 use Rattle.read_page.proofs.judge_page.Goals as goal
 
+pub returns-in_err-judge_start : goal.returns-in_err-judge_start
+returns-in_err-judge_start c = judged_stop _ _ _ _ c.from_residual.ensures (page_refused c.args.s.now c.judge_start.ensures _ c.in_err-judge_start.was)
+
 pub judge_rest-requires : goal.judge_rest-requires
-judge_rest-requires c = search opening
+judge_rest-requires c = page_begun c.args.s.now c.judge_start.ensures _ c.requires c.in_ok-judge_start.was
 
-pub returns-in-Refused : goal.returns-in-Refused
-returns-in-Refused c = search opening
-
-pub returns-in-Fine : goal.returns-in-Fine
-returns-in-Fine c = search opening
+pub returns : goal.returns
+returns c = page_whole c.args.s.now c.judge_start.ensures _ _ _ c.in_ok-judge_start.was c.judge_rest.ensures

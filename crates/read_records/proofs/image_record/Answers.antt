@@ -5,12 +5,12 @@ use Rattle.read_records.proofs.image_record.Goals as goal
 pub narrow-requires : goal.narrow-requires
 narrow-requires c = search image_laws
 
-pub narrow-requires-in-There : goal.narrow-requires-in-There
-narrow-requires-in-There c = search image_laws
+pub narrow-requires-in-Some : goal.narrow-requires-in-Some
+narrow-requires-in-Some c = search image_laws
 
-pub returns-in-There : goal.returns-in-There
+pub returns-in-Some : goal.returns-in-Some
 unfolding Kinds.image_record
-returns-in-There c = search image_laws
+returns-in-Some c = search image_laws
 
-pub returns-in-Absent : goal.returns-in-Absent
-returns-in-Absent c = search image_laws
+pub returns-in-None : goal.returns-in-None
+returns-in-None c = search image_laws

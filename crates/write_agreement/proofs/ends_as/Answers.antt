@@ -1,8 +1,6 @@
-use Rattle.write_agreement.proofs.Laws.{agreeing}
+use borrow.Author.Rules.{rules}
+use Rattle.write_agreement.proofs.Laws.{ends_compared}
 use Rattle.write_agreement.proofs.ends_as.Goals as goal
 
-pub returns-in-Refused : goal.returns-in-Refused
-returns-in-Refused c = search agreeing
-
-pub returns-in-Ends : goal.returns-in-Ends
-returns-in-Ends c = search agreeing
+pub returns : goal.returns
+returns c = search (rules, ends_compared)

@@ -4,17 +4,8 @@ use Rattle.write_page.proofs.put_stripes.Goals as goal
 pub loop-i-init : goal.loop-i-init
 loop-i-init c = search lining
 
-pub stripe_end-e-requires : goal.stripe_end-e-requires
-stripe_end-e-requires c = search lining
-
-pub overflow_sub-e : goal.overflow_sub-e
-overflow_sub-e c = search lining
-
 pub put_stripe-at-requires : goal.put_stripe-at-requires
 put_stripe-at-requires c = search lining
-
-pub loop-i-smaller : goal.loop-i-smaller
-loop-i-smaller c = search lining
 
 pub loop-i-preserved : goal.loop-i-preserved
 loop-i-preserved c = search lining

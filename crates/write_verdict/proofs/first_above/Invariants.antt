@@ -1,9 +1,5 @@
 use Rattle.write_verdict.proofs.Loops.{Looking}
-use Prim.Native.Nat.{◌-◌}
 use Rattle.write_verdict.proofs.first_above.Given as goal
 
 abbrev pub invariant-loop-i : goal.invariant-loop-i
 invariant-loop-i l = Looking l.most l.s l.n l.i
-
-abbrev pub decreases-loop-i : goal.decreases-loop-i
-decreases-loop-i l = l.n - l.i

@@ -1,14 +1,6 @@
-use Rattle.write_verdict.proofs.Laws.{passing}
+use borrow.Author.Rules.{rules}
+use Rattle.write_verdict.proofs.Short.{pass_short}
 use Rattle.write_verdict.proofs.pass_record.Goals as goal
 
-pub data_matches-requires : goal.data_matches-requires
-data_matches-requires c = search passing
-
-pub returns-then-data_matches : goal.returns-then-data_matches
-returns-then-data_matches c = search passing
-
-pub returns-else-data_matches : goal.returns-else-data_matches
-returns-else-data_matches c = search passing
-
-pub returns-else-data_there : goal.returns-else-data_there
-returns-else-data_there c = search passing
+pub returns-then-not-data_there : goal.returns-then-not-data_there
+returns-then-not-data_there c = search (rules, pass_short)

@@ -1,0 +1,15 @@
+use native.Mathlib.Omega.{arith}
+use Rattle.paint_coat.proofs.Laws.{load_fits, samples_more, samples_all}
+use Rattle.paint_coat.proofs.lay_by.Goals as goal
+
+pub load-v-requires : goal.load-v-requires
+load-v-requires g c = load_fits _ _ _ _ _ _ _ c.SIZE.ensures c.loop-q-test.true g.met.S.Sample.least c.loads-m.ensures.2
+
+pub loop-q-preserved : goal.loop-q-preserved
+loop-q-preserved g c = samples_more _ _ _ _ _ _ _ _ c.loop-q.invariant _ _ _ c.SIZE.ensures c.load-v.ensures c.lay_flat.ensures
+
+pub returns-then-m-n : goal.returns-then-m-n
+returns-then-m-n g c =
+    let a = samples_all _ _ _ _ _ _ _ _ c.loop-q.invariant c.loads-m.result (omega arith) (omega arith) in
+    let b = samples_more _ _ _ _ _ _ _ _ a _ _ _ c.SIZE-then-m-n.ensures c.fetch-v.ensures c.lay_flat-then-m-n.ensures in
+    samples_all _ _ _ _ _ _ _ _ b c.args.n (omega arith) (omega arith)

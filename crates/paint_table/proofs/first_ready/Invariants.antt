@@ -1,8 +1,0 @@
-use Prim.Native.Nat.{◌-◌, ◌+◌, ◌≤◌}
-use Rattle.paint_table.proofs.first_ready.Given as goal
-
-abbrev pub invariant-loop-c : goal.invariant-loop-c
-invariant-loop-c l = (l.f ≤ l.c) × (l.c ≤ l.pairs + 1)
-
-abbrev pub decreases-loop-c : goal.decreases-loop-c
-decreases-loop-c l = l.pairs + 1 - l.c

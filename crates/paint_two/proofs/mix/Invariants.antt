@@ -1,0 +1,10 @@
+use Prim.Native.Nat.{◌+◌}
+use Rattle.paint_coat.specs.Coat.{over, chosen_by}
+use Rattle.paint_coat.proofs.Laws.{Coating}
+use Rattle.paint_choice.specs.Choice.{bits_from}
+use Rattle.paint_two.specs.Two.{shown}
+use Rattle.paint_two.proofs.mix.Given as goal
+
+abbrev pub invariant-loop-x : goal.invariant-loop-x
+invariant-loop-x g l =
+    Coating (chosen_by (bits_from l.m l.a 0) (over (shown (g.L.Source.shows l.low l.d) 0 l.a)) (over (shown (g.U.Source.shows l.up l.d) 0 l.a))) l.initial.out (l.a + l.p) (l.a + l.q) l.out (l.a + l.x)

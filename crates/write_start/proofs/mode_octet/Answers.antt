@@ -1,5 +1,0 @@
-use Rattle.write_start.proofs.Laws.{starting}
-use Rattle.write_start.proofs.mode_octet.Goals as goal
-
-pub returns : goal.returns
-returns c = search starting

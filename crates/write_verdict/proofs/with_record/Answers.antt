@@ -1,5 +1,0 @@
-use Rattle.write_verdict.proofs.Laws.{passing}
-use Rattle.write_verdict.proofs.with_record.Goals as goal
-
-pub returns : goal.returns
-returns c = search passing
