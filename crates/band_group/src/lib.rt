@@ -8,14 +8,17 @@ ghost use Rattle.paint_coat.specs.Coat.{Coated, over};
 ghost use Rattle.paint_floor.specs.Floors.{PlainRows};
 ghost use Rattle.band_group.specs.Group.{bit_rows, row_four, group_four, mixed_four, part_four, BothPainted, Tail};
 
-use paint_line::Scratch;
 use sheet_rules::Colour;
 
 // The n pixels of a line that begins at pixel `first`, by its rows.
 pub fn paint_at(
     out: &mut [u8],
     first: usize,
-    work: &mut Scratch,
+    sel: &mut [u8],
+    bits: &mut [u8],
+    row: &mut [u8],
+    t: &mut [usize],
+    lit: &mut [u8],
     s: &[u8],
     d: &[u8],
     rows: &[usize],
@@ -23,11 +26,24 @@ pub fn paint_at(
     n: usize,
     unseen: Colour,
 )
-    requires { RowsFit s.now d.now rows.now pairs × PlainRows rows.now pairs × (pairs ≤ 7) × (n < 65536) × ((first + n) * 4 ≤ length out.old) }
+    requires { RowsFit s.now d.now rows.now pairs × PlainRows rows.now pairs × (pairs ≤ 7) × (n < 65536) × ((first + n) * 4 ≤ length out.old) × (1536 ≤ length sel.old) × (1560 ≤ length bits.old) × (2048 ≤ length row.old) × (192 ≤ length t.old) × (16 ≤ length lit.old) }
     ensures { Coated (over (row_four unseen s.now d.now rows.now pairs first)) out.old first (first + n) out.new }
 {
     let at = first * 4;
-    paint_line::paint_line(&mut out[at..], work, s, d, rows, pairs, n, unseen);
+    paint_line::paint_line(
+        &mut out[at..],
+        sel,
+        bits,
+        row,
+        t,
+        lit,
+        s,
+        d,
+        rows,
+        pairs,
+        n,
+        unseen,
+    );
 }
 
 // Layer 2 gives n all along.
@@ -44,19 +60,25 @@ fn paint_bit(
     first: usize,
     rows: &mut [usize],
     n: usize,
-    work: &mut Scratch,
+    sel: &mut [u8],
+    bits: &mut [u8],
+    row: &mut [u8],
+    t: &mut [usize],
+    lit: &mut [u8],
     s: &[u8],
     d: &[u8],
     pairs: usize,
     count: usize,
     unseen: Colour,
 )
-    requires { RowsFit s.now d.now rows.old pairs × PlainRows rows.old pairs × (1 ≤ pairs) × (pairs ≤ 7) × (count < 65536) × ((first + count) * 4 ≤ length out.old) }
+    requires { RowsFit s.now d.now rows.old pairs × PlainRows rows.old pairs × (1 ≤ pairs) × (pairs ≤ 7) × (count < 65536) × ((first + count) * 4 ≤ length out.old) × (1536 ≤ length sel.old) × (1560 ≤ length bits.old) × (2048 ≤ length row.old) × (192 ≤ length t.old) × (16 ≤ length lit.old) }
     ensures { Coated (over (row_four unseen s.now d.now (bit_rows rows.old n) pairs first)) out.old first (first + count) out.new
         × (rows.new ≡ bit_rows rows.old n) }
 {
     give_bit(rows, n);
-    paint_at(out, first, work, s, d, rows, pairs, count, unseen);
+    paint_at(
+        out, first, sel, bits, row, t, lit, s, d, rows, pairs, count, unseen,
+    );
 }
 
 // The first two lines of a group, the second up to column c.
@@ -64,7 +86,11 @@ fn paint_both(
     out: &mut [u8],
     first: usize,
     rows: &mut [usize],
-    work: &mut Scratch,
+    sel: &mut [u8],
+    bits: &mut [u8],
+    row: &mut [u8],
+    t: &mut [usize],
+    lit: &mut [u8],
     s: &[u8],
     d: &[u8],
     pairs: usize,
@@ -72,11 +98,28 @@ fn paint_both(
     width: usize,
     unseen: Colour,
 )
-    requires { RowsFit s.now d.now rows.old pairs × PlainRows rows.old pairs × (1 ≤ pairs) × (pairs ≤ 7) × (c ≤ width) × (width < 65536) × ((first + width + c) * 4 ≤ length out.old) }
+    requires { RowsFit s.now d.now rows.old pairs × PlainRows rows.old pairs × (1 ≤ pairs) × (pairs ≤ 7) × (c ≤ width) × (width < 65536) × ((first + width + c) * 4 ≤ length out.old) × (1536 ≤ length sel.old) × (1560 ≤ length bits.old) × (2048 ≤ length row.old) × (192 ≤ length t.old) × (16 ≤ length lit.old) }
     ensures { BothPainted unseen s.now d.now rows.old pairs first width c out.old out.new }
 {
-    paint_bit(out, first, rows, 0, work, s, d, pairs, width, unseen);
-    paint_bit(out, first + width, rows, 1, work, s, d, pairs, c, unseen);
+    paint_bit(
+        out, first, rows, 0, sel, bits, row, t, lit, s, d, pairs, width, unseen,
+    );
+    paint_bit(
+        out,
+        first + width,
+        rows,
+        1,
+        sel,
+        bits,
+        row,
+        t,
+        lit,
+        s,
+        d,
+        pairs,
+        c,
+        unseen,
+    );
 }
 
 // From where on the lines are alike, since a pair above pair 1 of which nothing was read hides what lies below.
@@ -151,7 +194,11 @@ pub fn put_group(
     out: &mut [u8],
     first: usize,
     rows: &mut [usize],
-    work: &mut Scratch,
+    sel: &mut [u8],
+    bits: &mut [u8],
+    row: &mut [u8],
+    t: &mut [usize],
+    lit: &mut [u8],
     s: &[u8],
     d: &[u8],
     pairs: usize,
@@ -161,10 +208,12 @@ pub fn put_group(
     width: usize,
     unseen: Colour,
 )
-    requires { RowsFit s.now d.now rows.old pairs × PlainRows rows.old pairs × (1 ≤ pairs) × (pairs ≤ 7) × (2 ≤ g) × (width < 65536) × (at + g * step + width ≤ length d.now + step) × ((first + g * width) * 4 ≤ length out.old) }
+    requires { RowsFit s.now d.now rows.old pairs × PlainRows rows.old pairs × (1 ≤ pairs) × (pairs ≤ 7) × (2 ≤ g) × (width < 65536) × (at + g * step + width ≤ length d.now + step) × ((first + g * width) * 4 ≤ length out.old) × (1536 ≤ length sel.old) × (1560 ≤ length bits.old) × (2048 ≤ length row.old) × (192 ≤ length t.old) × (16 ≤ length lit.old) }
     ensures { Coated (over (group_four unseen s.now d.now rows.old pairs at step first width)) out.old first (first + g * width) out.new }
 {
     let c = tail_of(s, d, rows, pairs, width);
-    paint_both(out, first, rows, work, s, d, pairs, c, width, unseen);
+    paint_both(
+        out, first, rows, sel, bits, row, t, lit, s, d, pairs, c, width, unseen,
+    );
     mix_lines(out, first, d, at, step, c, width, g);
 }

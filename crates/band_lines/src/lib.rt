@@ -13,7 +13,7 @@ use line_fetch::ROWS_SIZE;
 use line_lanes::LANES_SIZE;
 use line_planes::Listing;
 use paint_gather::{FLOORS, TABLE};
-use paint_line::{BITS, PART, ROW, Scratch};
+use paint_line::{BITS, PART, ROW};
 use pixel_rules::MainPos;
 use sheet_rules::{Colour, Extent};
 
@@ -58,7 +58,11 @@ fn put_from(
     out: &mut [u8],
     y: usize,
     rows: &mut [usize],
-    work: &mut Scratch,
+    sel: &mut [u8],
+    bits: &mut [u8],
+    row: &mut [u8],
+    t: &mut [usize],
+    lit: &mut [u8],
     lanes: &[usize],
     sheet: &[u8],
     extent: Extent,
@@ -67,7 +71,7 @@ fn put_from(
     unseen: Colour,
 ) -> usize
     requires { SomeLinesFit sheet.now extent samples.now lanes.now y width (length out.old) (length rows.old)
-        × (rows.old ≡ put_at rows.old 0 (rows_from lanes.now (record { 0 = y }) extent.layers)) }
+        × (rows.old ≡ put_at rows.old 0 (rows_from lanes.now (record { 0 = y }) extent.layers)) × (1536 ≤ length sel.old) × (1560 ≤ length bits.old) × (2048 ≤ length row.old) × (192 ≤ length t.old) × (16 ≤ length lit.old) }
     ensures { SomePut unseen sheet.now extent samples.now lanes.now y width out.old result out.new }
 {
     let first = y * width;
@@ -82,7 +86,11 @@ fn put_from(
                 out,
                 first,
                 rows,
-                work,
+                sel,
+                bits,
+                row,
+                t,
+                lit,
                 sheet,
                 samples,
                 n / 2,
@@ -95,7 +103,21 @@ fn put_from(
             return g;
         }
     }
-    band_group::paint_at(out, first, work, sheet, samples, rows, n / 2, width, unseen);
+    band_group::paint_at(
+        out,
+        first,
+        sel,
+        bits,
+        row,
+        t,
+        lit,
+        sheet,
+        samples,
+        rows,
+        n / 2,
+        width,
+        unseen,
+    );
     1
 }
 
@@ -104,7 +126,11 @@ fn put_some(
     out: &mut [u8],
     y: usize,
     rows: &mut [usize],
-    work: &mut Scratch,
+    sel: &mut [u8],
+    bits: &mut [u8],
+    row: &mut [u8],
+    t: &mut [usize],
+    lit: &mut [u8],
     lanes: &[usize],
     sheet: &[u8],
     extent: Extent,
@@ -112,12 +138,12 @@ fn put_some(
     width: usize,
     unseen: Colour,
 ) -> usize
-    requires { SomeLinesFit sheet.now extent samples.now lanes.now y width (length out.old) (length rows.old) }
+    requires { SomeLinesFit sheet.now extent samples.now lanes.now y width (length out.old) (length rows.old) × (1536 ≤ length sel.old) × (1560 ≤ length bits.old) × (2048 ≤ length row.old) × (192 ≤ length t.old) × (16 ≤ length lit.old) }
     ensures { SomePut unseen sheet.now extent samples.now lanes.now y width out.old result out.new }
 {
     line_lanes::lane_rows(rows, lanes, extent.layers as usize, MainPos(y));
     put_from(
-        out, y, rows, work, lanes, sheet, extent, samples, width, unseen,
+        out, y, rows, sel, bits, row, t, lit, lanes, sheet, extent, samples, width, unseen,
     )
 }
 
@@ -138,17 +164,16 @@ pub fn put_lines(
     let mut lanes: [usize; LANES_SIZE] = [0; LANES_SIZE];
     line_lanes::put_lanes(&mut lanes, sheet, extent, list);
     let mut rows: [usize; ROWS_SIZE] = [0; ROWS_SIZE];
-    let mut work = Scratch {
-        sel: [0; PART],
-        bits: [0; BITS],
-        row: [0; ROW],
-        table: [0; TABLE],
-        lit: [0; FLOORS],
-    };
+    let mut sel: [u8; PART] = [0; PART];
+    let mut bits: [u8; BITS] = [0; BITS];
+    let mut row: [u8; ROW] = [0; ROW];
+    let mut t: [usize; TABLE] = [0; TABLE];
+    let mut lit: [u8; FLOORS] = [0; FLOORS];
     let mut y: usize = 0;
     while y < height {
         y += put_some(
-            out, y, &mut rows, &mut work, &lanes, sheet, extent, samples, width, unseen,
+            out, y, &mut rows, &mut sel, &mut bits, &mut row, &mut t, &mut lit, &lanes, sheet,
+            extent, samples, width, unseen,
         );
     }
 }

@@ -27,21 +27,13 @@ pub const BITS: usize = PART + 24;
 // The octets of a row of 512 pixels.
 pub const ROW: usize = 2048;
 
-// What a row is painted with: the floors of a piece, a mask's samples there, a row of 512 pixels, and the table of places with the floors that are in it.
-// It is lent, since to clear it for every line would take as long as a cheap line.
-#[derive(Drop)]
-pub struct Scratch {
-    pub sel: [u8; PART],
-    pub bits: [u8; BITS],
-    pub row: [u8; ROW],
-    pub table: [usize; TABLE],
-    pub lit: [u8; FLOORS],
-}
-
 // The pixels a up to b, whose floors are known, and the masks above them too: what the floors give.
 fn show_part(
     out: &mut [u8],
-    work: &mut Scratch,
+    sel: &[u8],
+    row: &mut [u8],
+    t: &mut [usize],
+    lit: &mut [u8],
     s: &[u8],
     d: &[u8],
     rows: &[usize],
@@ -52,39 +44,14 @@ fn show_part(
     unseen: Colour,
     u: u32,
 )
-    requires { RowsFit s.now d.now rows.now pairs × PlainRows rows.now pairs × Sure s.now d.now rows.now f a (b - a) pairs work.old.sel × MasksTold rows.now f pairs
-        × (f ≤ pairs) × (pairs ≤ 7) × (a ≤ b) × (b < 65536) × (b * 4 ≤ length out.old) × (octets_of u ≡ four_of unseen None) }
+    requires { RowsFit s.now d.now rows.now pairs × PlainRows rows.now pairs × Sure s.now d.now rows.now f a (b - a) pairs sel.now × MasksTold rows.now f pairs
+        × (f ≤ pairs) × (pairs ≤ 7) × (a ≤ b) × (b < 65536) × (b * 4 ≤ length out.old) × (2048 ≤ length row.old) × (octets_of u ≡ four_of unseen None) × (192 ≤ length t.old) × (16 ≤ length lit.old) }
     ensures { Coated (decided unseen s.now d.now rows.now pairs) out.old a b out.new }
 {
     let each = paint_table::sample_size(s, d, rows, pairs, f);
-    let step = paint_table::make_table(
-        &mut work.table,
-        &mut work.lit,
-        s,
-        d,
-        rows,
-        pairs,
-        f,
-        each,
-        a,
-        b,
-    );
+    let step = paint_table::make_table(t, lit, s, d, rows, pairs, f, each, a, b);
     paint_show::show_floors(
-        out,
-        &work.sel,
-        &mut work.row,
-        &work.table,
-        &work.lit,
-        s,
-        d,
-        rows,
-        pairs,
-        f,
-        step,
-        each,
-        a,
-        b,
-        u,
+        out, sel, row, t, lit, s, d, rows, pairs, f, step, each, a, b, u,
     );
 }
 
@@ -119,7 +86,11 @@ fn few_layers(
 // The pixels a up to b, as many as the scratch has room for at most; pair f shows its image layer over them.
 fn paint_piece(
     out: &mut [u8],
-    work: &mut Scratch,
+    sel: &mut [u8],
+    bits: &mut [u8],
+    row: &mut [u8],
+    t: &mut [usize],
+    lit: &mut [u8],
     s: &[u8],
     d: &[u8],
     rows: &[usize],
@@ -130,35 +101,26 @@ fn paint_piece(
     unseen: Colour,
     u: u32,
 )
-    requires { RowsFit s.now d.now rows.now pairs × PlainRows rows.now pairs × Starts s.now d.now rows.now pairs a b f × (f < pairs) × (pairs ≤ 7) × (a < b) × (b < 65536) × (b * 4 ≤ length out.old) × (b - a ≤ 1536) × (octets_of u ≡ four_of unseen None) }
+    requires { RowsFit s.now d.now rows.now pairs × PlainRows rows.now pairs × Starts s.now d.now rows.now pairs a b f × (f < pairs) × (pairs ≤ 7) × (a < b) × (b < 65536) × (b * 4 ≤ length out.old) × (b - a ≤ length sel.old)
+        × (b - a + 24 ≤ length bits.old) × (2048 ≤ length row.old) × (octets_of u ≡ four_of unseen None) × (192 ≤ length t.old) × (16 ≤ length lit.old) }
     ensures { Coated (decided unseen s.now d.now rows.now pairs) out.old a b out.new }
 {
     if few_layers(s, d, rows, pairs, f, a, b) {
-        paint_lit::lay_lit(
-            out,
-            &mut work.sel,
-            &mut work.row,
-            &mut work.bits,
-            s,
-            d,
-            rows,
-            pairs,
-            f,
-            a,
-            b,
-            unseen,
-            u,
-        );
+        paint_lit::lay_lit(out, sel, row, bits, s, d, rows, pairs, f, a, b, unseen, u);
         return;
     }
-    paint_floor::put_floors(&mut work.sel, &mut work.bits, s, d, rows, pairs, f, a, b);
-    show_part(out, work, s, d, rows, pairs, f, a, b, unseen, u);
+    paint_floor::put_floors(sel, bits, s, d, rows, pairs, f, a, b);
+    show_part(out, sel, row, t, lit, s, d, rows, pairs, f, a, b, unseen, u);
 }
 
 // A part piece by piece.
 fn paint_pieces(
     out: &mut [u8],
-    work: &mut Scratch,
+    sel: &mut [u8],
+    bits: &mut [u8],
+    row: &mut [u8],
+    t: &mut [usize],
+    lit: &mut [u8],
     s: &[u8],
     d: &[u8],
     rows: &[usize],
@@ -169,13 +131,16 @@ fn paint_pieces(
     unseen: Colour,
     u: u32,
 )
-    requires { RowsFit s.now d.now rows.now pairs × PlainRows rows.now pairs × Starts s.now d.now rows.now pairs a b f × (f < pairs) × (pairs ≤ 7) × (a ≤ b) × (b < 65536) × (b * 4 ≤ length out.old) × (octets_of u ≡ four_of unseen None) }
+    requires { RowsFit s.now d.now rows.now pairs × PlainRows rows.now pairs × Starts s.now d.now rows.now pairs a b f × (f < pairs) × (pairs ≤ 7) × (a ≤ b) × (b < 65536) × (b * 4 ≤ length out.old) × (1536 ≤ length sel.old)
+        × (1560 ≤ length bits.old) × (2048 ≤ length row.old) × (octets_of u ≡ four_of unseen None) × (192 ≤ length t.old) × (16 ≤ length lit.old) }
     ensures { Coated (decided unseen s.now d.now rows.now pairs) out.old a b out.new }
 {
     let mut x = a;
     while x < b {
         let e = paint_image::within(x + PART, x, b);
-        paint_piece(out, work, s, d, rows, pairs, f, x, e, unseen, u);
+        paint_piece(
+            out, sel, bits, row, t, lit, s, d, rows, pairs, f, x, e, unseen, u,
+        );
         x = e;
     }
 }
@@ -183,7 +148,11 @@ fn paint_pieces(
 // The pixels a up to b: where one layer shows all along, or nothing can be known, no mask is looked at.
 fn paint_part(
     out: &mut [u8],
-    work: &mut Scratch,
+    sel: &mut [u8],
+    bits: &mut [u8],
+    row: &mut [u8],
+    t: &mut [usize],
+    lit: &mut [u8],
     s: &[u8],
     d: &[u8],
     rows: &[usize],
@@ -193,7 +162,8 @@ fn paint_part(
     unseen: Colour,
     u: u32,
 )
-    requires { RowsFit s.now d.now rows.now pairs × PlainRows rows.now pairs × (pairs ≤ 7) × (a ≤ b) × (b < 65536) × (b * 4 ≤ length out.old) × (octets_of u ≡ four_of unseen None) }
+    requires { RowsFit s.now d.now rows.now pairs × PlainRows rows.now pairs × (pairs ≤ 7) × (a ≤ b) × (b < 65536) × (b * 4 ≤ length out.old) × (1536 ≤ length sel.old)
+        × (1560 ≤ length bits.old) × (2048 ≤ length row.old) × (octets_of u ≡ four_of unseen None) × (192 ≤ length t.old) × (16 ≤ length lit.old) }
     ensures { Coated (decided unseen s.now d.now rows.now pairs) out.old a b out.new }
 {
     let f = paint_floor::first_pair(s, d, rows, pairs, a, b);
@@ -205,7 +175,9 @@ fn paint_part(
         paint_show::lay_floor(out, a, s, d, rows, pairs, f as u8, a, b, u);
         return;
     }
-    paint_pieces(out, work, s, d, rows, pairs, f, a, b, unseen, u);
+    paint_pieces(
+        out, sel, bits, row, t, lit, s, d, rows, pairs, f, a, b, unseen, u,
+    );
 }
 
 // A place that lies between two, or else the second.
@@ -270,10 +242,16 @@ fn part_end(s: &[u8], d: &[u8], rows: &[usize], pairs: usize, a: usize, b: usize
     cut(left, a, right)
 }
 
-// The whole row. What it works with is lent.
+// The whole row. What it works with is lent, since to clear it for every line would take as long as a cheap line: the floors of a piece, a mask's samples
+// there, a row of 512 pixels, and the table of places with the floors that are in it. Five slices, not one struct: callers lend what they have, whatever
+// its length, if it is long enough.
 pub fn paint_line(
     out: &mut [u8],
-    work: &mut Scratch,
+    sel: &mut [u8],
+    bits: &mut [u8],
+    row: &mut [u8],
+    t: &mut [usize],
+    lit: &mut [u8],
     s: &[u8],
     d: &[u8],
     rows: &[usize],
@@ -281,14 +259,17 @@ pub fn paint_line(
     width: usize,
     unseen: Colour,
 )
-    requires { RowsFit s.now d.now rows.now pairs × PlainRows rows.now pairs × (pairs ≤ 7) × (width * 4 ≤ length out.old) × (width < 65536) }
+    requires { RowsFit s.now d.now rows.now pairs × PlainRows rows.now pairs × (pairs ≤ 7) × (width * 4 ≤ length out.old) × (width < 65536)
+        × (1536 ≤ length sel.old) × (1560 ≤ length bits.old) × (2048 ≤ length row.old) × (192 ≤ length t.old) × (16 ≤ length lit.old) }
     ensures { out.new ≡ put_at out.old 0 (pixels unseen (λ (x : MainPos). decide (row_stack s.now d.now rows.now x) pairs) width) }
 {
     let u = paint_words::word_of(unseen.c0, unseen.c1, unseen.c2, 0);
     let mut x = 0;
     while x < width {
         let e = part_end(s, d, rows, pairs, x, width);
-        paint_part(out, work, s, d, rows, pairs, x, e, unseen, u);
+        paint_part(
+            out, sel, bits, row, t, lit, s, d, rows, pairs, x, e, unseen, u,
+        );
         x = e;
     }
 }
@@ -312,12 +293,12 @@ pub fn draw_line(
         line_put::put_pixels(out, s, d, rows, pairs, width, unseen);
         return;
     }
-    let mut work = Scratch {
-        sel: [0; PART],
-        bits: [0; BITS],
-        row: [0; ROW],
-        table: [0; TABLE],
-        lit: [0; FLOORS],
-    };
-    paint_line(out, &mut work, s, d, rows, pairs, width, unseen);
+    let mut sel: [u8; PART] = [0; PART];
+    let mut bits: [u8; BITS] = [0; BITS];
+    let mut row: [u8; ROW] = [0; ROW];
+    let mut t: [usize; TABLE] = [0; TABLE];
+    let mut lit: [u8; FLOORS] = [0; FLOORS];
+    paint_line(
+        out, &mut sel, &mut bits, &mut row, &mut t, &mut lit, s, d, rows, pairs, width, unseen,
+    );
 }
