@@ -68,10 +68,10 @@ close_by s at =
     (bool_else (stands_at s at (0xFF ∷ 0xD9 ∷ []))))
     (bool_else (ltb (length s) (at + 2)))
 
-module _ (s : List ℕ) (at : ℕ) {b : Bool} (t : b ≡ stands_at s at (0xFF ∷ 0xD9 ∷ [])) {r : Result ⊤ Refusal} (e : r ≡ field_of s at 2 b (BadMark at)) where
+module _ (s : List ℕ) (at : ℕ) {b : Bool} (t : b ≡ stands_at s at (0xFF ∷ 0xD9 ∷ [])) {r : Result ⊤ Refusal} (e : r ≡ field_of s (Ok tt) at 2 b (BadMark at)) where
   marked : r ≡ judged_of (fields end_table [] s at)
   unfolding end_table
-  marked = line_end (line_mark (line_begin s end_table at) at refl e t refl)
+  marked = line_end (line_mark (line_begin s end_table at) at refl e t)
 
   pub close_refused : {a : Refusal} → r ≡ Err a → Err a ≡ close_of s at
   unfolding close_of

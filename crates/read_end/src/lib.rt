@@ -27,6 +27,6 @@ pub fn judge_end(s: &[u8], at: u32) -> Result<(), Refusal>
     ensures { result ≡ close_of s.now at }
 {
     let mark = octets_get::stands_at(s, at as usize, &EOI);
-    read_field::field(s, at, 2, mark, Refusal::BadMark(at))?;
+    read_field::field(s, Ok(()), at, 2, mark, Refusal::BadMark(at))?;
     trailing(s, at as usize + 2)
 }

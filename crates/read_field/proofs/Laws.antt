@@ -12,8 +12,6 @@ use Rattle.octets.specs.Octets.{be16_at, be32_at}
 use Rattle.answers.specs.declared.Refusal.{Refusal}
 use Rattle.answers.specs.declared.Refusal.TheVariants.{Short}
 use Rattle.std.specs.Prelude.{Result, Ok, Err, ⊤}
-use Rattle.answers.specs.declared.Refusal.{Refusal}
-use Rattle.std.specs.Result.{result_and}
 use Rattle.read_field.specs.Judged.{held_of, field_of}
 
 -- ---- octet, two, four
@@ -33,17 +31,21 @@ unfolding be32_at
 four_made s at a b e f = simp (e, f)
 
 -- ---- held and field
-pub held_good : (good : Bool) (refusal : Refusal) → good ≡ true → Ok tt ≡ held_of good refusal
+pub held_refused : (r : Result ⊤ Refusal) (a : Refusal) (good : Bool) (refusal : Refusal) → r ≡ Err a → Err a ≡ held_of r good refusal
 unfolding held_of
-held_good good refusal g = simp g
+held_refused r a good refusal e = simp e
 
-pub held_bad : (good : Bool) (refusal : Refusal) → good ≡ false → Err refusal ≡ held_of good refusal
+pub held_good : (r : Result ⊤ Refusal) (good : Bool) (refusal : Refusal) → r ≡ Ok tt → good ≡ true → Ok tt ≡ held_of r good refusal
 unfolding held_of
-held_bad good refusal g = simp g
+held_good r good refusal e g = simp (e, g)
 
-pub field_made : (s : List ℕ) (at n : ℕ) (good : Bool) (refusal : Refusal) (b : Bool) (q p r : Result ⊤ Refusal) → b ≡ leb (at + n) (length s)
-    → q ≡ held_of b (Short at) → p ≡ held_of good refusal → r ≡ result_and q p → r ≡ field_of s at n good refusal
+pub held_bad : (r : Result ⊤ Refusal) (good : Bool) (refusal : Refusal) → r ≡ Ok tt → good ≡ false → Err refusal ≡ held_of r good refusal
+unfolding held_of
+held_bad r good refusal e g = simp (e, g)
+
+pub field_made : (s : List ℕ) (r : Result ⊤ Refusal) (at n : ℕ) (good : Bool) (refusal : Refusal) (b : Bool) (q p : Result ⊤ Refusal) → b ≡ leb (at + n) (length s)
+    → q ≡ held_of r b (Short at) → p ≡ held_of q good refusal → p ≡ field_of s r at n good refusal
 unfolding field_of
-field_made s at n good refusal b q p r e f g h = h ∙ simp (f, g, e)
+field_made s r at n good refusal b q p e f g = g ∙ simp (f, e)
 
-pub ruleset leaves = (rules, octet_none, two_made, four_made, held_good, held_bad, field_made)
+pub ruleset leaves = (rules, octet_none, two_made, four_made, held_refused, held_good, held_bad, field_made)

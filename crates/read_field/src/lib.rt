@@ -1,4 +1,4 @@
-// Fields of a page: place, octets, rule, refusal. A table of them is a chain of `and`, in which the first refusal is the answer: so it has one way out.
+// Fields of a page, judged one after the other: place, octets, rule, refusal. A refusal flows through, so that a table of fields has one way out.
 #![tactic(auto)]
 
 ghost use Rattle.std.specs.Prelude.{◌≡◌, ◌+◌, ◌<◌, leb, length, get_or};
@@ -37,16 +37,23 @@ pub fn fits(s: &[u8], at: u32, n: u32) -> bool
     (at as u64) + (n as u64) <= s.len() as u64
 }
 
-// A rule, and what it refuses with.
-pub fn held(good: bool, refusal: Refusal) -> Result<(), Refusal>
-    ensures { result ≡ held_of good refusal }
+pub fn held(r: Result<(), Refusal>, good: bool, refusal: Refusal) -> Result<(), Refusal>
+    ensures { result ≡ held_of r good refusal }
 {
+    r?;
     if good { Ok(()) } else { Err(refusal) }
 }
 
 // A field of n octets: Short before its rule.
-pub fn field(s: &[u8], at: u32, n: u32, good: bool, refusal: Refusal) -> Result<(), Refusal>
-    ensures { result ≡ field_of s.now at n good refusal }
+pub fn field(
+    s: &[u8],
+    r: Result<(), Refusal>,
+    at: u32,
+    n: u32,
+    good: bool,
+    refusal: Refusal,
+) -> Result<(), Refusal>
+    ensures { result ≡ field_of s.now r at n good refusal }
 {
-    held(fits(s, at, n), Refusal::Short(at)).and(held(good, refusal))
+    held(held(r, fits(s, at, n), Refusal::Short(at)), good, refusal)
 }

@@ -20,9 +20,8 @@ use Rattle.start_rules.specs.declared.Head.{Head}
 use Rattle.mode1_rules.specs.declared.Fields.{Fields}
 use Rattle.mode1_rules.specs.Kinds.{has_back, has_mask, has_fore, type_ok, offset_ok}
 use Rattle.mode1_rules.specs.Reading.{mask_length_ok, stripe_table}
-use Rattle.std.specs.Prelude.{Result, ⊤}
+use Rattle.std.specs.Prelude.{Result, Ok, ⊤}
 use Rattle.answers.specs.declared.Refusal.{Refusal}
-use Rattle.std.specs.Result.{result_and}
 use Rattle.read_field.specs.Judged.{field_of, judged_of}
 use Rattle.read_head.specs.Fields.{fields_at}
 use Rattle.read_field.proofs.Lines.{line_begin, line_end, line_val}
@@ -61,22 +60,22 @@ unfolding fields_at
 fields_made s at a b c d e f g h i = rw (a, b, c, d, e, f, g, h, i) refl
 
 -- ---- judge_stripe
-pub stripe_made : (s : List ℕ) (hd : Head) (left at : ℕ) (f : Fields) {r2 r3 r4 r5 r6 r7 f1 f2 f3 f4 f5 f6 f7 : Result ⊤ Refusal} {type back fore mask hb hf : Bool}
+pub stripe_made : (s : List ℕ) (hd : Head) (left at : ℕ) (f : Fields) {r1 r2 r3 r4 r5 r6 r7 : Result ⊤ Refusal} {type back fore mask hb hf : Bool}
     → f ≡ fields_at s at
     → type ≡ type_ok hd f.kind
     → hb ≡ has_back f.kind → back ≡ offset_ok hb f.back_x f.back_y
     → hf ≡ has_fore f.kind → fore ≡ offset_ok hf f.fore_x f.fore_y
     → mask ≡ mask_length_ok f.kind f.mask_length
-    → f1 ≡ field_of s at 1 type (BadType at)
-    → f2 ≡ field_of s (at + 1) 3 true (BadStripe (at + 1)) → r2 ≡ result_and f1 f2
-    → f3 ≡ field_of s (at + 4) 3 true (BadStripe (at + 4)) → r3 ≡ result_and r2 f3
-    → f4 ≡ field_of s (at + 7) 8 back (BadStripe (at + 7)) → r4 ≡ result_and r3 f4
-    → f5 ≡ field_of s (at + 15) 8 fore (BadStripe (at + 15)) → r5 ≡ result_and r4 f5
-    → f6 ≡ field_of s (at + 23) 4 (leb 1 f.height && leb f.height left) (BadStripe (at + 23)) → r6 ≡ result_and r5 f6
-    → f7 ≡ field_of s (at + 27) 4 mask (BadStripe (at + 27)) → r7 ≡ result_and r6 f7
+    → r1 ≡ field_of s (Ok tt) at 1 type (BadType at)
+    → r2 ≡ field_of s r1 (at + 1) 3 true (BadStripe (at + 1))
+    → r3 ≡ field_of s r2 (at + 4) 3 true (BadStripe (at + 4))
+    → r4 ≡ field_of s r3 (at + 7) 8 back (BadStripe (at + 7))
+    → r5 ≡ field_of s r4 (at + 15) 8 fore (BadStripe (at + 15))
+    → r6 ≡ field_of s r5 (at + 23) 4 (leb 1 f.height && leb f.height left) (BadStripe (at + 23))
+    → r7 ≡ field_of s r6 (at + 27) 4 mask (BadStripe (at + 27))
     → r7 ≡ judged_of (fields (stripe_table hd left) [] s at)
 unfolding stripe_table numbers widths fields_at
-stripe_made s hd left at f v type hb back hf fore mask e1 e2 n2 e3 n3 e4 n4 e5 n5 e6 n6 e7 n7 =
+stripe_made s hd left at f v type hb back hf fore mask e1 e2 e3 e4 e5 e6 e7 =
     let p4 : at + 4 ≡ at + 1 + 3 = omega arith in
     let p7 : at + 7 ≡ at + 1 + 3 + 3 = omega arith in
     let p11 : at + 7 + 4 ≡ at + 11 = omega arith in
@@ -84,13 +83,13 @@ stripe_made s hd left at f v type hb back hf fore mask e1 e2 n2 e3 n3 e4 n4 e5 n
     let p15 : at + 15 ≡ at + 1 + 3 + 3 + 8 = omega arith in
     let p23 : at + 23 ≡ at + 1 + 3 + 3 + 8 + 8 = omega arith in
     let p27 : at + 27 ≡ at + 1 + 3 + 3 + 8 + 8 + 4 = omega arith in
-    let l1 = line_val (line_begin s (stripe_table hd left) at) at refl e1 (type ∙ ap (λ (g : Fields). type_ok hd g.kind) v) refl in
-    let l2 = line_val l1 (at + 1) refl e2 refl n2 in
-    let l3 = line_val l2 (at + 4) p4 e3 refl n3 in
-    let l4 = line_val l3 (at + 7) p7 e4 (rw (back, hb, v, p11) refl) n4 in
-    let l5 = line_val l4 (at + 15) p15 e5 (rw (fore, hf, v, p19) refl) n5 in
-    let l6 = line_val l5 (at + 23) p23 e6 (rw v refl) n6 in
-    let l7 = line_val l6 (at + 27) p27 e7 (rw (mask, v) refl) n7 in
+    let l1 = line_val (line_begin s (stripe_table hd left) at) at refl e1 (type ∙ ap (λ (g : Fields). type_ok hd g.kind) v) in
+    let l2 = line_val l1 (at + 1) refl e2 refl in
+    let l3 = line_val l2 (at + 4) p4 e3 refl in
+    let l4 = line_val l3 (at + 7) p7 e4 (rw (back, hb, v, p11) refl) in
+    let l5 = line_val l4 (at + 15) p15 e5 (rw (fore, hf, v, p19) refl) in
+    let l6 = line_val l5 (at + 23) p23 e6 (rw v refl) in
+    let l7 = line_val l6 (at + 27) p27 e7 (rw (mask, v) refl) in
     line_end l7
 
 pub ruleset stripe_laws = (rules, types, length_some, length_none, colour_made, fields_made, stripe_made)

@@ -95,11 +95,11 @@ pub fn judge_stripe(s: &[u8], hd: Head, left: u32, at: u32, f: Fields) -> Result
     let fore = offset_ok(has_fore(f.kind), f.fore_x, f.fore_y);
     let height = (1 <= f.height) & (f.height <= left);
     let mask = mask_length_ok(f.kind, f.mask_length);
-    field(s, at, 1, kind, Refusal::BadType(at))
-        .and(field(s, at + 1, 3, true, Refusal::BadStripe(at + 1)))
-        .and(field(s, at + 4, 3, true, Refusal::BadStripe(at + 4)))
-        .and(field(s, at + 7, 8, back, Refusal::BadStripe(at + 7)))
-        .and(field(s, at + 15, 8, fore, Refusal::BadStripe(at + 15)))
-        .and(field(s, at + 23, 4, height, Refusal::BadStripe(at + 23)))
-        .and(field(s, at + 27, 4, mask, Refusal::BadStripe(at + 27)))
+    let r = field(s, Ok(()), at, 1, kind, Refusal::BadType(at));
+    let r = field(s, r, at + 1, 3, true, Refusal::BadStripe(at + 1));
+    let r = field(s, r, at + 4, 3, true, Refusal::BadStripe(at + 4));
+    let r = field(s, r, at + 7, 8, back, Refusal::BadStripe(at + 7));
+    let r = field(s, r, at + 15, 8, fore, Refusal::BadStripe(at + 15));
+    let r = field(s, r, at + 23, 4, height, Refusal::BadStripe(at + 23));
+    field(s, r, at + 27, 4, mask, Refusal::BadStripe(at + 27))
 }

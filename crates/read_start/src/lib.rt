@@ -36,30 +36,39 @@ pub fn judge_start(s: &[u8]) -> Result<(), Refusal>
 {
     let size = two(s, 4);
     let width = four(s, 16);
-    field(s, 0, 2, stands_at(s, 0, &SOI), Refusal::BadMark(0))
-        .and(field(s, 2, 2, stands_at(s, 2, &APP13), Refusal::BadMark(2)))
-        .and(field(s, 4, 2, 6 <= size, Refusal::BadLength(4)))
-        .and(field(s, 6, 4, stands_at(s, 6, &START), Refusal::BadMark(6)))
-        .and(held(size == 16, Refusal::BadLength(4)))
-        .and(field(s, 10, 1, octet(s, 10) == 0, Refusal::BadVersion(10)))
-        .and(field(s, 11, 1, octet(s, 11) == 1, Refusal::BadMode(11)))
-        .and(field(s, 12, 1, mask_coder(octet(s, 12)), Refusal::BadCoder(12)))
-        .and(field(s, 13, 1, image_coder(octet(s, 13)), Refusal::BadCoder(13)))
-        .and(field(
-            s,
-            14,
-            2,
-            resolution::is_listed(two(s, 14)),
-            Refusal::BadRes(14),
-        ))
-        .and(field(
-            s,
-            16,
-            4,
-            (1 <= width) & (width <= 32768),
-            Refusal::BadWidth(16),
-        ))
-        .and(field(s, 20, 2, stands_at(s, 20, &EOI), Refusal::BadMark(20)))
+    let r = field(s, Ok(()), 0, 2, stands_at(s, 0, &SOI), Refusal::BadMark(0));
+    let r = field(s, r, 2, 2, stands_at(s, 2, &APP13), Refusal::BadMark(2));
+    let r = field(s, r, 4, 2, 6 <= size, Refusal::BadLength(4));
+    let r = field(s, r, 6, 4, stands_at(s, 6, &START), Refusal::BadMark(6));
+    let r = held(r, size == 16, Refusal::BadLength(4));
+    let r = field(s, r, 10, 1, octet(s, 10) == 0, Refusal::BadVersion(10));
+    let r = field(s, r, 11, 1, octet(s, 11) == 1, Refusal::BadMode(11));
+    let r = field(s, r, 12, 1, mask_coder(octet(s, 12)), Refusal::BadCoder(12));
+    let r = field(
+        s,
+        r,
+        13,
+        1,
+        image_coder(octet(s, 13)),
+        Refusal::BadCoder(13),
+    );
+    let r = field(
+        s,
+        r,
+        14,
+        2,
+        resolution::is_listed(two(s, 14)),
+        Refusal::BadRes(14),
+    );
+    let r = field(
+        s,
+        r,
+        16,
+        4,
+        (1 <= width) & (width <= 32768),
+        Refusal::BadWidth(16),
+    );
+    field(s, r, 20, 2, stands_at(s, 20, &EOI), Refusal::BadMark(20))
 }
 
 // After a start that is fine the width is below 65,536, and nothing is cut off.

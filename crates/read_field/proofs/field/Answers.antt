@@ -1,5 +1,5 @@
-use Rattle.read_field.proofs.Laws.{field_made}
+use Rattle.read_field.proofs.Laws.{leaves}
 use Rattle.read_field.proofs.field.Goals as goal
 
 pub returns : goal.returns
-returns c = search field_made
+returns c = search leaves

@@ -35,10 +35,10 @@ returns c = stripe_made _ _ _ _ _
     c.has_fore.ensures
     c.offset_ok-fore.ensures
     c.mask_length_ok-mask.ensures
+    c.field-r.ensures
+    c.field-r-2.ensures
+    c.field-r-3.ensures
+    c.field-r-4.ensures
+    c.field-r-5.ensures
+    c.field-r-6.ensures
     c.field.ensures
-    c.field-2.ensures c.and.ensures
-    c.field-3.ensures c.and-2.ensures
-    c.field-4.ensures c.and-3.ensures
-    c.field-5.ensures c.and-4.ensures
-    c.field-6.ensures c.and-5.ensures
-    c.field-7.ensures c.and-6.ensures
