@@ -1,4 +1,4 @@
--- What a gathered list holds: its first sixteen entries.
+-- What a list gathered as parallel numbers holds: its first sixteen entries.
 -- Assumes nothing.
 use Prim.Native.Nat.{ℕ, zero, suc, ◌+◌, ◌-◌, ◌≤◌, ◌<◌, min}
 use native.Mathlib.Omega.{arith}
@@ -12,31 +12,45 @@ use Rattle.octets.proofs.Entries.{entries_one_more, entries_same}
 use Rattle.laws.proofs.Says.{says_lt, says_else}
 use Rattle.pixel_rules.specs.declared.Plane.{Plane}
 use Rattle.line_planes.specs.declared.Listing.{Listing}
-use Rattle.line_planes.specs.Listing.{no_plane, no_planes, gathered, entry_of, entries_of}
+use Rattle.line_planes.specs.Listing.{no_planes, gathered, entry_of, entries_of}
 use Rattle.line_planes.proofs.Laws.{plane_kept, gather_full}
 
--- a list as the struct holds it: at most sixteen entries, in an array of sixteen
+-- a list as the struct holds it: at most sixteen entries, in arrays of sixteen
 pub record Wide (t : Listing) : Type 0 where
   pub count : t.count ≤ 16
-  pub planes : length t.planes ≡ 16
+  pub layers : length t.layers ≡ 16
+  pub starts : length t.starts ≡ 16
 
 pub wide_none : Wide no_planes
-wide_none = record { count = omega arith; planes = refl }
+wide_none = record { count = omega arith; layers = refl; starts = refl }
 
 -- ---- one entry more
 
 module _ (t : Listing) (p : Plane) (w : Wide t) (h : t.count < 16) where
   abbrev more : Listing
-  more = record { count = t.count + 1; planes = set t.planes t.count p }
+  more = record { count = t.count + 1; layers = set t.layers t.count p.layer; starts = set t.starts t.count p.start }
 
   entry_old : (j : ℕ) → j < t.count → entry_of more j ≡ entry_of t j
-  entry_old j l = get_or-set_other t.planes t.count j p no_plane (λ e. omega arith)
+  entry_old j l =
+      let a = get_or-set_other t.layers t.count j p.layer 0 (λ e. omega arith) in
+      let b = get_or-set_other t.starts t.count j p.start 0 (λ e. omega arith) in
+      λ i. record { layer = a i; start = b i }
 
   entry_new : entry_of more t.count ≡ p
-  entry_new = let c = w.planes in get_or-set_same t.planes t.count p no_plane (omega arith)
+  entry_new =
+      let c = w.layers in
+      let d = w.starts in
+      let a = get_or-set_same t.layers t.count p.layer 0 (omega arith) in
+      let b = get_or-set_same t.starts t.count p.start 0 (omega arith) in
+      λ i. record { layer = a i; start = b i }
 
   more_wide : Wide more
-  more_wide = record { count = omega arith; planes = length-set t.planes t.count p ∙ w.planes }
+  more_wide =
+      record {
+        count = omega arith;
+        layers = length-set t.layers t.count p.layer ∙ w.layers;
+        starts = length-set t.starts t.count p.start ∙ w.starts;
+      }
 
   more_entries : entries_of more ≡ entries_of t ++ (p ∷ [])
   unfolding entries_of

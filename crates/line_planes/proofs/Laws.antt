@@ -26,7 +26,7 @@ plane_read s i b e = rw e
 
 module _ (t : Listing) (p : Plane) where
   pub plane_kept : t.count < 16
-      → record { count = t.count + 1; planes = set t.planes t.count p } ≡ with_plane t p
+      → record { count = t.count + 1; layers = set t.layers t.count p.layer; starts = set t.starts t.count p.start } ≡ with_plane t p
   unfolding with_plane
   plane_kept h = simp (lt-ltb t.count 16 h)
 

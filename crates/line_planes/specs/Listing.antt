@@ -1,6 +1,5 @@
--- The plane list by value: its first sixteen entries.
+-- The plane list as parallel numbers: its first sixteen entries, layers and starts apart.
 --
---   no_plane          what stands where there is no entry
 --   no_planes         no entry
 --   with_plane list p    one entry more; a seventeenth and those after it are passed over
 --   gathered list ps    the entries ps, in their order, after those of list
@@ -13,16 +12,13 @@ use Rattle.pixel_rules.specs.declared.Plane.{Plane}
 use Rattle.pixel_rules.specs.Planes.{list_of}
 use Rattle.line_planes.specs.declared.Listing.{Listing}
 
-abbrev pub no_plane : Plane
-no_plane = record { layer = 0; start = 0 }
-
 abbrev pub no_planes : Listing
-no_planes = record { count = 0; planes = replicate 16 no_plane }
+no_planes = record { count = 0; layers = replicate 16 0; starts = replicate 16 0 }
 
 unfoldable pub with_plane : Listing → Plane → Listing
 with_plane list p =
     cond (ltb list.count 16)
-    (record { count = list.count + 1; planes = set list.planes list.count p })
+    (record { count = list.count + 1; layers = set list.layers list.count p.layer; starts = set list.starts list.count p.start })
     list
 
 unfoldable pub gathered : Listing → List Plane → Listing
@@ -35,7 +31,7 @@ unfolding gathered entries_from
 listing_of s = gathered no_planes (list_of s).entries
 
 abbrev pub entry_of : Listing → ℕ → Plane
-entry_of list i = get_or list.planes i no_plane
+entry_of list i = record { layer = get_or list.layers i 0; start = get_or list.starts i 0 }
 
 unfoldable pub entries_of : Listing → List Plane
 unfolding entries_from

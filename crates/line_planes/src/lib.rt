@@ -1,4 +1,4 @@
-// The plane list by value, and that list made from the octets that C lends.
+// The plane list as parallel numbers by value, and that list made from the octets that C lends.
 #![tactic(auto)]
 
 ghost use Rattle.std.specs.Prelude.{◌≡◌, ◌*◌, ◌<◌, ◌/◌, min, length};
@@ -10,12 +10,13 @@ use pixel_rules::Plane;
 // How many octets an entry from C has: the layer, and four of start.
 pub const PLANE_SIZE: usize = 5;
 
-// The first sixteen entries of a plane list. Layers rise from 1 to at most 15, so that a list of sixteen entries has a fault within them, and the rest is
-// not looked at.
+// The first sixteen entries of a plane list, layers and starts in parallel. Layers rise from 1 to at most 15, so that a list of sixteen entries has a
+// fault within them, and the rest is not looked at.
 #[derive(Clone, Copy)]
 pub struct Listing {
     pub count: usize,
-    pub planes: [Plane; 16],
+    pub layers: [u8; 16],
+    pub starts: [u32; 16],
 }
 
 pub fn no_planes() -> Listing
@@ -23,7 +24,8 @@ pub fn no_planes() -> Listing
 {
     Listing {
         count: 0,
-        planes: [Plane { layer: 0, start: 0 }; 16],
+        layers: [0; 16],
+        starts: [0; 16],
     }
 }
 
@@ -36,7 +38,8 @@ pub fn with_plane(list: Listing, p: Plane) -> Listing
     if i < 16 {
         let mut n = list;
         n.count = i + 1;
-        n.planes[i] = p;
+        n.layers[i] = p.layer;
+        n.starts[i] = p.start;
         return n;
     }
     list
@@ -68,12 +71,15 @@ pub fn listing_of(s: &[u8]) -> Listing
     list
 }
 
-// Entry i of a list.
+// Entry i of a list as parallel numbers.
 pub fn entry_at(list: Listing, i: usize) -> Plane
     requires { i < 16 }
     ensures { result ≡ entry_of list i }
 {
-    list.planes[i]
+    Plane {
+        layer: list.layers[i],
+        start: list.starts[i],
+    }
 }
 
 pub fn entry_count(list: Listing) -> usize
