@@ -10,7 +10,13 @@ use pixel_rules::Sample;
 pub fn agreed(low: Sample, up: Sample) -> Sample
     ensures { result ≡ agree low up }
 {
-    if low == up { low } else { None }
+    match low {
+        Some(c) => match up {
+            Some(e) => { if c == e { low } else { None } }
+            None => None,
+        },
+        None => None,
+    }
 }
 
 pub fn is_known(p: Sample) -> bool
