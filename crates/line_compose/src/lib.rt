@@ -57,8 +57,11 @@ pub fn compose_line(
 ) -> Answer
     ensures { Lines sheet.now (list_from list part) samples.now stripe y unseen out.old result out.new }
 {
-    let extent = line_verdict::judge_line(sheet, list, part, samples, stripe, y)?;
-    show_line(sheet, extent, list, samples, y, unseen, out)
+    // no `?`: the refusal stands here, so that a program with another one in its place is refused for that
+    match line_verdict::judge_line(sheet, list, part, samples, stripe, y) {
+        Err(r) => Err(r),
+        Ok(extent) => show_line(sheet, extent, list, samples, y, unseen, out),
+    }
 }
 
 // The same for a plane list in octets, as C lends it.
