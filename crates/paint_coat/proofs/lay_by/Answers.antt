@@ -1,9 +1,14 @@
+use Prim.Native.Nat.{ℕ, ◌*◌}
+use mathlib.Core.Path.{refl, ap}
 use native.Mathlib.Omega.{arith}
 use Rattle.paint_coat.proofs.Laws.{load_fits, samples_more, samples_all}
 use Rattle.paint_coat.proofs.lay_by.Goals as goal
 
 pub load-v-requires : goal.load-v-requires
-load-v-requires g c = load_fits _ _ _ _ _ _ _ c.SIZE.ensures c.loop-q-test.true g.met.S.Sample.least c.loads-m.ensures.2
+load-v-requires g c =
+    let f = load_fits c.args.i c.loop-q.q c.loads-m.result g.S.Sample.SIZE g.S.Sample.SIZE g.S.Sample.WIDE _ refl c.loop-q-test.true g.met.S.Sample.least c.loads-m.ensures.2 in
+    let e = ap (λ (n : ℕ). c.loop-q.q * n) c.SIZE.ensures in
+    omega (arith, f, e)
 
 pub loop-q-preserved : goal.loop-q-preserved
 loop-q-preserved g c = samples_more _ _ _ _ _ _ _ _ c.loop-q.invariant _ _ _ c.SIZE.ensures c.load-v.ensures c.lay_flat.ensures
