@@ -5,6 +5,7 @@ ghost use Rattle.std.specs.Prelude.{◌+◌, ◌-◌, ◌*◌, ◌<◌, ◌≤�
 ghost use Rattle.paint_choice.specs.Choice.{Marked, ever, bits_from, Spread, mask_bits, SpreadAt, MaskPart};
 
 use line_fetch::Row;
+pub use paint_words::pick;
 use pixel_rules::MainPos;
 
 pub fn fill(sel: &mut [u8], p: usize, q: usize, v: u8)
