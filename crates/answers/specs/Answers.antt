@@ -1,4 +1,4 @@
--- The answers of a call, as the three numbers that the viewer is given. One more refusal is a line in `refused_as`, in `refusals` and in `every` of
+-- The answers of a call, as the three numbers that the viewer is given. One more refusal is a line in `refused_as`, in `refusals` and in `refused` of
 -- proofs/Table.antt.
 --
 --   Told         number, place and count
