@@ -1,5 +1,5 @@
 -- What a turn of each loop does, and its end. Assumes nothing.
-use Rattle.std.proofs.Common.{◌≡◌, ◌≢◌, ℕ, ◌+◌, ◌<◌, ◌≤◌, List, ◌∷◌, length, get_or, drop, sym, ap, ◌∙◌, add-one, drop-cons}
+use Rattle.std.proofs.Common.{◌≡◌, ◌≢◌, ℕ, ◌+◌, ◌<◌, ◌≤◌, List, ◌∷◌, length, get_or, drop, sym, ap, subst, ◌∙◌, add-one, drop-cons}
 use lib.ListN.{drop_of_length-le}
 use borrow.Author.Tests.{eq-eqb, ne_eqb}
 use mathlib.Core.Bool.{Bool, cond}
@@ -25,20 +25,28 @@ module _ (ps : List Plane) (i : ℕ) where
 
   -- the start of a layer
   module _ (l : ℕ) (e : plane_start ps l ≡ plane_start (drop i ps) l) where
-    pub start_here : (d : Plane) → i < length ps → (get_or ps i d).layer ≡ l → Some (get_or ps i d).start ≡ plane_start ps l
+    here : (d : Plane) → i < length ps → (get_or ps i d).layer ≡ l → Some (get_or ps i d).start ≡ plane_start ps l
     unfolding plane_start
-    start_here d h q =
+    here d h q =
         sym
         (e
         ∙ ap (λ (y : List Plane). plane_start y l) (opens d h)
         ∙ ap (λ (b : Bool). cond b (Some (get_or ps i d).start) (plane_start (drop (i + 1) ps) l)) (eq-eqb (get_or ps i d).layer l q))
 
-    pub start_next : (d : Plane) → i < length ps → (get_or ps i d).layer ≢ l → plane_start ps l ≡ plane_start (drop (i + 1) ps) l
+    next : (d : Plane) → i < length ps → (get_or ps i d).layer ≢ l → plane_start ps l ≡ plane_start (drop (i + 1) ps) l
     unfolding plane_start
-    start_next d h q =
+    next d h q =
         e
         ∙ ap (λ (y : List Plane). plane_start y l) (opens d h)
         ∙ ap (λ (b : Bool). cond b (Some (get_or ps i d).start) (plane_start (drop (i + 1) ps) l)) (ne_eqb (get_or ps i d).layer l q)
+
+    -- the entry that is looked at, at j, is the next one
+    module _ (d : Plane) (j : ℕ) (h : i < length ps) where
+      pub start_here : (get_or ps j d).layer ≡ l → j ≡ i → Some (get_or ps j d).start ≡ plane_start ps l
+      start_here q z = subst (λ (m : ℕ). (get_or ps m d).layer ≡ l → Some (get_or ps m d).start ≡ plane_start ps l) (sym z) (here d h) q
+
+      pub start_next : (get_or ps j d).layer ≢ l → j ≡ i → plane_start ps l ≡ plane_start (drop (i + 1) ps) l
+      start_next q z = next d h (subst (λ (m : ℕ). (get_or ps m d).layer ≢ l) z q)
 
     pub start_none : length ps ≤ i → None ≡ plane_start ps l
     unfolding plane_start

@@ -13,8 +13,8 @@ pub fn gather_planes(planes: &[Plane]) -> Listing
     ensures { result ≡ gathered no_planes planes.now }
 {
     let mut t = line_planes::no_planes();
-    for &p in planes {
-        t = line_planes::with_plane(t, p);
+    for i in 0..planes.len() {
+        t = line_planes::with_plane(t, planes[i]);
     }
     t
 }
@@ -23,7 +23,8 @@ pub fn gather_planes(planes: &[Plane]) -> Listing
 pub fn plane_start(planes: &[Plane], layer: u8) -> Option<u32>
     ensures { result ≡ plane_start planes.now layer }
 {
-    for p in planes {
+    for k in 0..planes.len() {
+        let p = planes[k];
         if p.layer == layer {
             return Some(p.start);
         }
