@@ -65,14 +65,14 @@ module _ (each k : ℕ) (s : List ℕ) (t i : ℕ) where
       g
 
   module _ (q : ℕ) (l out : List ℕ) (c : Coated (over (samples_by each k s t i)) l t (t + q * k) out) where
-    pub samples_more : (v z : ℕ) (new : List ℕ) → z ≡ each → octets_of v ≡ four_in each s (i + q * z) → Coated (over (flat (octets_of v))) out (t + q * k) (t + q * k + k) new
+    pub samples_more : (v p : ℕ) (new : List ℕ) → p ≡ i + q * each → octets_of v ≡ four_in each s p → Coated (over (flat (octets_of v))) out (t + q * k) (t + q * k + k) new
         → Coated (over (samples_by each k s t i)) l t (t + (q + 1) * k) new
-    samples_more v z new h e g =
+    samples_more v p new h e g =
         let b : (q + 1) * k ≡ q * k + k = add-mul q 1 k ∙ ap (λ (m : ℕ). q * k + m) (one-mul k) in
         let y : t + q * k + k ≡ t + (q + 1) * k = omega arith in
         subst (λ (m : ℕ). Coated (over (samples_by each k s t i)) l t m new) y
         (coated_chain (over (samples_by each k s t i)) l out new t (t + q * k) (t + q * k + k) (omega arith) (omega arith) c
-        (sample_laid q v out new (e ∙ ap (λ (m : ℕ). four_in each s (i + q * m)) h) g))
+        (sample_laid q v out new (e ∙ ap (λ (m : ℕ). four_in each s m) h) g))
 
     -- so many samples as there are
     pub samples_all : (n : ℕ) → q ≤ n → n ≤ q → Coated (over (samples_by each k s t i)) l t (t + n * k) out

@@ -11,10 +11,13 @@ load-v-requires g c =
     omega (arith, f, e)
 
 pub loop-q-preserved : goal.loop-q-preserved
-loop-q-preserved g c = samples_more _ _ _ _ _ _ _ _ c.loop-q.invariant _ _ _ c.SIZE.ensures c.load-v.ensures c.lay_flat.ensures
+loop-q-preserved g c =
+    let e = ap (λ (n : ℕ). c.loop-q.q * n) c.SIZE.ensures in
+    samples_more _ _ _ _ _ _ _ _ c.loop-q.invariant _ _ _ (omega (arith, e)) c.load-v.ensures c.lay_flat.ensures
 
 pub returns-then-m-n : goal.returns-then-m-n
 returns-then-m-n g c =
     let a = samples_all _ _ _ _ _ _ _ _ c.loop-q.invariant c.loads-m.result (omega arith) (omega arith) in
-    let b = samples_more _ _ _ _ _ _ _ _ a _ _ _ c.SIZE-then-m-n.ensures c.fetch-v.ensures c.lay_flat-then-m-n.ensures in
+    let e = ap (λ (n : ℕ). c.loads-m.result * n) c.SIZE-then-m-n.ensures in
+    let b = samples_more _ _ _ _ _ _ _ _ a _ _ _ (omega (arith, e)) c.fetch-v.ensures c.lay_flat-then-m-n.ensures in
     samples_all _ _ _ _ _ _ _ _ b c.args.n (omega arith) (omega arith)
